@@ -1,0 +1,179 @@
+-- Laws of the definitions of this crate, one for each way through the code and for the proofs above. Assumes nothing.
+use Prim.Native.Nat.{ℕ, zero, suc, _+_, _%_, _≤_, _<_}
+use mathlib.Core.Bool.{Bool, true, false, not, _&&_, _||_, cond, or-false, or-true}
+use mathlib.Core.List.{List, [], _∷_, _++_}
+use mathlib.Core.Path.{_≡_, refl, sym, ap, ap₂, _∙_}
+use native.Mathlib.Nat.{zero-add}
+use native.Mathlib.Omega.{arith}
+use lib.Bits.{bitAnd, and-mask}
+use lib.Dec.{eqb, leb, ltb}
+use lib.ListN.{length, drop, take}
+use borrow.Author.Tests.{le-leb, lt-leb, eq-eqb, ne-eqb, leb-true, eqb-true, not-false}
+use Rattle.answers.specs.Lowest.{any}
+use Rattle.words.specs.Bytes.{four, fourOrZero, put, Puts}
+use Rattle.words.proofs.Laws.{four-inside, puts-is}
+use Rattle.registers.specs.Merge.{merged}
+use Rattle.registers.specs.Shown.{shown}
+use Rattle.registers.proofs.Laws.{merged-length}
+use Rattle.packet.specs.declared.Target.the-variants.{Type0, Type1, Trusted}
+use Rattle.packet.specs.declared.Request.{Request}
+use Rattle.packet.specs.Request.{isTrusted}
+use Rattle.packet.specs.Completion.{withData, withoutData}
+use Rattle.capture.specs.declared.Capture.{Capture}
+use Rattle.capture.specs.declared.Capture.the-variants.{Nothing, Number}
+use Rattle.capture.specs.declared.Identified.{Identified}
+use Rattle.capture.specs.Kept.{completer, identified}
+use Rattle.board.specs.declared.Description.{Description}
+use Rattle.board.specs.Description.{Board, place, outOfRange, ranges, wrongSize, causes, WellDescribed}
+use Rattle.board.specs.Access.{addressed, unsupported, storedBytes, storedBesides, shownWord}
+use Rattle.board.specs.Promise.{over}
+use Rattle.board.specs.Inner.{Sized, Readable, done}
+
+and-true-both : (a b : Bool) → (a && b) ≡ true → (a ≡ true) × (b ≡ true)
+and-true-both true b e = (refl, e)
+and-true-both false b e = let z : _≡_ {A = ℕ} 0 1 = cc in absurd (omega arith)
+
+-- ---- a place
+
+module _ (low n : ℕ) where
+  pub place-below : n < low → place low n ≡ false
+  place-below h = rw (lt-leb low n h)
+
+  pub place-above : low ≤ n → 0xffc < n → place low n ≡ false
+  place-above l h = rw (le-leb low n l, lt-leb n 0xffc h)
+
+  pub place-between : low ≤ n → n ≤ 0xffc → place low n ≡ eqb (bitAnd n 3) 0
+  place-between l h = rw (le-leb low n l, le-leb n 0xffc h, and-mask n 2)
+
+pub place-inside : (low n : ℕ) → place low n ≡ true → (low ≤ n) × (n ≤ 0xffc)
+place-inside low n e =
+    let f = and-true-both (leb low n) (leb n 0xffc) (and-true-both (leb low n && leb n 0xffc) (eqb (n % 4) 0) e .0) in
+    (leb-true low n (f .0), leb-true n 0xffc (f .1))
+
+-- ---- a well-described board
+
+-- none of the causes is there
+abbrev pub NoneOf : List Bool → Type 0
+NoneOf [] = Unit {0}
+NoneOf (cause ∷ causes) = (cause ≡ false) × NoneOf causes
+
+pub none-of : (causes : List Bool) → any causes ≡ false → NoneOf causes
+none-of [] e = tt
+none-of (true ∷ causes) e = let z : _≡_ {A = ℕ} 0 1 = cc in absurd (omega arith)
+none-of (false ∷ causes) e = (refl, none-of causes e)
+
+right-size : (n : ℕ) → wrongSize n ≡ false → n ≡ 4096
+right-size n e = eqb-true n 4096 (not-false (eqb n 4096) e)
+
+pub record Well (d : Board) : Type 0 where
+  pub bytes : length (d .ordinary .bytes) ≡ 4096
+  pub rules : length (d .ordinary .rules) ≡ 4096
+  pub guarded : length (d .trusted .bytes) ≡ 4096
+  pub limits : length (d .trusted .rules) ≡ 4096
+  pub inRange : outOfRange (d .description) (d .capture) ≡ false
+  pub register : d .description .b ≤ 0xffc
+
+pub well-described : (d : Board) → WellDescribed d → Well d
+well-described d e =
+    let n =
+      none-of
+      (causes (length (d .ordinary .bytes)) (length (d .ordinary .rules)) (length (d .trusted .bytes)) (length (d .trusted .rules))
+      (d .description) (d .capture))
+      e in
+    let r = none-of (ranges (d .description) (d .capture)) (n .1 .1 .1 .1 .0) in
+    record
+    { bytes = right-size _ (n .0)
+    ; rules = right-size _ (n .1 .0)
+    ; guarded = right-size _ (n .1 .1 .0)
+    ; limits = right-size _ (n .1 .1 .1 .0)
+    ; inRange = n .1 .1 .1 .1 .0
+    ; register = place-inside 0x00c (d .description .b) (not-false _ (r .1 .1 .1 .0)) .1
+    }
+
+-- ---- unsupported requests
+
+module _ (d : Description) (kept : Capture) (q : Request) where
+  pub unsupported-poisoned : (q .writes && q .poisoned) ≡ true → unsupported d kept q ≡ true
+  unfolding unsupported
+  unsupported-poisoned h = simp (h, or-true)
+
+  pub unsupported-type1 : q .target ≡ Type1 → unsupported d kept q ≡ true
+  unfolding unsupported
+  unsupported-type1 t = rw t
+
+  module _ (clean : (q .writes && q .poisoned) ≡ false) where
+    pub unsupported-type0 : q .target ≡ Type0 → unsupported d kept q ≡ not (eqb (q .function) (d .function))
+    unfolding unsupported
+    unsupported-type0 t = simp (clean, t, or-false)
+
+pub unsupported-trusted : (d : Description) (kept : Capture) (q : Request) → (q .writes && q .poisoned) ≡ false → q .target ≡ Trusted
+    → unsupported d kept q ≡ not (addressed d kept q)
+unfolding unsupported
+unsupported-trusted d Nothing q clean t = rw t
+unsupported-trusted d (Number bus device) q clean t = simp (clean, t, or-false)
+
+-- ---- writes and reads, inside a space
+
+pub stored-is : (space rules : List ℕ) (q : Request) (new old rule word : List ℕ) (said : Bool) (after : List ℕ) → Sized space rules q
+    → old ≡ fourOrZero space (q .offset) → rule ≡ fourOrZero rules (q .offset) → word ≡ merged old rule new (q .enables)
+    → Puts space (q .offset) word said after → after ≡ storedBytes space rules q new
+unfolding storedBytes
+stored-is space rules q new old rule word said after sized o r w p =
+    puts-is space (q .offset) word p (rw w (rw merged-length (omega (arith, sized))))
+    ∙ ap (put space (q .offset))
+        (w ∙ ap₂ (λ (x y : List ℕ). merged x y new (q .enables))
+          (o ∙ four-inside space (q .offset) (omega (arith, sized)))
+          (r ∙ four-inside rules (q .offset) (omega (arith, sized))))
+
+pub stored-at-a : (a : ℕ) (space rules : List ℕ) (q : Request) (new : List ℕ) → q .offset ≡ a → storedBesides a space rules q new ≡ space
+unfolding storedBesides
+stored-at-a a space rules q new e = rw (eq-eqb (q .offset) a e)
+
+pub stored-besides : (a : ℕ) (space rules : List ℕ) (q : Request) (new : List ℕ) → (q .offset ≡ a → ⊥)
+    → storedBesides a space rules q new ≡ storedBytes space rules q new
+unfolding storedBesides
+stored-besides a space rules q new h = rw (ne-eqb (q .offset) a h)
+
+-- the three words that a read can show
+module _ (d : Description) (ordinary trusted : List ℕ) (q : Request) (ready : Readable d ordinary trusted q) where
+  pub shown-trusted : isTrusted (q .target) ≡ true → shown (fourOrZero trusted (q .offset)) (q .enables) ≡ shownWord d ordinary trusted q
+  unfolding shownWord
+  shown-trusted t = rw (t, four-inside trusted (q .offset) (omega (arith, ready)))
+
+  module _ (t : isTrusted (q .target) ≡ false) where
+    pub shown-correlation : q .offset ≡ d .a → shown (fourOrZero trusted (d .b)) (q .enables) ≡ shownWord d ordinary trusted q
+    unfolding shownWord
+    shown-correlation e = rw (t, eq-eqb (q .offset) (d .a) e, four-inside trusted (d .b) (omega (arith, ready)))
+
+    pub shown-ordinary : (q .offset ≡ d .a → ⊥) → shown (fourOrZero ordinary (q .offset)) (q .enables) ≡ shownWord d ordinary trusted q
+    unfolding shownWord
+    shown-ordinary h = rw (t, ne-eqb (q .offset) (d .a) h, four-inside ordinary (q .offset) (omega (arith, ready)))
+
+-- ---- the reply
+
+-- bytes put at its start
+pub put-over : (reply word : List ℕ) (said : Bool) (after : List ℕ) → Puts reply 0 word said after → length word ≤ length reply
+    → after ≡ over word reply
+put-over reply word said after p h = puts-is reply 0 word p (rw (zero-add (length word)) h) ∙ rw (zero-add (length word))
+
+-- a completion of either kind: the ID made from the capture, which is handed back, and the bytes at the reply's start
+module _ (kept : Capture) (function : ℕ) (made : Identified) (id : made ≡ identified kept function) (reply : List ℕ) (room : 16 ≤ length reply) where
+  pub replied-status : (status : ℕ) (q : Request) (word : List ℕ) (said : Bool) (after : List ℕ)
+      → word ≡ withoutData (made .id) status (q .requester) (q .tag) → Puts reply 0 word said after
+      → (done 12 (made .capture) ≡ done 12 kept) × (after ≡ over (withoutData (completer kept function) status (q .requester) (q .tag)) reply)
+  unfolding identified withoutData
+  replied-status status q word said after w p =
+      ( ap (λ (i : Identified). done 12 (i .capture)) id
+      , put-over reply word said after p (rw w (omega arith))
+        ∙ ap (λ (l : List ℕ). over l reply) (w ∙ ap (λ (i : Identified). withoutData (i .id) status (q .requester) (q .tag)) id)
+      )
+
+  pub replied-data : (q : Request) (four word : List ℕ) (said : Bool) (after : List ℕ)
+      → word ≡ withData (made .id) (q .requester) (q .tag) four → Puts reply 0 word said after
+      → (done 16 (made .capture) ≡ done 16 kept) × (after ≡ over (withData (completer kept function) (q .requester) (q .tag) four) reply)
+  unfolding identified withData
+  replied-data q four word said after w p =
+      ( ap (λ (i : Identified). done 16 (i .capture)) id
+      , put-over reply word said after p (rw w room)
+        ∙ ap (λ (l : List ℕ). over l reply) (w ∙ ap (λ (i : Identified). withData (i .id) (q .requester) (q .tag) four) id)
+      )

@@ -1,0 +1,130 @@
+-- Each outcome of serving, over plain values: what the calls on the way have shown, and that the whole is what `serve` says.
+-- Assumes nothing.
+use Prim.Native.Nat.{ℕ, zero, suc, _+_, _≤_, _<_}
+use mathlib.Core.Bool.{Bool, true, false}
+use mathlib.Core.List.{List}
+use mathlib.Core.Path.{_≡_, refl, sym, ap, _∙_}
+use native.Mathlib.Omega.{arith}
+use lib.ListN.{length}
+use borrow.Author.Tests.{eq-eqb, ne-eqb, lt-ltb, le-ltb}
+use Rattle.answers.specs.declared.Refusal.{Refusal}
+use Rattle.answers.specs.Numbers.{numberOf}
+use Rattle.answers.proofs.Unique.{number-positive}
+use Rattle.words.specs.Bytes.{four, fourOrZero}
+use Rattle.words.proofs.Laws.{four-inside}
+use Rattle.packet.specs.declared.Request.{Request}
+use Rattle.packet.specs.Fields.{dataOf}
+use Rattle.packet.specs.declared.Decoded.the-variants.{Asks}
+use Rattle.packet.specs.Request.{isTrusted, packetNumber, requestOf, Decodes}
+use Rattle.packet.proofs.Laws.{offset-inside, write-long}
+use Rattle.packet.specs.Completion.{success, unsupportedRequest, withData, withoutData}
+use Rattle.capture.specs.declared.Capture.{Capture}
+use Rattle.capture.specs.Kept.{captured, completer}
+use Rattle.board.specs.declared.Description.{Description}
+use Rattle.board.specs.declared.Served.{Served}
+use Rattle.board.specs.Description.{Board, badlyDescribed, outOfRange}
+use Rattle.board.specs.Access.{unsupported, storedBytes, storedBesides, afterWrite, readWord}
+use Rattle.board.specs.Serving.{Outcome, completerOf, replies, repliesData, respond, serveNumber, refused, byNumber, serve}
+use Rattle.board.specs.Promise.{lent, seen, shows, over, Serves}
+use Rattle.board.specs.Inner.{Ready, done, refusing}
+use Rattle.board.proofs.Laws.{well-described}
+
+-- ---- a completion, and the board as it then is
+
+module _ (d : Board) (q : Request) (reply : List ℕ) (r : Served) (after : List ℕ) where
+  pub replies-seen : (status : ℕ) → r ≡ done 12 (d .capture) → after ≡ over (withoutData (completerOf d) status (q .requester) (q .tag)) reply
+      → seen r (d .ordinary .bytes) (d .trusted .bytes) after ≡ shows (replies d status q) reply
+  unfolding shows withoutData
+  replies-seen status e f = rw (e, f)
+
+  pub data-seen : (word : List ℕ) → word ≡ readWord d q → r ≡ done 16 (d .capture)
+      → after ≡ over (withData (completerOf d) (q .requester) (q .tag) word) reply
+      → seen r (d .ordinary .bytes) (d .trusted .bytes) after ≡ shows (repliesData d q) reply
+  unfolding shows withData
+  data-seen word w e f = rw (e, f, w)
+
+-- ---- the write
+
+module _ (d : Description) (kept : Capture) (o or t tr p : List ℕ) (q : Request) (reply : List ℕ) (long : 16 ≤ length p)
+    (new : List ℕ) (w : new ≡ fourOrZero p 12) (r : Served) (after : List ℕ) where
+  pub written-trusted : (t′ : List ℕ) → isTrusted (q .target) ≡ true → t′ ≡ storedBytes t tr q new → r ≡ done 12 kept
+      → after ≡ over (withoutData (completer kept (d .function)) success (q .requester) (q .tag)) reply
+      → seen r o t′ after ≡ shows (replies (afterWrite (lent d kept o or t tr) q (dataOf p)) success q) reply
+  unfolding afterWrite
+  written-trusted t′ is st e f =
+      rw (is, ← (four-inside p 12 (omega arith)), ← w, ← st) (replies-seen (lent d kept o or t′ tr) q reply r after success e f)
+
+  pub written-ordinary : (o′ : List ℕ) (state : Capture) → isTrusted (q .target) ≡ false → o′ ≡ storedBesides (d .a) o or q new
+      → state ≡ captured kept (q .bus) (q .device) → r ≡ done 12 state
+      → after ≡ over (withoutData (completer state (d .function)) success (q .requester) (q .tag)) reply
+      → seen r o′ t after ≡ shows (replies (afterWrite (lent d kept o or t tr) q (dataOf p)) success q) reply
+  unfolding afterWrite
+  written-ordinary o′ state is st c e f =
+      rw (is, ← (four-inside p 12 (omega arith)), ← w, ← st, ← c) (replies-seen (lent d state o′ or t tr) q reply r after success e f)
+
+-- ---- the three ways to respond
+
+module _ (d : Board) (q : Request) (new : List ℕ) where
+  pub respond-unsupported : unsupported (d .description) (d .capture) q ≡ true → respond d q new ≡ replies d unsupportedRequest q
+  unfolding respond
+  respond-unsupported u = rw u
+
+  module _ (u : unsupported (d .description) (d .capture) q ≡ false) where
+    pub respond-write : q .writes ≡ true → respond d q new ≡ replies (afterWrite d q new) success q
+    unfolding respond
+    respond-write w = rw (u, w)
+
+    pub respond-read : q .writes ≡ false → respond d q new ≡ repliesData d q
+    unfolding respond
+    respond-read w = rw (u, w)
+
+-- ---- the checks
+
+pub refused-is : (n : ℕ) (d : Board) (p : List ℕ) → (n ≡ 0 → ⊥) → byNumber n d p ≡ refused n d
+refused-is zero d p h = absurd (h refl)
+refused-is (suc n) d p h = refl
+
+module _ (d : Board) (p reply : List ℕ) where
+  -- a refusal with its number leaves all as it was
+  pub refused-seen : (refusal : Refusal) (r : Served) → serveNumber d p (length reply) ≡ numberOf refusal → r ≡ refusing (d .capture) refusal
+      → Serves d p reply r (d .ordinary .bytes) (d .trusted .bytes) reply
+  unfolding shows serve
+  refused-seen refusal r n e = rw (e, n, refused-is (numberOf refusal) d p (number-positive refusal))
+
+  pub bad-number : badlyDescribed d ≡ true → serveNumber d p (length reply) ≡ 1
+  bad-number b = rw b
+
+  module _ (well : badlyDescribed d ≡ false) where
+    pub room-number : length reply < 16 → serveNumber d p (length reply) ≡ 2
+    room-number h = rw (well, lt-ltb (length reply) 16 h)
+
+    pub packet-number : 16 ≤ length reply → serveNumber d p (length reply) ≡ packetNumber p
+    packet-number h = rw (well, le-ltb (length reply) 16 h)
+
+    pub served-is : 16 ≤ length reply → packetNumber p ≡ 0 → serve d p (length reply) ≡ respond d (requestOf p) (dataOf p)
+    unfolding serve
+    served-is h n = rw (packet-number h, n)
+
+-- ---- a packet without a fault, on a well-described board with room for the reply
+
+module _ (d : Description) (kept : Capture) (o or t tr p reply : List ℕ) (well : badlyDescribed (lent d kept o or t tr) ≡ false)
+    (room : 16 ≤ length reply) (q : Request) (asks : Decodes p (Asks q)) where
+  pub ready : Ready d o or t tr q reply × (q .writes ≡ true → 16 ≤ length p)
+  ready =
+      let w = well-described (lent d kept o or t tr) well in
+      let inside : q .offset + 4 ≤ 4096 = rw (asks .1) (offset-inside p) in
+      ( record
+        { plain = record { bytes = w .bytes; limits = w .rules; inside = inside }
+        ; guarded = record { bytes = w .guarded; limits = w .limits; inside = inside }
+        ; register = omega (arith, w .register)
+        ; room = room
+        }
+      , λ h. write-long p (asks .0) (ap (λ (x : Request). x .writes) (sym (asks .1)) ∙ h)
+      )
+
+  pub served-seen : (r : Served) (o′ t′ after : List ℕ)
+      → seen r o′ t′ after ≡ shows (respond (lent d kept o or t tr) q (dataOf p)) reply → Serves (lent d kept o or t tr) p reply r o′ t′ after
+  served-seen r o′ t′ after e =
+      e ∙ ap (λ (x : Outcome). shows x reply)
+        (ap (λ (x : Request). respond (lent d kept o or t tr) x (dataOf p)) (asks .1)
+          ∙ sym (served-is (lent d kept o or t tr) p reply well room (asks .0)))

@@ -1,0 +1,46 @@
+-- `board::store` meets its contract: the four bytes and the four rules are inside, and what is put is their merge. Assumes nothing.
+use denote.Ref.{now}
+use Rattle.board.proofs.Laws.{stored-is}
+use borrow.Author.Needs.{needs}
+use Rattle.board.proofs.access.store.Statement.{statement}
+use Rattle.board.proofs.access.store.Tie as tie
+use Rattle.board.proofs.access.store.Reads as reads
+use Rattle.board.proofs.access.store.Lts as lts
+use Rattle.registers.proofs.merge.Reads as merge-reads
+use Rattle.words.proofs.four.Reads as four-reads
+use Rattle.words.proofs.put.Reads as put-reads
+
+four-requires : tie.Need-four-requires
+four-requires c κs = search needs
+
+four-requires-2 : tie.Need-four-requires-2
+four-requires-2 c κs = search needs
+
+merge-requires : tie.Need-merge-requires
+merge-requires c κs = search needs
+
+slice-aggregate-put : tie.Need-slice-aggregate-put
+slice-aggregate-put c = search needs
+
+put-requires : tie.Need-put-requires
+put-requires c κs = search needs
+
+same-length : tie.Need-same-length
+same-length c = search needs
+
+returns : tie.Need-returns
+returns c =
+    let a = c .before .before .before .before .before .before .before .before .before .before .before .args in
+    stored-is (now (a .space)) (now (a .rules)) (a .request) _ _ _ _ _ _ (c .before .before .before .before .before .before .before .before .before .before .before .pre) (c .before .before .before .before .before .before .before .four .ensures) (c .before .before .before .before .before .before .four2 .ensures) (c .before .before .before .before .before .merge .ensures) (c .before .before .put .ensures)
+
+pub store-spec : {M : Type 1} → statement M
+store-spec =
+    tie.close
+    (tie.spec
+    four-requires
+    four-requires-2
+    merge-requires
+    slice-aggregate-put
+    put-requires
+    same-length
+    returns)

@@ -1,0 +1,42 @@
+-- `board::reply_data` meets its contract: the completion over the reply. Assumes nothing.
+use denote.Ref.{now}
+use Rattle.board.proofs.Laws.{replied-data}
+use borrow.Author.Needs.{needs}
+use Rattle.board.proofs.completing.reply_data.Statement.{statement}
+use Rattle.board.proofs.completing.reply_data.Tie as tie
+use Rattle.board.proofs.completing.reply_data.Reads as reads
+use Rattle.board.proofs.completing.reply_data.Lts as lts
+use Rattle.capture.proofs.Capture.completer_id.Reads as completer-id-reads
+use Rattle.packet.proofs.with_data.Reads as with-data-reads
+use Rattle.words.proofs.put.Reads as put-reads
+
+completer-id-requires : tie.Need-completer-id-requires
+completer-id-requires c κs = search needs
+
+with-data-requires : tie.Need-with-data-requires
+with-data-requires c κs = search needs
+
+slice-aggregate-put : tie.Need-slice-aggregate-put
+slice-aggregate-put c = search needs
+
+put-requires : tie.Need-put-requires
+put-requires c κs = search needs
+
+same-length : tie.Need-same-length
+same-length c = search needs
+
+returns : tie.Need-returns
+returns c =
+    let a = c .before .before .before .before .before .before .before .before .before .before .args in
+    replied-data (a .kept) (a .description .function) _ (c .before .before .before .before .before .before .before .before .completer-id .ensures) (now (a .reply)) (c .before .before .before .before .before .before .before .before .before .before .pre) (a .request) _ _ _ _ (c .before .before .before .before .before .with-data .ensures) (c .before .before .put .ensures)
+
+pub reply-data-spec : {M : Type 1} → statement M
+reply-data-spec =
+    tie.close
+    (tie.spec
+    completer-id-requires
+    with-data-requires
+    slice-aggregate-put
+    put-requires
+    same-length
+    returns)

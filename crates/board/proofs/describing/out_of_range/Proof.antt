@@ -1,0 +1,44 @@
+-- `board::out_of_range` meets its contract: the first cause that is there decides. Assumes nothing.
+use borrow.Author.Tests.{lt-ltb, le-ltb, not-true, not-false}
+use mathlib.Core.Bool.{or-false}
+use mathlib.Core.Path.{refl, sym, ap, _∙_}
+use borrow.Author.Needs.{needs}
+use Rattle.board.proofs.describing.out_of_range.Statement.{statement}
+use Rattle.board.proofs.describing.out_of_range.Tie as tie
+use Rattle.board.proofs.describing.out_of_range.Reads as reads
+use Rattle.board.proofs.describing.out_of_range.Lts as lts
+use Rattle.board.proofs.describing.device_over.Reads as device-over-reads
+use Rattle.board.proofs.describing.is_place.Reads as is-place-reads
+
+device-over-requires : tie.Need-device-over-requires
+device-over-requires c κs = search needs
+
+returns : tie.Need-returns
+returns c = search needs
+
+returns-2 : tie.Need-returns-2
+returns-2 c = rw (sym (c .before .before .before .device-over .ensures) ∙ c .before .before .if1 .left, lt-ltb 7 _ (c .if2 .taken))
+
+is-place-requires : tie.Need-is-place-requires
+is-place-requires c κs = search needs
+
+returns-3 : tie.Need-returns-3
+returns-3 c = rw (sym (c .before .before .before .before .before .device-over .ensures) ∙ c .before .before .before .before .if1 .left, le-ltb 7 _ (c .before .before .if2 .left), sym (c .before .is-place .ensures) ∙ not-true _ (c .if3 .taken))
+
+is-place-requires-2 : tie.Need-is-place-requires-2
+is-place-requires-2 c κs = search needs
+
+returns-4 : tie.Need-returns-4
+returns-4 c = rw (sym (c .before .before .before .before .before .before .device-over .ensures) ∙ c .before .before .before .before .before .if1 .left, le-ltb 7 _ (c .before .before .before .if2 .left), sym (c .before .before .is-place .ensures) ∙ not-false _ (c .before .if3 .left), c .is-place2 .ensures, or-false)
+
+pub out-of-range-spec : {M : Type 1} → statement M
+out-of-range-spec =
+    tie.close
+    (tie.spec
+    device-over-requires
+    returns
+    returns-2
+    is-place-requires
+    returns-3
+    is-place-requires-2
+    returns-4)

@@ -1,0 +1,98 @@
+-- `board::serve` meets its contract: the checks, lowest number first, then the request. Assumes nothing.
+use native.Mathlib.Omega.{arith}
+use Rattle.packet.specs.Fields.{dataOf}
+use Rattle.board.specs.Serving.{respond}
+use Rattle.board.specs.Promise.{lent, shows}
+use Rattle.packet.proofs.Laws.{offset-inside, write-long}
+use Rattle.packet.specs.Request.{Decodes, requestOf}
+use denote.Ref.{now}
+use Rattle.board.proofs.Laws.{well-described}
+use Rattle.board.proofs.Outcomes.{refused-seen, bad-number, room-number, packet-number, ready, served-seen}
+use mathlib.Core.Path.{refl, sym, ap, _∙_, subst}
+use borrow.Author.Needs.{needs}
+use Rattle.board.proofs.serving.serve.Statement.{statement}
+use Rattle.board.proofs.serving.serve.Tie as tie
+use Rattle.board.proofs.serving.serve.Reads as reads
+use Rattle.board.proofs.serving.serve.Lts as lts
+use Rattle.board.proofs.describing.is_badly_described.Reads as is-badly-described-reads
+use Rattle.board.proofs.serving.refuse.Reads as refuse-reads
+use Rattle.board.proofs.serving.respond_to.Reads as respond-to-reads
+use Rattle.packet.proofs.decode.Reads as decode-reads
+
+is-badly-described-requires : tie.Need-is-badly-described-requires
+is-badly-described-requires c κs = search needs
+
+refuse-requires : tie.Need-refuse-requires
+refuse-requires c κs = search needs
+
+returns : tie.Need-returns
+returns c =
+    let a = c .before .before .before .before .before .before .before .before .before .args in
+    let d = (lent (a .description) (a .kept) (now (a .ordinary)) (now (a .ordinary-rules)) (now (a .trusted)) (now (a .trusted-rules))) in
+    refused-seen d (now (a .packet)) (now (a .reply)) _ _ (bad-number d (now (a .packet)) (now (a .reply)) (sym (c .before .before .is-badly-described .ensures) ∙ c .before .if1 .taken)) (c .refuse .ensures)
+
+refuse-requires-2 : tie.Need-refuse-requires-2
+refuse-requires-2 c κs = search needs
+
+returns-2 : tie.Need-returns-2
+returns-2 c =
+    let a = c .before .before .before .before .before .before .before .before .before .before .args in
+    let d = (lent (a .description) (a .kept) (now (a .ordinary)) (now (a .ordinary-rules)) (now (a .trusted)) (now (a .trusted-rules))) in
+    refused-seen d (now (a .packet)) (now (a .reply)) _ _ (room-number d (now (a .packet)) (now (a .reply)) (sym (c .before .before .before .is-badly-described .ensures) ∙ c .before .before .if1 .left) (c .before .if2 .taken)) (c .refuse2 .ensures)
+
+decode-requires : tie.Need-decode-requires
+decode-requires c κs = search needs
+
+enum-known-refusal : tie.Need-enum-known-refusal
+enum-known-refusal c = search needs
+
+refuse-requires-3 : tie.Need-refuse-requires-3
+refuse-requires-3 c κs = search needs
+
+enum-known-request : tie.Need-enum-known-request
+enum-known-request c = search needs
+
+respond-to-requires : tie.Need-respond-to-requires
+respond-to-requires c κs =
+    let a = c .before .before .before .before .before .before .before .before .before .before .before .before .before .before .before .before .args in
+    ready (a .description) (a .kept) (now (a .ordinary)) (now (a .ordinary-rules)) (now (a .trusted)) (now (a .trusted-rules)) (now (a .packet)) (now (a .reply)) (sym (c .before .before .before .before .before .before .before .before .before .is-badly-described .ensures) ∙ c .before .before .before .before .before .before .before .before .if1 .left) (c .before .before .before .before .before .before .before .if2 .left) _ (subst (Decodes (now (a .packet))) (c .before .before .before .before .request .given .1) (c .before .before .before .before .before .before .decode .ensures))
+
+returns-3 : tie.Need-returns-3
+returns-3 c =
+    let a = c .before .before .before .before .before .before .before .before .before .before .before .before .before .before .args in
+    let d = (lent (a .description) (a .kept) (now (a .ordinary)) (now (a .ordinary-rules)) (now (a .trusted)) (now (a .trusted-rules))) in
+    refused-seen d (now (a .packet)) (now (a .reply)) _ _ (packet-number d (now (a .packet)) (now (a .reply)) (sym (c .before .before .before .before .before .before .before .is-badly-described .ensures) ∙ c .before .before .before .before .before .before .if1 .left) (c .before .before .before .before .before .if2 .left) ∙ subst (Decodes (now (a .packet))) (c .before .before .refusal .given .1) (c .before .before .before .before .decode .ensures)) (c .refuse3 .ensures)
+
+same-length : tie.Need-same-length
+same-length c = search needs
+
+same-length-2 : tie.Need-same-length-2
+same-length-2 c = search needs
+
+same-length-3 : tie.Need-same-length-3
+same-length-3 c = search needs
+
+returns-4 : tie.Need-returns-4
+returns-4 c =
+    let a = c .before .before .before .before .before .before .before .before .before .before .before .before .before .before .before .before .before .before .before .before .before .before .before .args in
+    served-seen (a .description) (a .kept) (now (a .ordinary)) (now (a .ordinary-rules)) (now (a .trusted)) (now (a .trusted-rules)) (now (a .packet)) (now (a .reply)) (sym (c .before .before .before .before .before .before .before .before .before .before .before .before .before .before .before .before .is-badly-described .ensures) ∙ c .before .before .before .before .before .before .before .before .before .before .before .before .before .before .before .if1 .left) (c .before .before .before .before .before .before .before .before .before .before .before .before .before .before .if2 .left) _ (subst (Decodes (now (a .packet))) (c .before .before .before .before .before .before .before .before .before .before .before .request .given .1) (c .before .before .before .before .before .before .before .before .before .before .before .before .before .decode .ensures)) (c .before .before .before .before .before .before .respond-to .result) _ _ _ (c .before .before .before .before .before .before .respond-to .ensures)
+
+pub serve-spec : {M : Type 1} → statement M
+serve-spec =
+    tie.close
+    (tie.spec
+    is-badly-described-requires
+    refuse-requires
+    returns
+    refuse-requires-2
+    returns-2
+    decode-requires
+    enum-known-refusal
+    refuse-requires-3
+    enum-known-request
+    respond-to-requires
+    returns-3
+    same-length
+    same-length-2
+    same-length-3
+    returns-4)

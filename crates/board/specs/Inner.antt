@@ -1,0 +1,38 @@
+-- What the inner functions of this crate ask of each other; no entry's promise rests on it. Assumes nothing.
+use Prim.Native.Nat.{ℕ, _+_, _≤_}
+use mathlib.Core.List.{List}
+use mathlib.Core.Path.{_≡_}
+use lib.ListN.{length}
+use Rattle.packet.specs.declared.Request.{Request}
+use Rattle.answers.specs.declared.Refusal.{Refusal}
+use Rattle.answers.specs.declared.Answer.the-variants.{Done, Refused}
+use Rattle.capture.specs.declared.Capture.{Capture}
+use Rattle.board.specs.declared.Description.{Description}
+use Rattle.board.specs.declared.Served.{Served}
+
+-- a space and its rules, with room for the request's four bytes
+pub record Sized (space rules : List ℕ) (q : Request) : Type 0 where
+  pub bytes : length space ≡ 4096
+  pub limits : length rules ≡ 4096
+  pub inside : q .offset + 4 ≤ 4096
+
+pub record Readable (d : Description) (ordinary trusted : List ℕ) (q : Request) : Type 0 where
+  pub plain : length ordinary ≡ 4096
+  pub guarded : length trusted ≡ 4096
+  pub inside : q .offset + 4 ≤ 4096
+  pub register : d .b + 4 ≤ 4096
+
+-- the answer to a request that was served
+abbrev pub done : ℕ → Capture → Served
+done n kept = record { answer = Done; length = n; capture = kept }
+
+-- the answer to what was refused
+abbrev pub refusing : Capture → Refusal → Served
+refusing kept refusal = record { answer = Refused refusal; length = 0; capture = kept }
+
+-- what the checks 1 and 2 leave: whole spaces, offsets inside, and a reply with room
+pub record Ready (d : Description) (ordinary ordinaryRules trusted trustedRules : List ℕ) (q : Request) (reply : List ℕ) : Type 0 where
+  pub plain : Sized ordinary ordinaryRules q
+  pub guarded : Sized trusted trustedRules q
+  pub register : d .b + 4 ≤ 4096
+  pub room : 16 ≤ length reply

@@ -1,0 +1,60 @@
+-- Demand 2 for packets: serving, as one function from the board, the packet and the reply's size to the number, the board afterwards
+-- and the written reply bytes. Assumes nothing.
+use Prim.Native.Nat.{ℕ, zero, suc}
+use mathlib.Core.Bool.{cond}
+use mathlib.Core.List.{List, [], _∷_}
+use lib.Dec.{ltb}
+use Rattle.answers.specs.Lowest.{Check, check, lowest}
+use Rattle.packet.specs.declared.Id.{Id}
+use Rattle.packet.specs.declared.Request.{Request}
+use Rattle.packet.specs.Fields.{dataOf}
+use Rattle.packet.specs.Request.{requestOf, packetChecks}
+use Rattle.packet.specs.Completion.{success, unsupportedRequest, withData, withoutData}
+use Rattle.capture.specs.Kept.{completer}
+use Rattle.board.specs.Description.{Board, badlyDescribed}
+use Rattle.board.specs.Access.{unsupported, afterWrite, readWord}
+
+pub record Outcome : Type 0 where
+  pub number : ℕ
+  pub after : Board
+  pub written : List ℕ
+
+-- the board's completer ID
+abbrev pub completerOf : Board → Id
+completerOf d = completer (d .capture) (d .description .function)
+
+-- "Otherwise 12 bytes": a board as it is afterwards, with a completion that has no data
+abbrev pub replies : Board → ℕ → Request → Outcome
+replies d status q = record { number = 0; after = d; written = withoutData (completerOf d) status (q .requester) (q .tag) }
+
+-- "Successful read, 16 bytes"
+abbrev pub repliesData : Board → Request → Outcome
+repliesData d q =
+    record { number = 0; after = d; written = withData (completerOf d) (q .requester) (q .tag) (readWord d q) }
+
+-- a request without a fault, with its four data bytes: UR and nothing but the reply changes, or the write, or the read
+unfoldable pub respond : Board → Request → List ℕ → Outcome
+respond d q new =
+    cond (unsupported (d .description) (d .capture) q)
+    (replies d unsupportedRequest q)
+    (cond (q .writes) (replies (afterWrite d q new) success q) (repliesData d q))
+
+-- "1 [a badly described board]; 2 the reply is under 16 bytes", then the packet's own
+abbrev pub serveChecks : Board → List ℕ → ℕ → List Check
+serveChecks d p size = check 1 (badlyDescribed d) ∷ check 2 (ltb size 16) ∷ packetChecks p
+
+abbrev pub serveNumber : Board → List ℕ → ℕ → ℕ
+serveNumber d p size = lowest (serveChecks d p size)
+
+-- "Every number but 0 leaves spaces, capture, reply and list room unchanged, and reports length or count 0"
+abbrev pub refused : ℕ → Board → Outcome
+refused n d = record { number = n; after = d; written = [] }
+
+-- 0: served; any other number: refused
+abbrev pub byNumber : ℕ → Board → List ℕ → Outcome
+byNumber zero d p = respond d (requestOf p) (dataOf p)
+byNumber (suc n) d p = refused (suc n) d
+
+-- the board, the packet, the reply's size
+unfoldable pub serve : Board → List ℕ → ℕ → Outcome
+serve d p size = byNumber (serveNumber d p size) d p

@@ -1,0 +1,76 @@
+// Whether a board's numbers are in their ranges.
+ghost use mathlib.Core.Path.{_≡_};
+ghost use Rattle.board.specs.Description.{place, outOfRange, wrongSize, badly};
+ghost use Rattle.capture.specs.Kept.{deviceOver};
+
+use super::Description;
+use capture::Capture;
+
+// A multiple of 4 from `low` to FFCh.
+fn is_place(low: usize, n: usize) -> bool
+    ensures { λ r. ⌜ r ≡ place low n ⌝ }
+{
+    if n < low {
+        return false;
+    }
+    if 0xffc < n {
+        return false;
+    }
+    n & 3 == 0
+}
+
+fn device_over(kept: Capture) -> bool
+    ensures { λ r. ⌜ r ≡ deviceOver kept ⌝ }
+{
+    match kept {
+        Capture::Nothing => false,
+        Capture::Number { bus: _, device } => 31 < device,
+    }
+}
+
+fn out_of_range(description: Description, kept: Capture) -> bool
+    ensures { λ r. ⌜ r ≡ outOfRange description kept ⌝ }
+{
+    if device_over(kept) {
+        return true;
+    }
+    if 7 < description.function {
+        return true;
+    }
+    if !is_place(0x104, description.a) {
+        return true;
+    }
+    !is_place(0x00c, description.b)
+}
+
+fn is_wrong_size(size: usize) -> bool
+    ensures { λ r. ⌜ r ≡ wrongSize size ⌝ }
+{
+    size != 4096
+}
+
+// Answer 1: from the sizes of the four buffers, and the board's numbers.
+pub fn is_badly_described(
+    bytes: usize,
+    rules: usize,
+    trusted: usize,
+    limits: usize,
+    description: Description,
+    kept: Capture,
+) -> bool
+    ensures { λ r. ⌜ r ≡ badly bytes rules trusted limits description kept ⌝ }
+{
+    if is_wrong_size(bytes) {
+        return true;
+    }
+    if is_wrong_size(rules) {
+        return true;
+    }
+    if is_wrong_size(trusted) {
+        return true;
+    }
+    if is_wrong_size(limits) {
+        return true;
+    }
+    out_of_range(description, kept)
+}

@@ -1,0 +1,27 @@
+// One function of one endpoint: every configuration packet answered, and every space left, as document 01 says.
+// `serve` and `reset` are the entries; what they promise for every input is specs/Promise.antt over specs/Serving.antt.
+mod access;
+mod completing;
+mod describing;
+mod serving;
+
+use answers::Answer;
+use capture::Capture;
+
+pub use serving::reset;
+pub use serving::serve;
+
+// What does not change while a board runs: its function number, and the places of the Device Correlation word in the
+// ordinary space (a) and in the trusted space (b).
+pub struct Description {
+    pub function: u8,
+    pub a: usize,
+    pub b: usize,
+}
+
+// The answer to a packet: how many bytes of the reply are written, and the capture to keep for the next packet.
+pub struct Served {
+    pub answer: Answer,
+    pub length: usize,
+    pub capture: Capture,
+}

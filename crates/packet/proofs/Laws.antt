@@ -1,0 +1,85 @@
+-- Laws of the packet's fields and checks, for the proofs of this crate and above. Assumes nothing.
+use Prim.Native.Nat.{ℕ, suc, _+_, _*_, _/_, _%_, _^_, _<_, _≤_}
+use mathlib.Core.Bool.{Bool, true, false, not, cond}
+use mathlib.Core.List.{List}
+use mathlib.Core.Path.{_≡_, refl, sym, ap, _∙_}
+use native.Mathlib.Nat.{mod-eq-of-lt}
+use native.Mathlib.Omega.{arith}
+use lib.Bits.{bitAnd, bitOr, and-mask, mask-lt, and-high, or-shifted}
+use lib.Dec.{eqb, ltb}
+use lib.ListN.{length}
+use borrow.Author.Tests.{eq-eqb, ne-eqb, lt-ltb, le-ltb, eqb-true, not-false}
+use Rattle.answers.proofs.Lowest.{none-applies}
+use Rattle.packet.specs.declared.TypeCode.{TypeCode}
+use Rattle.packet.specs.declared.TypeCode.the-variants.{Known, Unknown}
+use Rattle.words.specs.Bytes.{byte}
+use Rattle.packet.specs.declared.Target.{Target}
+use Rattle.packet.specs.Fields.{typeCode, typeOf, digest, lengthField, offsetOf, wholeLength, wrongField, traffic, attributes, lastEnables}
+use Rattle.packet.specs.Request.{typed, writesOf, packetChecks, packetNumber, requestOf, KnownHeader}
+
+-- byte 0 without bit 7 is the type code
+pub code-is : (first k : ℕ) → bitAnd first 127 ≡ k → typeCode first ≡ k
+code-is first k h = omega (arith, and-mask first 7)
+
+pub type-unknown : (code : ℕ) → (code ≡ 0x04 → ⊥) → (code ≡ 0x44 → ⊥) → (code ≡ 0x05 → ⊥) → (code ≡ 0x45 → ⊥) → (code ≡ 0x1b → ⊥)
+    → (code ≡ 0x5b → ⊥) → typeOf code ≡ Unknown
+unfolding typeOf
+type-unknown code a b c d e f =
+    rw (ne-eqb code 0x04 a, ne-eqb code 0x44 b, ne-eqb code 0x05 c, ne-eqb code 0x45 d, ne-eqb code 0x1b e, ne-eqb code 0x5b f)
+
+-- the test that a field is not the value that it must have
+pub not-is : (a b k : ℕ) → a ≡ b → (a ≡ k → ⊥) → not (eqb b k) ≡ true
+not-is a b k e h = ap not (ne-eqb b k (λ f. h (e ∙ f)))
+
+pub is : (a b k : ℕ) → a ≡ b → a ≡ k → not (eqb b k) ≡ false
+is a b k e h = ap not (eq-eqb b k (sym e ∙ h))
+
+-- fields of two bytes
+pub length-is : (two three : ℕ) → three < 256 → bitOr (bitAnd two 3 * 256 % 65536) three ≡ lengthField two three
+length-is two three h =
+    ap (λ (x : ℕ). bitOr x three) (mod-eq-of-lt {n = bitAnd two 3 * 256} {m = 65536} (omega (arith, mask-lt two 2))) ∙ or-shifted (bitAnd two 3) 8 three h ∙ omega (arith, and-mask two 2)
+
+pub offset-is : (ten eleven w : ℕ) → eleven < 256 → bitAnd ten 15 * 256 < w → bitOr (bitAnd ten 15 * 256 % w) (bitAnd eleven 252) ≡ offsetOf ten eleven
+offset-is ten eleven w h k =
+    ap (λ (x : ℕ). bitOr x (bitAnd eleven 252)) (mod-eq-of-lt k)
+    ∙ or-shifted (bitAnd ten 15) 8 (bitAnd eleven 252) (omega (arith, and-high eleven 6 2))
+    ∙ omega (arith, and-mask ten 4, and-high eleven 6 2)
+
+-- the four ways to be refused, and the way through: what each test of the code has shown, and the number
+module _ (p : List ℕ) where
+  pub number-short : length p < 12 → packetNumber p ≡ 3
+  number-short h = rw (lt-ltb (length p) 12 h)
+
+  pub number-unknown : 12 ≤ length p → typed p ≡ Unknown → packetNumber p ≡ 4
+  number-unknown long e = rw (le-ltb (length p) 12 long, e)
+
+  module _ (writes : Bool) (target : Target) (header : KnownHeader p writes target) where
+    pub number-length : (length p ≡ wholeLength writes (byte p 2) → ⊥) → packetNumber p ≡ 5
+    number-length h = rw (le-ltb (length p) 12 (header .long), header .known, ne-eqb (length p) (wholeLength writes (byte p 2)) h)
+
+    -- past the check 5, the check 6 decides
+    pub number-past : (wrong : Bool) → length p ≡ wholeLength writes (byte p 2) → wrong ≡ wrongField (byte p 1) (byte p 2) (byte p 3) (byte p 7)
+        → packetNumber p ≡ cond wrong 6 0
+    number-past wrong whole e =
+        rw (le-ltb (length p) 12 (header .long), header .known, eq-eqb (length p) (wholeLength writes (byte p 2)) whole, e)
+
+-- an offset is a multiple of 4 and its four bytes lie in a space; a device and a function number are in their ranges
+pub offset-inside : (p : List ℕ) → requestOf p .offset + 4 ≤ 4096
+unfolding requestOf
+offset-inside p = omega arith
+
+pub device-inside : (p : List ℕ) → requestOf p .device ≤ 31
+unfolding requestOf
+device-inside p = omega arith
+
+-- a packet without a fault is as long as its type and digest bit say; a write has its data
+pub whole-is : (p : List ℕ) → packetNumber p ≡ 0 → length p ≡ wholeLength (writesOf (typed p)) (byte p 2)
+whole-is p e =
+    let n = none-applies (packetChecks p) ((λ h. omega arith), ((λ h. omega arith), ((λ h. omega arith), ((λ h. omega arith), tt)))) e in
+    eqb-true _ _ (not-false _ (n .1 .1 .0))
+
+pub write-long : (p : List ℕ) → packetNumber p ≡ 0 → requestOf p .writes ≡ true → 16 ≤ length p
+unfolding requestOf
+write-long p e w =
+    let h : length p ≡ 16 + 4 * digest (byte p 2) = whole-is p e ∙ rw w in
+    omega arith

@@ -1,0 +1,85 @@
+-- Document 01, "The packet": the checks 3 to 6, lowest number first, and the request that a packet with none of those faults is.
+-- Assumes nothing.
+use Prim.Native.Nat.{ℕ, _≤_}
+use mathlib.Core.Bool.{Bool, true, false, not}
+use mathlib.Core.List.{List, [], _∷_}
+use mathlib.Core.Path.{_≡_}
+use lib.Dec.{eqb, ltb}
+use lib.ListN.{length}
+use Rattle.answers.specs.Lowest.{Check, check, lowest}
+use Rattle.answers.specs.Numbers.{numberOf}
+use Rattle.words.specs.Bytes.{byte}
+use Rattle.packet.specs.declared.Target.{Target}
+use Rattle.packet.specs.declared.Target.the-variants.{Type0, Type1, Trusted}
+use Rattle.packet.specs.declared.TypeCode.{TypeCode}
+use Rattle.packet.specs.declared.TypeCode.the-variants.{Known, Unknown}
+use Rattle.packet.specs.declared.Request.{Request}
+use Rattle.packet.specs.declared.Decoded.{Decoded}
+use Rattle.packet.specs.declared.Decoded.the-variants.{Asks, Refused}
+use Rattle.packet.specs.Fields.{typeCode, typeOf, poison, requesterOf, firstEnables, deviceOf, functionOf, offsetOf, wrongField, wholeLength}
+
+-- the type of a packet, by its first byte
+abbrev pub typed : List ℕ → TypeCode
+typed p = typeOf (typeCode (byte p 0))
+
+abbrev pub unknown : TypeCode → Bool
+unknown (Known writes target) = false
+unknown Unknown = true
+
+abbrev pub writesOf : TypeCode → Bool
+writesOf (Known writes target) = writes
+writesOf Unknown = false
+
+-- (an unknown type is refused, so what stands for it here is never seen)
+abbrev pub targetOf : TypeCode → Target
+targetOf (Known writes target) = target
+targetOf Unknown = Type1
+
+-- "3 the packet has fewer than 12 bytes; 4 the type code isn't one of the six; 5 the packet length doesn't fit its type and digest bit;
+-- 6 a fixed header field has another value"
+abbrev pub packetChecks : List ℕ → List Check
+packetChecks p =
+    check 3 (ltb (length p) 12)
+    ∷ check 4 (unknown (typed p))
+    ∷ check 5 (not (eqb (length p) (wholeLength (writesOf (typed p)) (byte p 2))))
+    ∷ check 6 (wrongField (byte p 1) (byte p 2) (byte p 3) (byte p 7))
+    ∷ []
+
+abbrev pub packetNumber : List ℕ → ℕ
+packetNumber p = lowest (packetChecks p)
+
+-- the request that a packet asks for
+unfoldable pub requestOf : List ℕ → Request
+requestOf p =
+    record
+    { target = targetOf (typed p)
+    ; writes = writesOf (typed p)
+    ; poisoned = eqb (poison (byte p 2)) 1
+    ; requester = requesterOf p
+    ; tag = byte p 6
+    ; enables = firstEnables (byte p 7)
+    ; bus = byte p 8
+    ; device = deviceOf (byte p 9)
+    ; function = functionOf (byte p 9)
+    ; offset = offsetOf (byte p 10) (byte p 11)
+    }
+
+-- "A packet is trusted if its first byte, bit 7 cleared, is 1Bh or 5Bh, whatever its length. All others, the empty one included, are
+-- ordinary." (the byte of an empty packet reads 00h, which is neither)
+abbrev pub isTrusted : Target → Bool
+isTrusted Type0 = false
+isTrusted Type1 = false
+isTrusted Trusted = true
+
+abbrev pub trusted : List ℕ → Bool
+trusted p = isTrusted (targetOf (typed p))
+
+-- what `packet::decode` answers: the request of a packet without a fault, else the refusal with the lowest number
+abbrev pub Decodes : List ℕ → Decoded → Type 0
+Decodes p (Asks request) = (packetNumber p ≡ 0) × (request ≡ requestOf p)
+Decodes p (Refused refusal) = packetNumber p ≡ numberOf refusal
+
+-- what the checks 3 and 4 leave: a whole header, of a known type
+pub record KnownHeader (p : List ℕ) (writes : Bool) (target : Target) : Type 0 where
+  pub long : 12 ≤ length p
+  pub known : typed p ≡ Known writes target

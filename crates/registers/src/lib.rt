@@ -1,0 +1,55 @@
+// What a write leaves of four register bytes, and what a read shows of them, under four byte enables.
+// Enable bit 0 is the byte at the lowest address. Promised for every value: specs/Merge.antt and specs/Shown.antt.
+ghost use mathlib.Core.Path.{_≡_};
+ghost use mathlib.Core.Bool.{cond};
+ghost use Rattle.registers.specs.Merge.{lowest, mergedByte, merged};
+ghost use Rattle.registers.specs.Shown.{shown};
+
+// The data bit where the rule bit is 1, the old bit where it is 0.
+fn merge_byte(old: u8, rule: u8, new: u8) -> u8
+    ensures { λ r. ⌜ r ≡ mergedByte old rule new ⌝ }
+{
+    (old & !rule) | (new & rule)
+}
+
+// A byte after a write, under the lowest of these enables.
+fn write_byte(enables: u8, old: u8, rule: u8, new: u8) -> u8
+    ensures { λ r. ⌜ r ≡ cond (lowest enables) (mergedByte old rule new) old ⌝ }
+{
+    if enables & 1 == 1 {
+        merge_byte(old, rule, new)
+    } else {
+        old
+    }
+}
+
+// A byte as a read returns it, under the lowest of these enables.
+fn show_byte(enables: u8, byte: u8) -> u8
+    ensures { λ r. ⌜ r ≡ cond (lowest enables) byte 0 ⌝ }
+{
+    if enables & 1 == 1 { byte } else { 0 }
+}
+
+// Four bytes after a write.
+pub fn merge(old: [u8; 4], rules: [u8; 4], new: [u8; 4], enables: u8) -> [u8; 4]
+    ensures { λ r. ⌜ r ≡ merged old rules new enables ⌝ }
+{
+    [
+        write_byte(enables >> 0, old[0], rules[0], new[0]),
+        write_byte(enables >> 1, old[1], rules[1], new[1]),
+        write_byte(enables >> 2, old[2], rules[2], new[2]),
+        write_byte(enables >> 3, old[3], rules[3], new[3]),
+    ]
+}
+
+// Four bytes as a read returns them.
+pub fn show(bytes: [u8; 4], enables: u8) -> [u8; 4]
+    ensures { λ r. ⌜ r ≡ shown bytes enables ⌝ }
+{
+    [
+        show_byte(enables >> 0, bytes[0]),
+        show_byte(enables >> 1, bytes[1]),
+        show_byte(enables >> 2, bytes[2]),
+        show_byte(enables >> 3, bytes[3]),
+    ]
+}

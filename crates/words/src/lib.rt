@@ -1,0 +1,35 @@
+// Bytes of a lent space: four of them at an offset, as a little-endian word, and a run of bytes stored.
+// Every function answers for every offset and length: what does not lie in the space reads as zeros, and is not stored.
+ghost use mathlib.Core.Path.{_≡_};
+ghost use Rattle.words.specs.Bytes.{fourOrZero, Puts};
+
+// The four bytes at `at`, or four zeros where they do not all lie in `space`.
+pub fn four(space: &[u8], at: usize) -> [u8; 4]
+    ensures { λ r. ⌜ r ≡ fourOrZero (now (space .entry)) at ⌝ }
+{
+    if space.len() < 4 {
+        return [0; 4];
+    }
+    if space.len() - 4 < at {
+        return [0; 4];
+    }
+    [space[at], space[at + 1], space[at + 2], space[at + 3]]
+}
+
+// Stores `bytes` at `at`, and says whether they fitted. Where they do not, nothing is stored.
+pub fn put(space: &mut [u8], at: usize, bytes: &[u8]) -> bool
+    ensures { λ r. ⌜ Puts (now (space .entry)) at (now (bytes .entry)) r (now (space .exit)) ⌝ }
+{
+    if space.len() < bytes.len() {
+        return false;
+    }
+    if space.len() - bytes.len() < at {
+        return false;
+    }
+    let mut done = 0;
+    while done < bytes.len() {
+        space[at + done] = bytes[done];
+        done += 1;
+    }
+    true
+}
