@@ -1,3 +1,4 @@
 pub mod Run
 pub mod Calls
-
+pub mod Bench
+pub mod Servers

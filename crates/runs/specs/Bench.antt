@@ -1,0 +1,48 @@
+-- Document 01, "Bench sheet": the board and the packets that its examples name. Assumes nothing.
+use Prim.Native.Nat.{ℕ}
+use mathlib.Core.List.{List, [], _∷_}
+use lib.ListN.{replicate}
+use Rattle.words.specs.Bytes.{put}
+use Rattle.capture.specs.declared.Capture.the-variants.{Number}
+use Rattle.board.specs.Description.{Board}
+use Rattle.runs.specs.Run.{freshBoard}
+
+-- 4,096 bytes of 00h, and some bytes put at an offset
+abbrev pub zeros : List ℕ
+zeros = replicate 4096 0
+
+abbrev pub holding : ℕ → List ℕ → List ℕ
+holding at bytes = put zeros at bytes
+
+-- "rules FFh at 004h in both spaces"
+abbrev pub benchRules : List ℕ
+benchRules = holding 0x004 (0xff ∷ 0xff ∷ 0xff ∷ 0xff ∷ [])
+
+-- "Function 0", fresh, with the trusted space given; A and B at the lowest places they may have
+abbrev pub bench : List ℕ → Board
+bench trusted =
+    freshBoard (record { function = 0; a = 0x104; b = 0x00c })
+    (record { bytes = zeros; rules = benchRules })
+    (record { bytes = trusted; rules = benchRules })
+
+-- the same, once a write to bus 05h and device 3 has been captured, as P2's is
+abbrev pub benchAfter : List ℕ → List ℕ → Board
+benchAfter ordinary trusted =
+    record
+    { description = record { function = 0; a = 0x104; b = 0x00c }
+    ; capture = Number 0x05 0x03
+    ; ordinary = record { bytes = ordinary; rules = benchRules }
+    ; trusted = record { bytes = trusted; rules = benchRules }
+    }
+
+-- P1's packet, a trusted read at 004h, and P2's, a Type 0 write there
+abbrev pub p1 : List ℕ
+p1 = 0x1b ∷ 0x00 ∷ 0x00 ∷ 0x01 ∷ 0x01 ∷ 0x00 ∷ 0x08 ∷ 0x0f ∷ 0x05 ∷ 0x18 ∷ 0x00 ∷ 0x04 ∷ []
+
+abbrev pub p2 : List ℕ
+p2 =
+    0x44 ∷ 0x00 ∷ 0x00 ∷ 0x01 ∷ 0x01 ∷ 0x00 ∷ 0x07 ∷ 0x0f ∷ 0x05 ∷ 0x18 ∷ 0x00 ∷ 0x04 ∷ 0x11 ∷ 0x22 ∷ 0x33 ∷ 0x44 ∷ []
+
+-- a packet with another byte at a place
+abbrev pub changed : List ℕ → ℕ → ℕ → List ℕ
+changed p at byte = put p at (byte ∷ [])
