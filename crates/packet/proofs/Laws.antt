@@ -2,7 +2,7 @@
 use Prim.Native.Nat.{ℕ, suc, _+_, _*_, _/_, _%_, _^_, _<_, _≤_}
 use mathlib.Core.Bool.{Bool, true, false, not, cond}
 use mathlib.Core.List.{List}
-use mathlib.Core.Path.{_≡_, refl, sym, ap, _∙_}
+use mathlib.Core.Path.{_≡_, refl, sym, ap, ap₂, _∙_}
 use native.Mathlib.Nat.{mod-eq-of-lt}
 use native.Mathlib.Omega.{arith}
 use lib.Bits.{bitAnd, bitOr, and-mask, mask-lt, and-high, or-shifted}
@@ -35,13 +35,19 @@ pub is : (a b k : ℕ) → a ≡ b → a ≡ k → not (eqb b k) ≡ false
 is a b k e h = ap not (eq-eqb b k (sym e ∙ h))
 
 -- fields of two bytes
-pub length-is : (two three : ℕ) → three < 256 → bitOr (bitAnd two 3 * 256 % 65536) three ≡ lengthField two three
-length-is two three h =
-    ap (λ (x : ℕ). bitOr x three) (mod-eq-of-lt {n = bitAnd two 3 * 256} {m = 65536} (omega (arith, mask-lt two 2))) ∙ or-shifted (bitAnd two 3) 8 three h ∙ omega (arith, and-mask two 2)
+pub length-is : (two three high low : ℕ) → three < 256 → high ≡ bitAnd two 3 → low ≡ three
+    → bitOr (high * 256 % 18446744073709551616) low ≡ lengthField two three
+length-is two three high low h e f =
+    ap₂ (λ (x y : ℕ). bitOr (x * 256 % 18446744073709551616) y) e f
+    ∙ ap (λ (x : ℕ). bitOr x three) (mod-eq-of-lt {n = bitAnd two 3 * 256} {m = 18446744073709551616} (omega (arith, mask-lt two 2)))
+    ∙ or-shifted (bitAnd two 3) 8 three h
+    ∙ omega (arith, and-mask two 2)
 
-pub offset-is : (ten eleven w : ℕ) → eleven < 256 → bitAnd ten 15 * 256 < w → bitOr (bitAnd ten 15 * 256 % w) (bitAnd eleven 252) ≡ offsetOf ten eleven
-offset-is ten eleven w h k =
-    ap (λ (x : ℕ). bitOr x (bitAnd eleven 252)) (mod-eq-of-lt k)
+pub offset-is : (ten eleven high low : ℕ) → eleven < 256 → high ≡ bitAnd ten 15 → low ≡ bitAnd eleven 252
+    → bitOr (high * 256 % 18446744073709551616) low ≡ offsetOf ten eleven
+offset-is ten eleven high low h e f =
+    ap₂ (λ (x y : ℕ). bitOr (x * 256 % 18446744073709551616) y) e f
+    ∙ ap (λ (x : ℕ). bitOr x (bitAnd eleven 252)) (mod-eq-of-lt {n = bitAnd ten 15 * 256} {m = 18446744073709551616} (omega (arith, mask-lt ten 4)))
     ∙ or-shifted (bitAnd ten 15) 8 (bitAnd eleven 252) (omega (arith, and-high eleven 6 2))
     ∙ omega (arith, and-mask ten 4, and-high eleven 6 2)
 

@@ -30,10 +30,16 @@ pub fn type_of(first: u8) -> TypeCode
     }
 }
 
+fn wide(byte: u8) -> usize
+    ensures { λ r. ⌜ r ≡ byte ⌝ }
+{
+    byte as usize
+}
+
 pub fn whole_length(writes: bool, two: u8) -> usize
     ensures { λ r. ⌜ r ≡ wholeLength writes two ⌝ }
 {
-    let digest = ((two >> 7) & 1) as usize;
+    let digest = wide((two >> 7) & 1);
     if writes { 16 + (digest << 2) } else { 12 + (digest << 2) }
 }
 
@@ -64,13 +70,13 @@ pub fn function_of(nine: u8) -> u8
 pub fn offset_of(ten: u8, eleven: u8) -> usize
     ensures { λ r. ⌜ r ≡ offsetOf ten eleven ⌝ }
 {
-    (((ten & 0x0f) as usize) << 8) | ((eleven & 0xfc) as usize)
+    (wide(ten & 0x0f) << 8) | wide(eleven & 0xfc)
 }
 
-fn length_field(two: u8, three: u8) -> u16
+fn length_field(two: u8, three: u8) -> usize
     ensures { λ r. ⌜ r ≡ lengthField two three ⌝ }
 {
-    (((two & 0x03) as u16) << 8) | (three as u16)
+    (wide(two & 0x03) << 8) | wide(three)
 }
 
 // TC, Attr or the last enables are not 0, or Length is not 1.

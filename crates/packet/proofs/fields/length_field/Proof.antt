@@ -1,18 +1,20 @@
 -- `packet::fields::length_field` meets its contract: a shift and a mask are a quotient and a remainder. Assumes nothing.
-use borrow.Author.Needs.{needs}
 use Rattle.packet.proofs.Laws.{length-is}
-use lib.Bits.{and-mask, mask-lt, or-shifted}
-use native.Mathlib.Omega.{arith}
+use borrow.Author.Needs.{needs}
 use Rattle.packet.proofs.fields.length_field.Statement.{statement}
 use Rattle.packet.proofs.fields.length_field.Tie as tie
 use Rattle.packet.proofs.fields.length_field.Reads as reads
 use Rattle.packet.proofs.fields.length_field.Lts as lts
+use Rattle.packet.proofs.fields.wide.Reads as wide-reads
 
-cast-result : tie.Need-cast-result
-cast-result c = omega (arith, mask-lt (c .args .two) 2)
+wide-requires : tie.Need-wide-requires
+wide-requires c κs = search needs
+
+wide-requires-2 : tie.Need-wide-requires-2
+wide-requires-2 c κs = search needs
 
 returns : tie.Need-returns
-returns c = length-is (c .args .two) (c .args .three) (search needs)
+returns c = length-is (c .before .before .args .two) (c .before .before .args .three) _ _ (search needs) (c .before .wide .ensures) (c .wide2 .ensures)
 
 pub length-field-spec : {M : Type 1} → statement M
-length-field-spec = tie.close (tie.spec cast-result returns)
+length-field-spec = tie.close (tie.spec wide-requires wide-requires-2 returns)
