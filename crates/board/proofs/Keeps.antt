@@ -91,13 +91,13 @@ unfolding afterWrite
 well-write d q new true t h k w =
     rw (t, w .bytes, w .rules, stored-length (d .trusted .bytes) (d .trusted .rules) q new (w .guarded) h, w .limits, w .inRange)
 well-write d q new false t h k w =
-    rw
-    ( t
-    , besides-length (d .description .a) (d .ordinary .bytes) (d .ordinary .rules) q new _ refl (w .bytes) h
-    , w .rules
-    , w .guarded
-    , w .limits
-    , captured-range (d .description) (d .capture) (q .bus) (q .device) k (w .inRange)
+    rw (
+      t,
+      besides-length (d .description .a) (d .ordinary .bytes) (d .ordinary .rules) q new _ refl (w .bytes) h,
+      w .rules,
+      w .guarded,
+      w .limits,
+      captured-range (d .description) (d .capture) (q .bus) (q .device) k (w .inRange),
     )
 
 pub serve-keeps-well : ServeKeepsWell

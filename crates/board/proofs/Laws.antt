@@ -76,18 +76,18 @@ pub record Well (d : Board) : Type 0 where
 pub well-described : (d : Board) → WellDescribed d → Well d
 well-described d e =
     let n =
-      none-of
-      (causes (length (d .ordinary .bytes)) (length (d .ordinary .rules)) (length (d .trusted .bytes)) (length (d .trusted .rules))
-      (d .description) (d .capture))
-      e in
+    none-of
+    (causes (length (d .ordinary .bytes)) (length (d .ordinary .rules)) (length (d .trusted .bytes)) (length (d .trusted .rules))
+    (d .description) (d .capture))
+    e in
     let r = none-of (ranges (d .description) (d .capture)) (n .1 .1 .1 .1 .0) in
-    record
-    { bytes = right-size _ (n .0)
-    ; rules = right-size _ (n .1 .0)
-    ; guarded = right-size _ (n .1 .1 .0)
-    ; limits = right-size _ (n .1 .1 .1 .0)
-    ; inRange = n .1 .1 .1 .1 .0
-    ; register = place-inside 0x00c (d .description .b) (not-false _ (r .1 .1 .1 .0)) .1
+    record {
+      bytes = right-size _ (n .0);
+      rules = right-size _ (n .1 .0);
+      guarded = right-size _ (n .1 .1 .0);
+      limits = right-size _ (n .1 .1 .1 .0);
+      inRange = n .1 .1 .1 .1 .0;
+      register = place-inside 0x00c (d .description .b) (not-false _ (r .1 .1 .1 .0)) .1;
     }
 
 -- ---- unsupported requests
@@ -121,9 +121,9 @@ unfolding storedBytes
 stored-is space rules q new old rule word said after sized o r w p =
     puts-is space (q .offset) word p (rw w (rw merged-length (omega (arith, sized))))
     ∙ ap (put space (q .offset))
-        (w ∙ ap₂ (λ (x y : List ℕ). merged x y new (q .enables))
-          (o ∙ four-inside space (q .offset) (omega (arith, sized)))
-          (r ∙ four-inside rules (q .offset) (omega (arith, sized))))
+    (w ∙ ap₂ (λ (x y : List ℕ). merged x y new (q .enables))
+    (o ∙ four-inside space (q .offset) (omega (arith, sized)))
+    (r ∙ four-inside rules (q .offset) (omega (arith, sized))))
 
 pub stored-at-a : (a : ℕ) (space rules : List ℕ) (q : Request) (new : List ℕ) → q .offset ≡ a → storedBesides a space rules q new ≡ space
 unfolding storedBesides
@@ -162,18 +162,18 @@ module _ (kept : Capture) (function : ℕ) (made : Identified) (id : made ≡ id
       → word ≡ withoutData (made .id) status (q .requester) (q .tag) → Puts reply 0 word said after
       → (done 12 (made .capture) ≡ done 12 kept) × (after ≡ over (withoutData (completer kept function) status (q .requester) (q .tag)) reply)
   unfolding identified withoutData
-  replied-status status q word said after w p =
-      ( ap (λ (i : Identified). done 12 (i .capture)) id
-      , put-over reply word said after p (rw w (omega arith))
-        ∙ ap (λ (l : List ℕ). over l reply) (w ∙ ap (λ (i : Identified). withoutData (i .id) status (q .requester) (q .tag)) id)
-      )
+  replied-status status q word said after w p = (
+    ap (λ (i : Identified). done 12 (i .capture)) id,
+    put-over reply word said after p (rw w (omega arith))
+        ∙ ap (λ (l : List ℕ). over l reply) (w ∙ ap (λ (i : Identified). withoutData (i .id) status (q .requester) (q .tag)) id),
+  )
 
   pub replied-data : (q : Request) (four word : List ℕ) (said : Bool) (after : List ℕ)
       → word ≡ withData (made .id) (q .requester) (q .tag) four → Puts reply 0 word said after
       → (done 16 (made .capture) ≡ done 16 kept) × (after ≡ over (withData (completer kept function) (q .requester) (q .tag) four) reply)
   unfolding identified withData
-  replied-data q four word said after w p =
-      ( ap (λ (i : Identified). done 16 (i .capture)) id
-      , put-over reply word said after p (rw w room)
-        ∙ ap (λ (l : List ℕ). over l reply) (w ∙ ap (λ (i : Identified). withData (i .id) (q .requester) (q .tag) four) id)
-      )
+  replied-data q four word said after w p = (
+    ap (λ (i : Identified). done 16 (i .capture)) id,
+    put-over reply word said after p (rw w room)
+        ∙ ap (λ (l : List ℕ). over l reply) (w ∙ ap (λ (i : Identified). withData (i .id) (q .requester) (q .tag) four) id),
+  )

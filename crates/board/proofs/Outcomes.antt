@@ -112,19 +112,19 @@ module _ (d : Description) (kept : Capture) (o or t tr p reply : List ℕ) (well
   pub ready : Ready d o or t tr q reply × (q .writes ≡ true → 16 ≤ length p)
   ready =
       let w = well-described (lent d kept o or t tr) well in
-      let inside : q .offset + 4 ≤ 4096 = rw (asks .1) (offset-inside p) in
-      ( record
-        { plain = record { bytes = w .bytes; limits = w .rules; inside = inside }
-        ; guarded = record { bytes = w .guarded; limits = w .limits; inside = inside }
-        ; register = omega (arith, w .register)
-        ; room = room
-        }
-      , λ h. write-long p (asks .0) (ap (λ (x : Request). x .writes) (sym (asks .1)) ∙ h)
+      let inside : q .offset + 4 ≤ 4096 = rw (asks .1) (offset-inside p) in (
+        record {
+          plain = record { bytes = w .bytes; limits = w .rules; inside = inside };
+          guarded = record { bytes = w .guarded; limits = w .limits; inside = inside };
+          register = omega (arith, w .register);
+          room = room;
+        },
+        λ h. write-long p (asks .0) (ap (λ (x : Request). x .writes) (sym (asks .1)) ∙ h),
       )
 
   pub served-seen : (r : Served) (o′ t′ after : List ℕ)
       → seen r o′ t′ after ≡ shows (respond (lent d kept o or t tr) q (dataOf p)) reply → Serves (lent d kept o or t tr) p reply r o′ t′ after
   served-seen r o′ t′ after e =
       e ∙ ap (λ (x : Outcome). shows x reply)
-        (ap (λ (x : Request). respond (lent d kept o or t tr) x (dataOf p)) (asks .1)
-          ∙ sym (served-is (lent d kept o or t tr) p reply well room (asks .0)))
+      (ap (λ (x : Request). respond (lent d kept o or t tr) x (dataOf p)) (asks .1)
+      ∙ sym (served-is (lent d kept o or t tr) p reply well room (asks .0)))

@@ -20,11 +20,11 @@ same r q a n k = λ i. record { answer = a i; length = n i; capture = k i }
 
 pub serve-unique : ServeUnique
 serve-unique d p reply r q o t after o′ t′ after′ e f =
-    let s : seen r o t after ≡ seen q o′ t′ after′ = e ∙ sym f in
-    ( same r q (answer-tells (r .answer) (q .answer) (ap (λ (x : Seen). x .number) s)) (ap (λ (x : Seen). x .length) s) (ap (λ (x : Seen). x .capture) s)
-    , ap (λ (x : Seen). x .ordinary) s
-    , ap (λ (x : Seen). x .trusted) s
-    , ap (λ (x : Seen). x .reply) s
+    let s : seen r o t after ≡ seen q o′ t′ after′ = e ∙ sym f in (
+      same r q (answer-tells (r .answer) (q .answer) (ap (λ (x : Seen). x .number) s)) (ap (λ (x : Seen). x .length) s) (ap (λ (x : Seen). x .capture) s),
+      ap (λ (x : Seen). x .ordinary) s,
+      ap (λ (x : Seen). x .trusted) s,
+      ap (λ (x : Seen). x .reply) s,
     )
 
 pub reset-unique : (kept r q : Capture) → r ≡ forgotten kept → q ≡ forgotten kept → r ≡ q

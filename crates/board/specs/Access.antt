@@ -63,21 +63,21 @@ storedBesides a bytes rules q new = cond (eqb (q .offset) a) bytes (storedBytes 
 unfoldable pub afterWrite : Board → Request → List ℕ → Board
 afterWrite d q new =
     cond (isTrusted (q .target))
-    (record
-    { description = d .description
-    ; capture = d .capture
-    ; ordinary = d .ordinary
-    ; trusted = record { bytes = storedBytes (d .trusted .bytes) (d .trusted .rules) q new; rules = d .trusted .rules }
+    (record {
+      description = d .description;
+      capture = d .capture;
+      ordinary = d .ordinary;
+      trusted = record { bytes = storedBytes (d .trusted .bytes) (d .trusted .rules) q new; rules = d .trusted .rules };
     })
-    (record
-    { description = d .description
-    ; capture = captured (d .capture) (q .bus) (q .device)
-    ; ordinary =
-        record
-        { bytes = storedBesides (d .description .a) (d .ordinary .bytes) (d .ordinary .rules) q new
-        ; rules = d .ordinary .rules
-        }
-    ; trusted = d .trusted
+    (record {
+      description = d .description;
+      capture = captured (d .capture) (q .bus) (q .device);
+      ordinary =
+          record {
+            bytes = storedBesides (d .description .a) (d .ordinary .bytes) (d .ordinary .rules) q new;
+            rules = d .ordinary .rules;
+          };
+      trusted = d .trusted;
     })
 
 -- the correlation register: "the four trusted bytes at B"

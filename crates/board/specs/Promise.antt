@@ -22,11 +22,11 @@ pub record Seen : Type 0 where
 -- the board that a caller lends: its description and capture, and the four buffers as they are
 abbrev pub lent : Description → Capture → List ℕ → List ℕ → List ℕ → List ℕ → Board
 lent d kept ordinary ordinaryRules trusted trustedRules =
-    record
-    { description = d
-    ; capture = kept
-    ; ordinary = record { bytes = ordinary; rules = ordinaryRules }
-    ; trusted = record { bytes = trusted; rules = trustedRules }
+    record {
+      description = d;
+      capture = kept;
+      ordinary = record { bytes = ordinary; rules = ordinaryRules };
+      trusted = record { bytes = trusted; rules = trustedRules };
     }
 
 -- what a call has shown: its result, and the ordinary space, the trusted space and the reply at its end
@@ -41,13 +41,13 @@ over written reply = written ++ drop (lib.ListN.length written) reply
 -- what it should show, from an outcome and the reply as lent
 unfoldable pub shows : Outcome → List ℕ → Seen
 shows o reply =
-    record
-    { number = o .number
-    ; length = lib.ListN.length (o .written)
-    ; capture = o .after .capture
-    ; ordinary = o .after .ordinary .bytes
-    ; trusted = o .after .trusted .bytes
-    ; reply = over (o .written) reply
+    record {
+      number = o .number;
+      length = lib.ListN.length (o .written);
+      capture = o .after .capture;
+      ordinary = o .after .ordinary .bytes;
+      trusted = o .after .trusted .bytes;
+      reply = over (o .written) reply;
     }
 
 -- the promise of `board::serve`: board and packet and reply as lent, the result, and the three buffers at its end

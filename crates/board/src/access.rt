@@ -3,7 +3,6 @@ ghost use mathlib.Core.Path.{_≡_};
 ghost use mathlib.Core.Bool.{_&&_};
 ghost use Rattle.board.specs.Access.{addressed, unsupported, storedBytes, storedBesides, shownWord};
 ghost use Rattle.board.specs.Inner.{Sized, Readable};
-
 use super::Description;
 use capture::Capture;
 use packet::Request;
@@ -72,7 +71,12 @@ pub fn store_ordinary(a: usize, space: &mut [u8], rules: &[u8], request: Request
 }
 
 // The four bytes that a read shows.
-pub fn read_word(description: Description, ordinary: &[u8], trusted: &[u8], request: Request) -> [u8; 4]
+pub fn read_word(
+    description: Description,
+    ordinary: &[u8],
+    trusted: &[u8],
+    request: Request,
+) -> [u8; 4]
     requires { ⌜ Readable description (now ordinary) (now trusted) request ⌝ }
     ensures { λ r. ⌜ r ≡ shownWord description (now (ordinary .entry)) (now (trusted .entry)) request ⌝ }
 {

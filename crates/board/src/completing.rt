@@ -6,7 +6,6 @@ ghost use Rattle.packet.specs.Completion.{withData, withoutData};
 ghost use Rattle.capture.specs.Kept.{completer};
 ghost use Rattle.board.specs.Promise.{over};
 ghost use Rattle.board.specs.Inner.{done};
-
 use super::Description;
 use super::Served;
 use answers::Answer;
@@ -14,7 +13,13 @@ use capture::Capture;
 use packet::Request;
 
 // A completion without data.
-pub fn reply_status(description: Description, kept: Capture, status: u8, request: Request, reply: &mut [u8]) -> Served
+pub fn reply_status(
+    description: Description,
+    kept: Capture,
+    status: u8,
+    request: Request,
+    reply: &mut [u8],
+) -> Served
     requires { ⌜ 16 ≤ length (now reply) ⌝ }
     ensures answered { λ r. ⌜ r ≡ done 12 kept ⌝ }
     ensures written { λ r. ⌜ now (reply .exit) ≡ over (withoutData (completer kept (description .function)) status (request .requester) (request .tag)) (now (reply .entry)) ⌝ }
@@ -33,7 +38,13 @@ pub fn reply_status(description: Description, kept: Capture, status: u8, request
 }
 
 // A completion with four data bytes.
-pub fn reply_data(description: Description, kept: Capture, four: [u8; 4], request: Request, reply: &mut [u8]) -> Served
+pub fn reply_data(
+    description: Description,
+    kept: Capture,
+    four: [u8; 4],
+    request: Request,
+    reply: &mut [u8],
+) -> Served
     requires { ⌜ 16 ≤ length (now reply) ⌝ }
     ensures answered { λ r. ⌜ r ≡ done 16 kept ⌝ }
     ensures written { λ r. ⌜ now (reply .exit) ≡ over (withData (completer kept (description .function)) (request .requester) (request .tag) four) (now (reply .entry)) ⌝ }

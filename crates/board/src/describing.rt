@@ -2,7 +2,6 @@
 ghost use mathlib.Core.Path.{_≡_};
 ghost use Rattle.board.specs.Description.{place, outOfRange, wrongSize, badly};
 ghost use Rattle.capture.specs.Kept.{deviceOver};
-
 use super::Description;
 use capture::Capture;
 

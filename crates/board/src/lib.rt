@@ -7,7 +7,6 @@ mod serving;
 
 use answers::Answer;
 use capture::Capture;
-
 pub use serving::reset;
 pub use serving::serve;
 

@@ -10,7 +10,6 @@ ghost use Rattle.board.specs.Access.{afterWrite};
 ghost use Rattle.packet.specs.Completion.{success};
 ghost use Rattle.board.specs.Promise.{lent, seen, shows, Serves};
 ghost use Rattle.board.specs.Inner.{Ready, refusing};
-
 use super::Description;
 use super::Served;
 use super::access;
@@ -23,7 +22,9 @@ use packet::Decoded;
 use packet::Request;
 
 const SUCCESS: u8 = 0x00;
+
 const UNSUPPORTED_REQUEST: u8 = 0x20;
+
 const REPLY: usize = 16;
 
 // Nothing is done, and the capture is handed back as it was.

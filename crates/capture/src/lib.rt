@@ -2,7 +2,6 @@
 // Promised for every state and number: specs/Capture.antt.
 ghost use mathlib.Core.Path.{_≡_};
 ghost use Rattle.capture.specs.Kept.{forgotten, captured, identified};
-
 use packet::Id;
 
 // What the board has captured. A fresh board has captured nothing.

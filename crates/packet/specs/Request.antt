@@ -51,17 +51,17 @@ packetNumber p = lowest (packetChecks p)
 -- the request that a packet asks for
 unfoldable pub requestOf : List ℕ → Request
 requestOf p =
-    record
-    { target = targetOf (typed p)
-    ; writes = writesOf (typed p)
-    ; poisoned = eqb (poison (byte p 2)) 1
-    ; requester = requesterOf p
-    ; tag = byte p 6
-    ; enables = firstEnables (byte p 7)
-    ; bus = byte p 8
-    ; device = deviceOf (byte p 9)
-    ; function = functionOf (byte p 9)
-    ; offset = offsetOf (byte p 10) (byte p 11)
+    record {
+      target = targetOf (typed p);
+      writes = writesOf (typed p);
+      poisoned = eqb (poison (byte p 2)) 1;
+      requester = requesterOf p;
+      tag = byte p 6;
+      enables = firstEnables (byte p 7);
+      bus = byte p 8;
+      device = deviceOf (byte p 9);
+      function = functionOf (byte p 9);
+      offset = offsetOf (byte p 10) (byte p 11);
     }
 
 -- "A packet is trusted if its first byte, bit 7 cleared, is 1Bh or 5Bh, whatever its length. All others, the empty one included, are

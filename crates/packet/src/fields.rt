@@ -2,16 +2,20 @@
 ghost use mathlib.Core.Path.{_≡_};
 ghost use lib.Dec.{eqb};
 ghost use Rattle.packet.specs.Fields.{typeCode, typeOf, digest, poison, firstEnables, deviceOf, functionOf, lengthField, offsetOf, wrongField, wholeLength};
-
 use super::Target;
 use super::TypeCode;
 
 // The type codes of document 01.
 const READ_TYPE_0: u8 = 0x04;
+
 const WRITE_TYPE_0: u8 = 0x44;
+
 const READ_TYPE_1: u8 = 0x05;
+
 const WRITE_TYPE_1: u8 = 0x45;
+
 const READ_TRUSTED: u8 = 0x1b;
+
 const WRITE_TRUSTED: u8 = 0x5b;
 
 // Byte 0 without bit 7 decides.
@@ -40,7 +44,11 @@ pub fn whole_length(writes: bool, two: u8) -> usize
     ensures { λ r. ⌜ r ≡ wholeLength writes two ⌝ }
 {
     let digest = wide((two >> 7) & 1);
-    if writes { 16 + (digest << 2) } else { 12 + (digest << 2) }
+    if writes {
+        16 + (digest << 2)
+    } else {
+        12 + (digest << 2)
+    }
 }
 
 pub fn is_poisoned(two: u8) -> bool

@@ -3,15 +3,14 @@
 ghost use mathlib.Core.Path.{_≡_};
 ghost use Rattle.packet.specs.Request.{isTrusted};
 
+mod decoding;
 mod fields;
 mod reply;
-mod decoding;
 
 use answers::Refusal;
-
+pub use decoding::decode;
 pub use reply::with_data;
 pub use reply::without_data;
-pub use decoding::decode;
 
 // A requester or completer ID, as its two bytes are sent.
 pub struct Id {

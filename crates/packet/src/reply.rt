@@ -1,7 +1,6 @@
 // The bytes of a completion.
 ghost use mathlib.Core.Path.{_≡_};
 ghost use Rattle.packet.specs.Completion.{withData, withoutData};
-
 use super::Id;
 
 // A successful read: 16 bytes.

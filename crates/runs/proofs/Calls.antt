@@ -27,11 +27,11 @@ unfolding shows
 held-served d bytes reply r o t replied e =
     let k = serve-keeps d bytes (length reply) in
     λ i.
-    record
-    { description = sym (k .description) i
-    ; capture = (ap (λ (x : Seen). x .capture) e) i
-    ; ordinary = record { bytes = (ap (λ (x : Seen). x .ordinary) e) i; rules = sym (k .rules) i }
-    ; trusted = record { bytes = (ap (λ (x : Seen). x .trusted) e) i; rules = sym (k .limits) i }
+    record {
+      description = sym (k .description) i;
+      capture = (ap (λ (x : Seen). x .capture) e) i;
+      ordinary = record { bytes = (ap (λ (x : Seen). x .ordinary) e) i; rules = sym (k .rules) i };
+      trusted = record { bytes = (ap (λ (x : Seen). x .trusted) e) i; rules = sym (k .limits) i };
     }
 
 held-next : (d : Board) (c : Call) → Meets d c → holds d c ≡ next d (eventOf c)
@@ -43,15 +43,15 @@ pub calls-give-run : CallsGiveRun
 calls-give-run d [] m = (refl, tt)
 calls-give-run d (served bytes reply r o t replied ∷ cs) m =
     let h = held-next d (served bytes reply r o t replied) (m .0) in
-    let rest = calls-give-run (holds d (served bytes reply r o t replied)) cs (m .1) in
-    ( rest .0 ∙ ap (λ (x : Board). after x (eventsOf cs)) h
-    , (m .0, subst (λ (x : Board). Show cs (outcomes x (eventsOf cs))) h (rest .1))
+    let rest = calls-give-run (holds d (served bytes reply r o t replied)) cs (m .1) in (
+      rest .0 ∙ ap (λ (x : Board). after x (eventsOf cs)) h,
+      (m .0, subst (λ (x : Board). Show cs (outcomes x (eventsOf cs))) h (rest .1)),
     )
 calls-give-run d (wasReset kept ∷ cs) m =
     let h = held-next d (wasReset kept) (m .0) in
-    let rest = calls-give-run (holds d (wasReset kept)) cs (m .1) in
-    ( rest .0 ∙ ap (λ (x : Board). after x (eventsOf cs)) h
-    , subst (λ (x : Board). Show cs (outcomes x (eventsOf cs))) h (rest .1)
+    let rest = calls-give-run (holds d (wasReset kept)) cs (m .1) in (
+      rest .0 ∙ ap (λ (x : Board). after x (eventsOf cs)) h,
+      subst (λ (x : Board). Show cs (outcomes x (eventsOf cs))) h (rest .1),
     )
 
 pub run-keeps-well : RunKeepsWell

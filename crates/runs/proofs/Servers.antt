@@ -57,12 +57,12 @@ TrapsCaught = Caught capturesTrusted × Caught capturesPoisoned × Caught dropsR
 caught-by : (server : Server) (d : Board) (p : List ℕ) (tell : Seen → ℕ) → WellDescribed d
     → (tell (shows (server d p 16) (replicate 16 0xee)) ≡ tell (shows (serve d p 16) (replicate 16 0xee)) → ⊥) → Caught server
 caught-by server d p tell well differ =
-    record
-    { board = d
-    ; bytes = p
-    ; reply = replicate 16 0xee
-    ; well = well
-    ; caught = λ r o t after e f. differ (ap tell (sym e ∙ f))
+    record {
+      board = d;
+      bytes = p;
+      reply = replicate 16 0xee;
+      well = well;
+      caught = λ r o t after e f. differ (ap tell (sym e ∙ f));
     }
 
 -- the byte of the reply at a place, and a byte of the ordinary space

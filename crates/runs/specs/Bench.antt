@@ -28,11 +28,11 @@ bench trusted =
 -- the same, once a write to bus 05h and device 3 has been captured, as P2's is
 abbrev pub benchAfter : List ℕ → List ℕ → Board
 benchAfter ordinary trusted =
-    record
-    { description = record { function = 0; a = 0x104; b = 0x00c }
-    ; capture = Number 0x05 0x03
-    ; ordinary = record { bytes = ordinary; rules = benchRules }
-    ; trusted = record { bytes = trusted; rules = benchRules }
+    record {
+      description = record { function = 0; a = 0x104; b = 0x00c };
+      capture = Number 0x05 0x03;
+      ordinary = record { bytes = ordinary; rules = benchRules };
+      trusted = record { bytes = trusted; rules = benchRules };
     }
 
 -- P1's packet, a trusted read at 004h, and P2's, a Type 0 write there

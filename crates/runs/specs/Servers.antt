@@ -74,40 +74,40 @@ outcomesBy server past d (reset ∷ es) = outcomesBy server (reset ∷ past) (af
 -- "Capturing from a trusted write": the capture after a write that succeeded is the write's
 abbrev pub capturing : Board → Request → Board
 capturing d q =
-    record
-    { description = d .description
-    ; capture = captured (d .capture) (q .bus) (q .device)
-    ; ordinary = d .ordinary
-    ; trusted = d .trusted
+    record {
+      description = d .description;
+      capture = captured (d .capture) (q .bus) (q .device);
+      ordinary = d .ordinary;
+      trusted = d .trusted;
     }
 
 abbrev pub capturesTrusted : Server
 capturesTrusted =
     responding (λ d q new.
-      let r = respond d q new in
-      record { number = 0; after = cond (q .writes && isTrusted (q .target)) (capturing (r .after) q) (r .after); written = r .written })
+    let r = respond d q new in
+    record { number = 0; after = cond (q .writes && isTrusted (q .target)) (capturing (r .after) q) (r .after); written = r .written })
 
 -- ".. or from a poisoned one"
 abbrev pub capturesPoisoned : Server
 capturesPoisoned =
     responding (λ d q new.
-      let r = respond d q new in
-      record { number = 0; after = cond (q .writes && q .poisoned) (capturing (r .after) q) (r .after); written = r .written })
+    let r = respond d q new in
+    record { number = 0; after = cond (q .writes && q .poisoned) (capturing (r .after) q) (r .after); written = r .written })
 
 -- "Dropping the extended register bits, so that 104h and 004h meet."
 abbrev pub shortOffset : Request → Request
 shortOffset q =
-    record
-    { target = q .target
-    ; writes = q .writes
-    ; poisoned = q .poisoned
-    ; requester = q .requester
-    ; tag = q .tag
-    ; enables = q .enables
-    ; bus = q .bus
-    ; device = q .device
-    ; function = q .function
-    ; offset = q .offset % 256
+    record {
+      target = q .target;
+      writes = q .writes;
+      poisoned = q .poisoned;
+      requester = q .requester;
+      tag = q .tag;
+      enables = q .enables;
+      bus = q .bus;
+      device = q .device;
+      function = q .function;
+      offset = q .offset % 256;
     }
 
 abbrev pub dropsRegisterBits : Server
@@ -116,11 +116,11 @@ dropsRegisterBits = responding (λ d q new. respond d (shortOffset q) new)
 -- "Letting an ordinary read at A show the stale ordinary bytes.": A is nowhere
 abbrev pub withoutA : Board → Board
 withoutA d =
-    record
-    { description = record { function = d .description .function; a = 0x1000; b = d .description .b }
-    ; capture = d .capture
-    ; ordinary = d .ordinary
-    ; trusted = d .trusted
+    record {
+      description = record { function = d .description .function; a = 0x1000; b = d .description .b };
+      capture = d .capture;
+      ordinary = d .ordinary;
+      trusted = d .trusted;
     }
 
 abbrev pub showsStale : Server

@@ -6,8 +6,6 @@ use mathlib.Core.Path.{refl, sym, ap, _∙_}
 use borrow.Author.Needs.{needs}
 use Rattle.board.proofs.access.is_addressed.Statement.{statement}
 use Rattle.board.proofs.access.is_addressed.Tie as tie
-use Rattle.board.proofs.access.is_addressed.Reads as reads
-use Rattle.board.proofs.access.is_addressed.Lts as lts
 
 enum-told : tie.Need-enum-told
 enum-told c = search needs

@@ -5,10 +5,6 @@ use mathlib.Core.Path.{refl, sym, ap, _∙_}
 use borrow.Author.Needs.{needs}
 use Rattle.board.proofs.access.is_unsupported.Statement.{statement}
 use Rattle.board.proofs.access.is_unsupported.Tie as tie
-use Rattle.board.proofs.access.is_unsupported.Reads as reads
-use Rattle.board.proofs.access.is_unsupported.Lts as lts
-use Rattle.board.proofs.access.is_addressed.Reads as is-addressed-reads
-use Rattle.board.proofs.access.is_poisoned_write.Reads as is-poisoned-write-reads
 
 is-poisoned-write-requires : tie.Need-is-poisoned-write-requires
 is-poisoned-write-requires c κs = search needs

@@ -5,11 +5,6 @@ use Rattle.board.proofs.Laws.{shown-trusted, shown-correlation, shown-o
 use borrow.Author.Needs.{needs}
 use Rattle.board.proofs.access.read_word.Statement.{statement}
 use Rattle.board.proofs.access.read_word.Tie as tie
-use Rattle.board.proofs.access.read_word.Reads as reads
-use Rattle.board.proofs.access.read_word.Lts as lts
-use Rattle.packet.proofs.Target.is_trusted.Reads as is-trusted-reads
-use Rattle.registers.proofs.show.Reads as show-reads
-use Rattle.words.proofs.four.Reads as four-reads
 
 is-trusted-requires : tie.Need-is-trusted-requires
 is-trusted-requires c κs = search needs

@@ -4,11 +4,6 @@ use Rattle.board.proofs.Laws.{stored-is}
 use borrow.Author.Needs.{needs}
 use Rattle.board.proofs.access.store.Statement.{statement}
 use Rattle.board.proofs.access.store.Tie as tie
-use Rattle.board.proofs.access.store.Reads as reads
-use Rattle.board.proofs.access.store.Lts as lts
-use Rattle.registers.proofs.merge.Reads as merge-reads
-use Rattle.words.proofs.four.Reads as four-reads
-use Rattle.words.proofs.put.Reads as put-reads
 
 four-requires : tie.Need-four-requires
 four-requires c κs = search needs

@@ -5,9 +5,6 @@ use Rattle.board.proofs.Laws.{stored-at-a, stored-besides}
 use borrow.Author.Needs.{needs}
 use Rattle.board.proofs.access.store_ordinary.Statement.{statement}
 use Rattle.board.proofs.access.store_ordinary.Tie as tie
-use Rattle.board.proofs.access.store_ordinary.Reads as reads
-use Rattle.board.proofs.access.store_ordinary.Lts as lts
-use Rattle.board.proofs.access.store.Reads as store-reads
 
 store-requires : tie.Need-store-requires
 store-requires c κs = search needs

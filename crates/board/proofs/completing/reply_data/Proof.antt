@@ -4,11 +4,6 @@ use Rattle.board.proofs.Laws.{replied-data}
 use borrow.Author.Needs.{needs}
 use Rattle.board.proofs.completing.reply_data.Statement.{statement}
 use Rattle.board.proofs.completing.reply_data.Tie as tie
-use Rattle.board.proofs.completing.reply_data.Reads as reads
-use Rattle.board.proofs.completing.reply_data.Lts as lts
-use Rattle.capture.proofs.Capture.completer_id.Reads as completer-id-reads
-use Rattle.packet.proofs.with_data.Reads as with-data-reads
-use Rattle.words.proofs.put.Reads as put-reads
 
 completer-id-requires : tie.Need-completer-id-requires
 completer-id-requires c κs = search needs

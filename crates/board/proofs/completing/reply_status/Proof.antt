@@ -4,11 +4,6 @@ use Rattle.board.proofs.Laws.{replied-status}
 use borrow.Author.Needs.{needs}
 use Rattle.board.proofs.completing.reply_status.Statement.{statement}
 use Rattle.board.proofs.completing.reply_status.Tie as tie
-use Rattle.board.proofs.completing.reply_status.Reads as reads
-use Rattle.board.proofs.completing.reply_status.Lts as lts
-use Rattle.capture.proofs.Capture.completer_id.Reads as completer-id-reads
-use Rattle.packet.proofs.without_data.Reads as without-data-reads
-use Rattle.words.proofs.put.Reads as put-reads
 
 completer-id-requires : tie.Need-completer-id-requires
 completer-id-requires c κs = search needs

@@ -4,8 +4,6 @@ use mathlib.Core.Path.{refl, sym, ap, _∙_}
 use borrow.Author.Needs.{needs}
 use Rattle.board.proofs.describing.device_over.Statement.{statement}
 use Rattle.board.proofs.describing.device_over.Tie as tie
-use Rattle.board.proofs.describing.device_over.Reads as reads
-use Rattle.board.proofs.describing.device_over.Lts as lts
 
 enum-told : tie.Need-enum-told
 enum-told c = search needs

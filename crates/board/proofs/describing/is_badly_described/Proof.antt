@@ -4,10 +4,6 @@ use mathlib.Core.Path.{refl, sym, ap, _∙_, subst}
 use borrow.Author.Needs.{needs}
 use Rattle.board.proofs.describing.is_badly_described.Statement.{statement}
 use Rattle.board.proofs.describing.is_badly_described.Tie as tie
-use Rattle.board.proofs.describing.is_badly_described.Reads as reads
-use Rattle.board.proofs.describing.is_badly_described.Lts as lts
-use Rattle.board.proofs.describing.is_wrong_size.Reads as is-wrong-size-reads
-use Rattle.board.proofs.describing.out_of_range.Reads as out-of-range-reads
 
 is-wrong-size-requires : tie.Need-is-wrong-size-requires
 is-wrong-size-requires c κs = search needs

@@ -3,8 +3,6 @@ use Rattle.board.proofs.Laws.{place-below, place-above, place-between}
 use mathlib.Core.Path.{refl, sym, ap, _∙_}
 use Rattle.board.proofs.describing.is_place.Statement.{statement}
 use Rattle.board.proofs.describing.is_place.Tie as tie
-use Rattle.board.proofs.describing.is_place.Reads as reads
-use Rattle.board.proofs.describing.is_place.Lts as lts
 
 returns : tie.Need-returns
 returns c = sym (place-below _ _ (c .if1 .taken))

@@ -5,10 +5,6 @@ use mathlib.Core.Path.{refl, sym, ap, _∙_}
 use borrow.Author.Needs.{needs}
 use Rattle.board.proofs.describing.out_of_range.Statement.{statement}
 use Rattle.board.proofs.describing.out_of_range.Tie as tie
-use Rattle.board.proofs.describing.out_of_range.Reads as reads
-use Rattle.board.proofs.describing.out_of_range.Lts as lts
-use Rattle.board.proofs.describing.device_over.Reads as device-over-reads
-use Rattle.board.proofs.describing.is_place.Reads as is-place-reads
 
 device-over-requires : tie.Need-device-over-requires
 device-over-requires c κs = search needs

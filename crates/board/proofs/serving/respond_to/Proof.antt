@@ -8,13 +8,6 @@ use mathlib.Core.Path.{refl, sym, ap, _∙_, subst}
 use borrow.Author.Needs.{needs}
 use Rattle.board.proofs.serving.respond_to.Statement.{statement}
 use Rattle.board.proofs.serving.respond_to.Tie as tie
-use Rattle.board.proofs.serving.respond_to.Reads as reads
-use Rattle.board.proofs.serving.respond_to.Lts as lts
-use Rattle.board.proofs.access.is_unsupported.Reads as is-unsupported-reads
-use Rattle.board.proofs.access.read_word.Reads as read-word-reads
-use Rattle.board.proofs.completing.reply_data.Reads as reply-data-reads
-use Rattle.board.proofs.completing.reply_status.Reads as reply-status-reads
-use Rattle.board.proofs.serving.write.Reads as write-reads
 
 is-unsupported-requires : tie.Need-is-unsupported-requires
 is-unsupported-requires c κs = search needs

@@ -12,12 +12,6 @@ use mathlib.Core.Path.{refl, sym, ap, _∙_, subst}
 use borrow.Author.Needs.{needs}
 use Rattle.board.proofs.serving.serve.Statement.{statement}
 use Rattle.board.proofs.serving.serve.Tie as tie
-use Rattle.board.proofs.serving.serve.Reads as reads
-use Rattle.board.proofs.serving.serve.Lts as lts
-use Rattle.board.proofs.describing.is_badly_described.Reads as is-badly-described-reads
-use Rattle.board.proofs.serving.refuse.Reads as refuse-reads
-use Rattle.board.proofs.serving.respond_to.Reads as respond-to-reads
-use Rattle.packet.proofs.decode.Reads as decode-reads
 
 is-badly-described-requires : tie.Need-is-badly-described-requires
 is-badly-described-requires c κs = search needs

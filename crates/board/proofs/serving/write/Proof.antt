@@ -5,14 +5,6 @@ use mathlib.Core.Path.{refl, sym, ap, _∙_, subst}
 use borrow.Author.Needs.{needs}
 use Rattle.board.proofs.serving.write.Statement.{statement}
 use Rattle.board.proofs.serving.write.Tie as tie
-use Rattle.board.proofs.serving.write.Reads as reads
-use Rattle.board.proofs.serving.write.Lts as lts
-use Rattle.board.proofs.access.store.Reads as store-reads
-use Rattle.board.proofs.access.store_ordinary.Reads as store-ordinary-reads
-use Rattle.board.proofs.completing.reply_status.Reads as reply-status-reads
-use Rattle.capture.proofs.Capture.capture.Reads as capture-reads
-use Rattle.packet.proofs.Target.is_trusted.Reads as is-trusted-reads
-use Rattle.words.proofs.four.Reads as four-reads
 
 four-requires : tie.Need-four-requires
 four-requires c κs = search needs

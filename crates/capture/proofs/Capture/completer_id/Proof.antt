@@ -3,9 +3,6 @@ use Rattle.capture.proofs.Laws.{identified-nothing, identified-number}
 use borrow.Author.Needs.{needs}
 use Rattle.capture.proofs.Capture.completer_id.Statement.{statement}
 use Rattle.capture.proofs.Capture.completer_id.Tie as tie
-use Rattle.capture.proofs.Capture.completer_id.Reads as reads
-use Rattle.capture.proofs.Capture.completer_id.Lts as lts
-use Rattle.std.proofs.num.wrapping_add_u8.Reads as wrapping-add-u8-reads
 
 enum-told : tie.Need-enum-told
 enum-told c = search needs

@@ -6,10 +6,6 @@ use Rattle.packet.proofs.Laws.{number-short, number-unknown}
 use borrow.Author.Needs.{needs}
 use Rattle.packet.proofs.decoding.decode.Statement.{statement}
 use Rattle.packet.proofs.decoding.decode.Tie as tie
-use Rattle.packet.proofs.decoding.decode.Reads as reads
-use Rattle.packet.proofs.decoding.decode.Lts as lts
-use Rattle.packet.proofs.decoding.decode_known.Reads as decode-known-reads
-use Rattle.packet.proofs.fields.type_of.Reads as type-of-reads
 
 returns : tie.Need-returns
 returns c = number-short (now (c .before .before .args .packet)) (omega arith)

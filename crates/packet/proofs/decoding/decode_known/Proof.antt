@@ -5,11 +5,6 @@ use Rattle.packet.proofs.Laws.{number-length, number-past}
 use borrow.Author.Needs.{needs}
 use Rattle.packet.proofs.decoding.decode_known.Statement.{statement}
 use Rattle.packet.proofs.decoding.decode_known.Tie as tie
-use Rattle.packet.proofs.decoding.decode_known.Reads as reads
-use Rattle.packet.proofs.decoding.decode_known.Lts as lts
-use Rattle.packet.proofs.decoding.request_of.Reads as request-of-reads
-use Rattle.packet.proofs.fields.whole_length.Reads as whole-length-reads
-use Rattle.packet.proofs.fields.wrong_field.Reads as wrong-field-reads
 
 shared-slice-read-whole-length : tie.Need-shared-slice-read-whole-length
 shared-slice-read-whole-length c = search needs

@@ -3,13 +3,6 @@ use Rattle.packet.specs.Request.{requestOf}
 use borrow.Author.Needs.{needs}
 use Rattle.packet.proofs.decoding.request_of.Statement.{statement}
 use Rattle.packet.proofs.decoding.request_of.Tie as tie
-use Rattle.packet.proofs.decoding.request_of.Reads as reads
-use Rattle.packet.proofs.decoding.request_of.Lts as lts
-use Rattle.packet.proofs.fields.device_of.Reads as device-of-reads
-use Rattle.packet.proofs.fields.first_enables.Reads as first-enables-reads
-use Rattle.packet.proofs.fields.function_of.Reads as function-of-reads
-use Rattle.packet.proofs.fields.is_poisoned.Reads as is-poisoned-reads
-use Rattle.packet.proofs.fields.offset_of.Reads as offset-of-reads
 
 shared-slice-read-is-poisoned : tie.Need-shared-slice-read-is-poisoned
 shared-slice-read-is-poisoned c = search needs

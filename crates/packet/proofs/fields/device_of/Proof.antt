@@ -4,8 +4,6 @@ use lib.Bits.{and-mask}
 use native.Mathlib.Omega.{arith}
 use Rattle.packet.proofs.fields.device_of.Statement.{statement}
 use Rattle.packet.proofs.fields.device_of.Tie as tie
-use Rattle.packet.proofs.fields.device_of.Reads as reads
-use Rattle.packet.proofs.fields.device_of.Lts as lts
 
 returns : tie.Need-returns
 returns c = omega (arith, and-mask (c .args .nine / 8) 5)

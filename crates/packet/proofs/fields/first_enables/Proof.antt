@@ -3,8 +3,6 @@ use lib.Bits.{and-mask}
 use native.Mathlib.Omega.{arith}
 use Rattle.packet.proofs.fields.first_enables.Statement.{statement}
 use Rattle.packet.proofs.fields.first_enables.Tie as tie
-use Rattle.packet.proofs.fields.first_enables.Reads as reads
-use Rattle.packet.proofs.fields.first_enables.Lts as lts
 
 returns : tie.Need-returns
 returns c = omega (arith, and-mask (c .args .seven) 4)

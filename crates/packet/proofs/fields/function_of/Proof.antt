@@ -3,8 +3,6 @@ use lib.Bits.{and-mask}
 use native.Mathlib.Omega.{arith}
 use Rattle.packet.proofs.fields.function_of.Statement.{statement}
 use Rattle.packet.proofs.fields.function_of.Tie as tie
-use Rattle.packet.proofs.fields.function_of.Reads as reads
-use Rattle.packet.proofs.fields.function_of.Lts as lts
 
 returns : tie.Need-returns
 returns c = omega (arith, and-mask (c .args .nine) 3)

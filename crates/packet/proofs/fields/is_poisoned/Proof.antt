@@ -3,8 +3,6 @@ use Prim.Native.Nat.{_/_}
 use lib.Bits.{and-mask}
 use Rattle.packet.proofs.fields.is_poisoned.Statement.{statement}
 use Rattle.packet.proofs.fields.is_poisoned.Tie as tie
-use Rattle.packet.proofs.fields.is_poisoned.Reads as reads
-use Rattle.packet.proofs.fields.is_poisoned.Lts as lts
 
 returns : tie.Need-returns
 returns c = rw (and-mask (c .args .two / 64) 1)

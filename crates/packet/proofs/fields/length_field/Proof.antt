@@ -3,9 +3,6 @@ use Rattle.packet.proofs.Laws.{length-is}
 use borrow.Author.Needs.{needs}
 use Rattle.packet.proofs.fields.length_field.Statement.{statement}
 use Rattle.packet.proofs.fields.length_field.Tie as tie
-use Rattle.packet.proofs.fields.length_field.Reads as reads
-use Rattle.packet.proofs.fields.length_field.Lts as lts
-use Rattle.packet.proofs.fields.wide.Reads as wide-reads
 
 wide-requires : tie.Need-wide-requires
 wide-requires c κs = search needs

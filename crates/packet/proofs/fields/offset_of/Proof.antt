@@ -3,9 +3,6 @@ use Rattle.packet.proofs.Laws.{offset-is}
 use borrow.Author.Needs.{needs}
 use Rattle.packet.proofs.fields.offset_of.Statement.{statement}
 use Rattle.packet.proofs.fields.offset_of.Tie as tie
-use Rattle.packet.proofs.fields.offset_of.Reads as reads
-use Rattle.packet.proofs.fields.offset_of.Lts as lts
-use Rattle.packet.proofs.fields.wide.Reads as wide-reads
 
 wide-requires : tie.Need-wide-requires
 wide-requires c κs = search needs

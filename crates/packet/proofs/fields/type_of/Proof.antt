@@ -6,8 +6,6 @@ use Rattle.packet.specs.Fields.{typeCode, typeOf}
 use Rattle.packet.proofs.Laws.{code-is, type-unknown}
 use Rattle.packet.proofs.fields.type_of.Statement.{statement}
 use Rattle.packet.proofs.fields.type_of.Tie as tie
-use Rattle.packet.proofs.fields.type_of.Reads as reads
-use Rattle.packet.proofs.fields.type_of.Lts as lts
 
 returns : tie.Need-returns
 unfolding typeOf

@@ -5,9 +5,6 @@ use native.Mathlib.Omega.{arith}
 use borrow.Author.Needs.{needs}
 use Rattle.packet.proofs.fields.whole_length.Statement.{statement}
 use Rattle.packet.proofs.fields.whole_length.Tie as tie
-use Rattle.packet.proofs.fields.whole_length.Reads as reads
-use Rattle.packet.proofs.fields.whole_length.Lts as lts
-use Rattle.packet.proofs.fields.wide.Reads as wide-reads
 
 wide-requires : tie.Need-wide-requires
 wide-requires c κs = search needs

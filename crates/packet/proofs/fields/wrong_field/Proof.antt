@@ -6,9 +6,6 @@ use mathlib.Core.Bool.{or-false}
 use borrow.Author.Needs.{needs}
 use Rattle.packet.proofs.fields.wrong_field.Statement.{statement}
 use Rattle.packet.proofs.fields.wrong_field.Tie as tie
-use Rattle.packet.proofs.fields.wrong_field.Reads as reads
-use Rattle.packet.proofs.fields.wrong_field.Lts as lts
-use Rattle.packet.proofs.fields.length_field.Reads as length-field-reads
 
 returns : tie.Need-returns
 returns c = rw (not-is _ _ 0 (and-mask (c .before .args .one / 16) 3) (c .if1 .taken))

@@ -4,8 +4,6 @@ use Rattle.packet.specs.Completion.{withData}
 use borrow.Author.Needs.{needs}
 use Rattle.packet.proofs.reply.with_data.Statement.{statement}
 use Rattle.packet.proofs.reply.with_data.Tie as tie
-use Rattle.packet.proofs.reply.with_data.Reads as reads
-use Rattle.packet.proofs.reply.with_data.Lts as lts
 
 array-read-t8 : tie.Need-array-read-t8
 array-read-t8 c = search needs

@@ -3,8 +3,6 @@ use mathlib.Core.Path.{refl}
 use Rattle.packet.specs.Completion.{withoutData}
 use Rattle.packet.proofs.reply.without_data.Statement.{statement}
 use Rattle.packet.proofs.reply.without_data.Tie as tie
-use Rattle.packet.proofs.reply.without_data.Reads as reads
-use Rattle.packet.proofs.reply.without_data.Lts as lts
 
 returns : tie.Need-returns
 unfolding withoutData
