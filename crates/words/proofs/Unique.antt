@@ -4,9 +4,13 @@ use mathlib.Core.Bool.{Bool}
 use mathlib.Core.List.{List}
 use mathlib.Core.Path.{_≡_, sym, _∙_}
 use Rattle.words.specs.Bytes.{fourOrZero, Puts}
+use Rattle.words.specs.Fields.{wordOrZero}
 
 pub four-unique : (s : List ℕ) (at : ℕ) (r q : List ℕ) → r ≡ fourOrZero s at → q ≡ fourOrZero s at → r ≡ q
 four-unique s at r q e f = e ∙ sym f
+
+pub word-unique : (s : List ℕ) (at : ℕ) (r q : ℕ) → r ≡ wordOrZero s at → q ≡ wordOrZero s at → r ≡ q
+word-unique s at r q e f = e ∙ sym f
 
 pub put-unique : (s : List ℕ) (at : ℕ) (bytes : List ℕ) (r q : Bool) (l m : List ℕ) → Puts s at bytes r l → Puts s at bytes q m
     → (r ≡ q) × (l ≡ m)

@@ -1,6 +1,6 @@
 -- Bytes of a space, as document 01 speaks of them: the byte at an offset, the four bytes at an offset, a space with bytes put at an
 -- offset. Assumes nothing.
-use Prim.Native.Nat.{ℕ, _+_, _*_}
+use Prim.Native.Nat.{ℕ, _+_}
 use mathlib.Core.Bool.{Bool, cond}
 use mathlib.Core.Path.{_≡_}
 use mathlib.Core.List.{List, [], _∷_, _++_}

@@ -1,6 +1,9 @@
 -- Fields of bytes and words, in the words of document 01: "bits 6:4" of a byte, words little-endian. Assumes nothing.
 use Prim.Native.Nat.{ℕ, suc, _+_, _-_, _*_, _/_, _%_, _^_}
+use mathlib.Core.Bool.{cond}
 use mathlib.Core.List.{List}
+use lib.Dec.{leb}
+use lib.ListN.{length}
 use Rattle.words.specs.Bytes.{byte}
 
 -- bits high:low of a number, as a number
@@ -17,3 +20,7 @@ half s at = byte s at + 256 * byte s (at + 1)
 
 abbrev pub word : List ℕ → ℕ → ℕ
 word s at = byte s at + 256 * byte s (at + 1) + 65536 * byte s (at + 2) + 16777216 * byte s (at + 3)
+
+-- what `words::word` answers for any offset
+unfoldable pub wordOrZero : List ℕ → ℕ → ℕ
+wordOrZero s at = cond (leb (at + 4) (length s)) (word s at) 0

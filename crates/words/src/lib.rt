@@ -1,7 +1,9 @@
 // Bytes of a lent space: four of them at an offset, as a little-endian word, and a run of bytes stored.
 // Every function answers for every offset and length: what does not lie in the space reads as zeros, and is not stored.
 ghost use mathlib.Core.Path.{_≡_};
+ghost use Prim.Native.Nat.{_+_, _*_};
 ghost use Rattle.words.specs.Bytes.{fourOrZero, Puts};
+ghost use Rattle.words.specs.Fields.{wordOrZero};
 
 // The four bytes at `at`, or four zeros where they do not all lie in `space`.
 pub fn four(space: &[u8], at: usize) -> [u8; 4]
@@ -14,6 +16,21 @@ pub fn four(space: &[u8], at: usize) -> [u8; 4]
         return [0; 4];
     }
     [space[at], space[at + 1], space[at + 2], space[at + 3]]
+}
+
+// The word that four bytes make, the lowest address first.
+fn joined(first: u8, second: u8, third: u8, fourth: u8) -> u32
+    ensures { λ r. ⌜ r ≡ first + 256 * second + 65536 * third + 16777216 * fourth ⌝ }
+{
+    (fourth as u32) << 24 | (third as u32) << 16 | (second as u32) << 8 | first as u32
+}
+
+// The little-endian word at `at`, or 0 where its four bytes do not all lie in `space`.
+pub fn word(space: &[u8], at: usize) -> u32
+    ensures { λ r. ⌜ r ≡ wordOrZero (now (space .entry)) at ⌝ }
+{
+    let bytes = four(space, at);
+    joined(bytes[0], bytes[1], bytes[2], bytes[3])
 }
 
 // Stores `bytes` at `at`, and says whether they fitted. Where they do not, nothing is stored.

@@ -1,0 +1,9 @@
+pub mod OneChain
+pub mod NoRepeats
+pub mod Pointers
+pub mod Maxima
+pub mod Reaching
+pub mod Walking
+pub mod Decides
+pub mod Unique
+pub mod Traps

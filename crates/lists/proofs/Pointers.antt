@@ -1,0 +1,68 @@
+-- Laws of the pointers of the three lists: every pointer that is followed is a multiple of 4 below the span of its list, which a byte or
+-- twelve bits reach. Assumes nothing.
+use Prim.Native.Nat.{ℕ, _+_, _*_, _/_, _<_}
+use mathlib.Core.Bool.{Bool, true, false}
+use mathlib.Core.List.{List}
+use mathlib.Core.Path.{_≡_}
+use native.Mathlib.Nat.{mod-lt}
+use native.Mathlib.Omega.{arith}
+use lib.Dec.{eqb, lit<}
+use Rattle.words.specs.Bytes.{byte}
+use Rattle.words.specs.Fields.{bit, bits, word}
+use Rattle.lists.specs.declared.Kind.{Kind}
+use Rattle.lists.specs.declared.Kind.the-variants.{Compatible, Extended, Trusted}
+use Rattle.lists.specs.Table.{Description, describe, compatibleStart, extendedStart, trustedStart, compatibleNext, extendedNext, unlessEmpty}
+use Rattle.lists.specs.Chain.{dropped, first, follows}
+use Rattle.lists.specs.Chase.{Raw, Offset}
+
+-- every element of a lent space is a byte
+abbrev pub Bytes : List ℕ → Type 0
+Bytes s = (at : ℕ) → byte s at < 256
+
+-- what a list's pointers stay below
+abbrev pub span : Kind → ℕ
+span Compatible = 0x100
+span Extended = 0x1000
+span Trusted = 0x1000
+
+-- a pointer that may be followed, its bottom two bits dropped
+pub record Within (kind : Kind) (pointer : ℕ) : Type 0 where
+  pub aligned : pointer ≡ 4 * (pointer / 4)
+  pub below : pointer < span kind
+
+dropped-within : (kind : Kind) (pointer : ℕ) → pointer < span kind → Within kind (dropped pointer)
+dropped-within kind pointer h = record { aligned = omega arith; below = omega arith }
+
+unless-below : (empty : Bool) (start bound : ℕ) → 0 < bound → start < bound → unlessEmpty empty start < bound
+unless-below true start bound z h = z
+unless-below false start bound z h = h
+
+start-below : (kind : Kind) (s : List ℕ) → Bytes s → describe kind .start s < span kind
+unfolding compatibleStart extendedStart trustedStart
+start-below Compatible s b = unless-below (eqb (bit 4 (byte s 0x06)) 0) (byte s 0x34) 0x100 (lit< tt) (b 0x34)
+start-below Extended s b = unless-below (eqb (bits 15 0 (word s 0x100)) 0) 0x100 0x1000 (lit< tt) (lit< tt)
+start-below Trusted s b = mod-lt (word s 0x004 / 1) (lit< tt)
+
+next-below : (kind : Kind) (s : List ℕ) (at : ℕ) → Bytes s → describe kind .next s at < span kind
+unfolding compatibleNext extendedNext
+next-below Compatible s at b = b (at + 1)
+next-below Extended s at b = mod-lt (word s at / 1048576) (lit< tt)
+next-below Trusted s at b = mod-lt (word s at / 1048576) (lit< tt)
+
+pub first-within : (kind : Kind) (s : List ℕ) → Bytes s → Within kind (first (describe kind) s)
+unfolding first
+first-within kind s b = dropped-within kind (describe kind .start s) (start-below kind s b)
+
+pub follows-within : (kind : Kind) (s : List ℕ) (at : ℕ) → Bytes s → Within kind (follows (describe kind) s at)
+unfolding follows
+follows-within kind s at b = dropped-within kind (describe kind .next s at) (next-below kind s at b)
+
+-- the code's pointer, its bottom two bits dropped, is the one that the definitions drop them from
+pub first-offset : (d : Description) (s : List ℕ) {raw r : ℕ} → Raw (d .start s) raw → Offset (dropped raw) r → Offset (first d s) r
+unfolding first
+first-offset d s p o = record { is = rw (← p .is) (o .is); inside = o .inside }
+
+pub follows-offset : (d : Description) (s : List ℕ) (at : ℕ) {raw r : ℕ} → Raw (d .next s at) raw → Offset (dropped raw) r
+    → Offset (follows d s at) r
+unfolding follows
+follows-offset d s at p o = record { is = rw (← p .is) (o .is); inside = o .inside }

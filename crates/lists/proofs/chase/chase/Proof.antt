@@ -1,0 +1,119 @@
+-- `lists::chase::chase` meets its contract. The loop's invariant: the chase is underway, with `count` offsets in the log and `pointer` reached.
+-- Assumes nothing.
+use Prim.Native.Nat.{_-_}
+use mathlib.Core.List.{[], _∷_}
+use mathlib.Core.Path.{_≡_, refl, subst}
+use native.Mathlib.Omega.{arith}
+use borrow.Author.Needs.{needs}
+use lib.ListN.{length, length-set}
+use types.Run.{OneOf, miss}
+use denote.Enum.Declared.{tagOf}
+use Rattle.lists.specs.declared.chase.Step.{Step}
+use Rattle.lists.specs.declared.chase.Step.the-variants.{Next, End, Fault}
+use Rattle.lists.specs.Table.{describe}
+use Rattle.lists.specs.Chase.{Underway, Leads}
+use Rattle.lists.proofs.chase.Step.{the-type}
+use Rattle.lists.proofs.Reaching.{chase-ends, chase-breaks, next-inside, chase-full, chase-goes}
+use Rattle.lists.proofs.chase.chase.Statement.{statement}
+use Rattle.lists.proofs.chase.chase.Tie as tie
+
+-- what is left of a step that leads to no offset and is no end
+fault-only : (r : Step) → OneOf (0 ∷ 2 ∷ []) (tagOf the-type r) → OneOf (1 ∷ 2 ∷ []) (tagOf the-type r) → r ≡ Fault
+fault-only (Next at) p q = absurd (miss (1 ∷ 2 ∷ []) 0 tt q)
+fault-only End p q = absurd (miss (0 ∷ 2 ∷ []) 1 tt p)
+fault-only Fault p q = refl
+
+abbrev Inv-loop : tie.InvT-loop
+Inv-loop kind space log₀ passed from count₀ pointer₀ log count pointer = Underway kind space log count pointer × (length log ≡ length log₀)
+
+abbrev μ-loop : tie.MeasureT-loop
+μ-loop kind space log₀ passed from count₀ pointer₀ log count pointer = length log - count
+
+-- the step that led to an offset
+leads-next : (c : tie.After-known-told Inv-loop μ-loop)
+    → Leads (describe (c .before .before .before .before .before .before .before .args .kind)) (c .before .before .before .before .loop .pointer)
+    (Next (c .before .taken .given .0 .0))
+leads-next c = subst (Leads _ _) (c .before .taken .given .1) (c .before .before .before .step-to .ensures)
+
+loop-holds : tie.Need-loop-holds Inv-loop μ-loop
+loop-holds c = (c .before .before .pre, refl)
+
+step-to-requires : tie.Need-step-to-requires Inv-loop μ-loop
+step-to-requires c κs = search needs
+
+enum-known-taken : tie.Need-enum-known-taken Inv-loop μ-loop
+enum-known-taken c = search needs
+
+enum-told : tie.Need-enum-told Inv-loop μ-loop
+enum-told c = search needs
+
+same-length : tie.Need-same-length Inv-loop μ-loop
+same-length c = search needs
+
+returns : tie.Need-returns Inv-loop μ-loop
+returns c =
+    chase-ends (c .before .before .before .before .loop .inv .0) (subst (Leads _ _) (c .enum-told .given .1) (c .before .before .before .step-to .ensures))
+
+same-length-2 : tie.Need-same-length-2 Inv-loop μ-loop
+same-length-2 c = search needs
+
+returns-2 : tie.Need-returns-2 Inv-loop μ-loop
+returns-2 c =
+    let r = c .before .before .step-to in
+    chase-breaks (c .before .before .before .loop .inv .0) (subst (Leads _ _) (fault-only (r .result) (c .match2 .keys2) (c .before .match .keys2)) (r .ensures))
+
+same-length-3 : tie.Need-same-length-3 Inv-loop μ-loop
+same-length-3 c = search needs
+
+returns-3 : tie.Need-returns-3 Inv-loop μ-loop
+returns-3 c =
+    chase-full (c .before .before .before .before .before .loop .inv .0) (leads-next (c .before)) (c .if1 .taken)
+
+cast-log : tie.Need-cast-log Inv-loop μ-loop
+cast-log c = omega (arith, next-inside (c .before .before .before .before .before .loop .inv .0) (leads-next (c .before)))
+
+mul-log : tie.Need-mul-log Inv-loop μ-loop
+mul-log c = search needs
+
+slice-write-log : tie.Need-slice-write-log Inv-loop μ-loop
+slice-write-log c = search needs
+
+add-count : tie.Need-add-count Inv-loop μ-loop
+add-count c = search needs
+
+follow-requires : tie.Need-follow-requires Inv-loop μ-loop
+follow-requires c κs =
+    let u = c .before .before .before .before .before .loop .inv .0 in
+    (u .space, next-inside u (leads-next (c .before)))
+
+loop-less : tie.Need-loop-less Inv-loop μ-loop
+loop-less c = simp length-set (omega arith)
+
+loop-again : tie.Need-loop-again Inv-loop μ-loop
+loop-again c =
+    let i = c .before .before .before .before .before .before .loop .inv in
+    (chase-goes (i .0) (leads-next (c .before .before)) (c .before .if1 .left) (c .follow .ensures), simp length-set (i .1))
+
+pub chase-spec : {M : Type 1} → statement M
+chase-spec =
+    tie.close
+    (tie.spec
+    Inv-loop
+    μ-loop
+    loop-holds
+    step-to-requires
+    enum-known-taken
+    enum-told
+    same-length
+    returns
+    same-length-2
+    returns-2
+    same-length-3
+    returns-3
+    cast-log
+    mul-log
+    slice-write-log
+    add-count
+    follow-requires
+    loop-less
+    loop-again)

@@ -1,0 +1,43 @@
+-- What `lists::walk` promises of any list, space and room: document 01, "Three lists" and "Answer numbers". Assumes nothing.
+use Prim.Native.Nat.{ℕ, _≤_}
+use mathlib.Core.List.{List, _++_}
+use mathlib.Core.Path.{_≡_}
+use lib.ListN.{length, drop}
+use Rattle.answers.specs.Numbers.{answerOf}
+use Rattle.lists.specs.declared.Kind.{Kind}
+use Rattle.lists.specs.declared.Walked.{Walked}
+use Rattle.lists.specs.Table.{describe}
+use Rattle.lists.specs.Chain.{HasChain, NoChain}
+
+-- "Each is read from a lent space of 4,096 bytes."
+abbrev pub Space : List ℕ → Type 0
+Space s = length s ≡ 4096
+
+-- the list room is not "under the list's maximum"
+abbrev pub Roomy : Kind → List ℕ → Type 0
+Roomy kind room = describe kind .maximum ≤ length room
+
+-- document 01's number for the answer of a walk
+abbrev pub numberGiven : Walked → ℕ
+numberGiven r = answerOf (r .answer)
+
+-- "Every number but 0 leaves … list room unchanged, and reports … count 0"
+pub record Refuses (number : ℕ) (room : List ℕ) (r : Walked) (after : List ℕ) : Type 0 where
+  pub given : numberGiven r ≡ number
+  pub none : r .count ≡ 0
+  pub kept : after ≡ room
+
+-- "If one exists, the answer is 0, its offsets in order are in a lent list of 16-bit numbers, the rest of the list stays, and the count
+-- of headers read is the chain's length"
+pub record Lists (chain room : List ℕ) (r : Walked) (after : List ℕ) : Type 0 where
+  pub given : numberGiven r ≡ 0
+  pub counted : r .count ≡ length chain
+  pub listed : after ≡ chain ++ drop (length chain) room
+
+-- "the lowest applicable number is given": 1 the space, 2 the room, 7 no legal chain, 0 the legal chain
+pub data Walks (kind : Kind) (s room : List ℕ) (r : Walked) (after : List ℕ) : Type 0 where
+  misdescribed : (Space s → ⊥) → Refuses 1 room r after → Walks kind s room r after
+  roomless : Space s → (Roomy kind room → ⊥) → Refuses 2 room r after → Walks kind s room r after
+  broken : Space s → Roomy kind room → NoChain (describe kind) s → Refuses 7 room r after → Walks kind s room r after
+  listed : Space s → Roomy kind room → (chain : List ℕ) → HasChain (describe kind) s chain → Lists chain room r after
+      → Walks kind s room r after

@@ -1,0 +1,28 @@
+-- Document 01, "DVSEC and Dual-BDF": what each record requires, in the record's own order, "else" a number. Assumes nothing.
+use Prim.Native.Nat.{ℕ, _%_}
+use mathlib.Core.Bool.{Bool, true, not, _&&_, cond}
+use mathlib.Core.List.{List, [], _∷_}
+use lib.Dec.{eqb, leb}
+use lib.ListN.{length}
+use Rattle.answers.specs.Lowest.{Check, check}
+
+-- all of the facts hold
+abbrev pub all : List Bool → Bool
+all [] = true
+all (fact ∷ facts) = fact && all facts
+
+-- a fact, "else" a number
+abbrev pub required : Bool → ℕ → Check
+required fact n = check n (not fact)
+
+-- "0 for every field of a record" where a number but 0 is given
+abbrev pub toldFor : ℕ → ℕ → ℕ
+toldFor number value = cond (eqb number 0) value 0
+
+-- "after the space's size": 4,096 bytes
+unfoldable pub sized : List ℕ → Bool
+sized s = eqb (length s) 4096
+
+-- "asked for at a multiple of 4 from … to …"
+unfoldable pub placed : ℕ → ℕ → ℕ → Bool
+placed low high at = all (eqb (at % 4) 0 ∷ leb low at ∷ leb at high ∷ [])

@@ -1,0 +1,66 @@
+// What a Dual-BDF record requires, and its fields, by shift and mask.
+use crate::Alternate;
+ghost use mathlib.Core.Path.{_≡_};
+ghost use mathlib.Core.Bool.{true};
+ghost use Prim.Native.Nat.{_≤_, _<_};
+ghost use Rattle.words.specs.Fields.{bits};
+ghost use Rattle.records.specs.DualRule.{fitsDual, knownPair, isDual, oneSet, alternateOf};
+
+pub(crate) const VENDOR_SPECIFIC: u8 = 0x09;
+
+// The length of the record, as its capability and its DVSEC say it, and where the last may end.
+const CAPABILITY_LENGTH: u8 = 0x0c;
+
+const DVSEC_LENGTH: u32 = 0x00c;
+
+const END: usize = 0x100;
+
+pub(crate) fn fits_dual(at: usize, capability: u8, second: u32) -> bool
+    requires { ⌜ at ≤ 0x0fc ⌝ }
+    ensures { λ r. ⌜ r ≡ fitsDual at capability second ⌝ }
+{
+    if END < at + 12 {
+        return false;
+    }
+    if capability != CAPABILITY_LENGTH {
+        return false;
+    }
+    second >> 20 == DVSEC_LENGTH
+}
+
+pub(crate) fn is_dual(second: u32, third: u32) -> bool
+    ensures { λ r. ⌜ r ≡ isDual second third ⌝ }
+{
+    if (second >> 16) & 0xf != 0 {
+        return false;
+    }
+    known_pair(second & 0xffff, third & 0xffff)
+}
+
+// The vendors that write such a record, each with its ID.
+fn known_pair(vendor: u32, id: u32) -> bool
+    ensures { λ r. ⌜ r ≡ knownPair vendor id ⌝ }
+{
+    match vendor {
+        0x8086 => id == 0x0009,
+        0x1ec0 => id == 0x0002,
+        _ => false,
+    }
+}
+
+// A bit for each of eight functions.
+pub(crate) fn vector_of(third: u32) -> u32
+    ensures { λ r. ⌜ r ≡ bits 23 16 third ⌝ }
+{
+    (third >> 16) & 0xff
+}
+
+pub(crate) fn alternate_of(third: u32, vector: u32) -> Alternate
+    requires { ⌜ (vector < 256) × (oneSet vector ≡ true) ⌝ }
+    ensures { λ r. ⌜ r ≡ alternateOf third vector ⌝ }
+{
+    Alternate {
+        function: u32::trailing_zeros(vector) as u8,
+        device: ((third >> 24) & 0x1f) as u8,
+    }
+}
