@@ -1,4 +1,5 @@
 pub mod Laws
 pub mod Outcomes
 pub mod Keeps
+pub mod Lands
 pub mod Unique

@@ -8,7 +8,7 @@ use native.Mathlib.Omega.{arith}
 use lib.Bits.{bitAnd, and-mask}
 use lib.ListN.{length}
 use borrow.Author.Tests.{eq-eqb, ne-eqb}
-use Rattle.words.specs.Bytes.{byte}
+use Rattle.words.specs.Bytes.{four}
 use Rattle.words.specs.Fields.{bit}
 use Rattle.registers.specs.Merge.{lowest, merged, mergedByte, mergedBit, fromBits}
 use Rattle.registers.specs.Shown.{shown}
@@ -64,3 +64,8 @@ pub merged-byte-lt : (old rule new : ℕ) → mergedByte old rule new < 256
 unfolding mergedByte
 merged-byte-lt old rule new =
     from-bits-lt (λ j. mergedBit (bit j rule) (bit j old) (bit j new)) (λ j. merged-bit-small (bit j rule) (bit j old) (bit j new) (bit-small j old) (bit-small j new)) 8
+
+-- the four bytes of a merge are the merge
+pub merged-four : (old rules new : List ℕ) (enables : ℕ) → four (merged old rules new enables) 0 ≡ merged old rules new enables
+unfolding merged
+merged-four old rules new enables = refl

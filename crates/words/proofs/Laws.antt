@@ -1,14 +1,15 @@
 -- Laws of the bytes of a space, for the proofs above: what `four`, `word` and `put` come to inside and outside the space, and what stands in a
 -- space after a `put`. Assumes nothing.
-use Prim.Native.Nat.{ℕ, _+_, _≤_, _<_}
+use Prim.Native.Nat.{ℕ, _+_, _-_, _≤_, _<_}
 use mathlib.Core.Bool.{Bool, true, false, cond}
-use mathlib.Core.List.{List, [], _∷_}
-use mathlib.Core.Path.{_≡_, refl, sym, _∙_}
+use mathlib.Core.List.{List, [], _∷_, _++_}
+use mathlib.Core.Path.{_≡_, refl, sym, ap, _∙_}
 use native.Mathlib.Omega.{arith}
 use borrow.Author.Tests.{le-leb, lt-leb}
 use lib.Dec.{leb}
-use lib.ListN.{length, length-append, length-take, length-drop}
-use Rattle.words.specs.Bytes.{four, put, fourOrZero, Puts}
+use lib.Seq.{length-take-le, getD-take, getD-drop, getD-append-add}
+use lib.ListN.{length, length-append, length-take, length-drop, getD, take, drop, List·getD-append}
+use Rattle.words.specs.Bytes.{byte, four, put, fourOrZero, Puts}
 use Rattle.words.specs.Fields.{word, wordOrZero}
 
 pub four-inside : (s : List ℕ) (at : ℕ) → at + 4 ≤ length s → fourOrZero s at ≡ four s at
@@ -49,3 +50,34 @@ module _ (s : List ℕ) (at : ℕ) (bytes : List ℕ) where
 
   pub put-length : at + length bytes ≤ length s → length (put s at bytes) ≡ length s
   put-length h = simp (length-append, length-take, length-drop) (omega arith)
+
+  -- what stands in a space after a `put`: the bytes there, and every other byte as it was
+  module _ (h : at + length bytes ≤ length s) where
+    before-length : length (take at s ++ bytes) ≡ at + length bytes
+    before-length = simp (length-append, length-take) (omega arith)
+
+    pub put-there : (k : ℕ) → k < length bytes → byte (put s at bytes) (at + k) ≡ byte bytes k
+    put-there k small =
+        List·getD-append (take at s ++ bytes) (drop (at + length bytes) s) 0 (at + k) (rw before-length (omega arith))
+        ∙ ap (λ (n : ℕ). getD (take at s ++ bytes) (n + k) 0) (sym (length-take-le at s (omega arith)))
+        ∙ getD-append-add (take at s) bytes k 0
+
+    pub put-before : (k : ℕ) → k < at → byte (put s at bytes) k ≡ byte s k
+    put-before k small =
+        List·getD-append (take at s ++ bytes) (drop (at + length bytes) s) 0 k (rw before-length (omega arith))
+        ∙ List·getD-append (take at s) bytes 0 k (rw (length-take-le at s (omega arith)) small)
+        ∙ getD-take at s k 0 small
+
+    pub put-after : (k : ℕ) → at + length bytes ≤ k → byte (put s at bytes) k ≡ byte s k
+    put-after k large =
+        let j : ℕ = k - (at + length bytes) in
+        ap (getD′ (put s at bytes)) (split ∙ ap (λ (n : ℕ). n + j) (sym before-length))
+        ∙ getD-append-add (take at s ++ bytes) (drop (at + length bytes) s) j 0
+        ∙ getD-drop (at + length bytes) s j 0
+        ∙ ap (getD′ s) (sym split)
+      where
+        getD′ : List ℕ → ℕ → ℕ
+        getD′ l n = getD l n 0
+
+        split : k ≡ (at + length bytes) + (k - (at + length bytes))
+        split = omega arith
