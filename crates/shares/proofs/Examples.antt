@@ -1,0 +1,104 @@
+-- Packets, boards and runs for the examples: runs A and B of the first half, C and D of the second (docs/SHARED.md shows A and B).
+-- Assumes nothing.
+use Prim.Native.Nat.{ℕ}
+use mathlib.Core.List.{List, [], _∷_, _++_}
+use Rattle.capture.specs.declared.Capture.{Capture}
+use Rattle.capture.specs.declared.Capture.the-variants.{Nothing, Number}
+use Rattle.board.specs.Description.{Space, Board}
+use Rattle.runs.specs.Run.{Event, packet, reset}
+use Rattle.runs.specs.Bench.{zeros, holding, benchRules, p2, changed}
+
+-- ---- packets, by bytes 10 and 11, and for a write its enables and data
+
+abbrev pub readAt : ℕ → ℕ → List ℕ
+readAt ten eleven = 0x04 ∷ 0x00 ∷ 0x00 ∷ 0x01 ∷ 0x01 ∷ 0x00 ∷ 0x09 ∷ 0x0f ∷ 0x05 ∷ 0x18 ∷ ten ∷ eleven ∷ []
+
+abbrev pub trustedReadAt : ℕ → ℕ → List ℕ
+trustedReadAt ten eleven = 0x1b ∷ 0x00 ∷ 0x00 ∷ 0x01 ∷ 0x01 ∷ 0x00 ∷ 0x08 ∷ 0x0f ∷ 0x05 ∷ 0x18 ∷ ten ∷ eleven ∷ []
+
+abbrev pub trustedWriteAt : ℕ → ℕ → ℕ → List ℕ → List ℕ
+trustedWriteAt enables ten eleven new =
+    (0x5b ∷ 0x00 ∷ 0x00 ∷ 0x01 ∷ 0x01 ∷ 0x00 ∷ 0x0a ∷ enables ∷ 0x05 ∷ 0x18 ∷ ten ∷ eleven ∷ []) ++ new
+
+-- a packet with a reply of 16 bytes
+abbrev pub sent : List ℕ → Event
+sent bytes = packet bytes 16
+
+-- ---- boards
+
+-- by the function number, A and B, the capture, and the ordinary and the trusted space
+abbrev pub boardOf : ℕ → ℕ → ℕ → Capture → Space → Space → Board
+boardOf function a b kept ordinary trusted =
+    record { description = record { function = function; a = a; b = b }; capture = kept; ordinary = ordinary; trusted = trusted }
+
+abbrev pub spaceOf : List ℕ → List ℕ → Space
+spaceOf bytes rules = record { bytes = bytes; rules = rules }
+
+-- function 0, A 104h, B 00Ch, bus 05h and device 3 captured
+abbrev pub usual : Space → Space → Board
+usual ordinary trusted = boardOf 0 0x104 0x00c (Number 0x05 0x03) ordinary trusted
+
+abbrev pub ones : List ℕ
+ones = 0xff ∷ 0xff ∷ 0xff ∷ 0xff ∷ []
+
+-- zero but for four bytes, all of them writable there
+abbrev pub register : ℕ → Space
+register at = spaceOf (holding at (0x01 ∷ 0x02 ∷ 0x03 ∷ 0x04 ∷ [])) (holding at ones)
+
+-- ---- the first half: B at 00Ch and at 010h, each holding the same four bytes; stale bytes at A in both
+
+abbrev pub boardA : Board
+boardA = boardOf 0 0x104 0x00c Nothing (spaceOf (holding 0x104 (0xaa ∷ 0xaa ∷ 0xaa ∷ 0xaa ∷ [])) benchRules) (register 0x00c)
+
+abbrev pub boardB : Board
+boardB = boardOf 0 0x104 0x010 Nothing (spaceOf (holding 0x104 (0xaa ∷ 0xaa ∷ 0xaa ∷ 0xaa ∷ [])) benchRules) (register 0x010)
+
+-- an ordinary write that captures; the register is given a new value; a read at A; a reset; a read of what was written
+abbrev pub runA : List Event
+runA =
+    sent p2
+    ∷ sent (trustedWriteAt 0x0f 0x00 0x0c (0x5a ∷ 0x6b ∷ 0x7c ∷ 0x8d ∷ []))
+    ∷ sent (readAt 0x01 0x04)
+    ∷ reset
+    ∷ sent (readAt 0x00 0x04)
+    ∷ []
+
+-- the same, but that the register gets its value in two halves, with a trusted read between, and another is refused after the reset
+abbrev pub runB : List Event
+runB =
+    sent p2
+    ∷ sent (trustedWriteAt 0x03 0x00 0x10 (0x5a ∷ 0x6b ∷ 0x00 ∷ 0x00 ∷ []))
+    ∷ sent (trustedReadAt 0x00 0x10)
+    ∷ sent (trustedWriteAt 0x0c 0x00 0x10 (0x00 ∷ 0x00 ∷ 0x7c ∷ 0x8d ∷ []))
+    ∷ sent (readAt 0x01 0x04)
+    ∷ reset
+    ∷ sent (trustedReadAt 0x00 0x10)
+    ∷ sent (readAt 0x00 0x04)
+    ∷ []
+
+-- ---- the second half: other A and B, ordinary bytes, ordinary rules and capture
+
+abbrev pub boardC : Board
+boardC = boardOf 0 0x104 0x00c Nothing (spaceOf zeros benchRules) (register 0x010)
+
+abbrev pub boardD : Board
+boardD = boardOf 0 0x108 0x010 (Number 0x07 0x01) (spaceOf (holding 0x004 ones) zeros) (register 0x010)
+
+-- a write that captures; a trusted write and a trusted read
+abbrev pub runC : List Event
+runC =
+    sent p2 ∷ sent (trustedWriteAt 0x0f 0x00 0x10 (0x5a ∷ 0x6b ∷ 0x7c ∷ 0x8d ∷ [])) ∷ sent (trustedReadAt 0x00 0x10) ∷ []
+
+-- the same trusted packets, among resets, an empty packet, a read at A, and writes that capture another bus and then the same again
+abbrev pub runD : List Event
+runD =
+    reset
+    ∷ sent []
+    ∷ sent (changed p2 0xb 0x08)
+    ∷ sent (trustedWriteAt 0x0f 0x00 0x10 (0x5a ∷ 0x6b ∷ 0x7c ∷ 0x8d ∷ []))
+    ∷ sent (changed p2 0x8 0x09)
+    ∷ sent (readAt 0x01 0x08)
+    ∷ reset
+    ∷ sent (changed p2 0xb 0x0c)
+    ∷ sent (trustedReadAt 0x00 0x10)
+    ∷ []

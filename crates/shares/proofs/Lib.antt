@@ -1,0 +1,10 @@
+pub mod TwoRuns
+pub mod Alike
+pub mod Boards
+pub mod FirstHalf
+pub mod SecondHalf
+pub mod Half
+pub mod Entries
+pub mod Examples
+pub mod Needed
+pub mod Bite

@@ -1,0 +1,219 @@
+-- Each premise of demand 3 is needed: without it the half is false, by two runs of boards that meet all the rest and disagree in an answer
+-- or in a reply. Runs that differ in the correlation register alone disagree in an ordinary answer; runs that differ in the capture at a
+-- trusted packet alone disagree in a trusted answer. So the two spaces do share something. Assumes nothing.
+use Prim.Native.Nat.{ℕ}
+use mathlib.Core.Bool.{Bool, true, false, not}
+use mathlib.Core.List.{List, [], _∷_, map}
+use mathlib.Core.Option.{Option}
+use mathlib.Core.Path.{_≡_, refl, ap}
+use lib.Dec.{eqb}
+use lib.ListN.{getD}
+use borrow.Author.Tests.{eqb-false}
+use Rattle.registers.specs.Merge.{mergedByte, merged}
+use Rattle.registers.specs.Shown.{shown}
+use Rattle.words.specs.Bytes.{byte}
+use Rattle.packet.specs.Fields.{typeOf}
+use Rattle.packet.specs.Request.{requestOf}
+use Rattle.packet.specs.Completion.{withData, withoutData}
+use Rattle.capture.specs.declared.Capture.{Capture}
+use Rattle.capture.specs.declared.Capture.the-variants.{Nothing, Number}
+use Rattle.capture.specs.Kept.{completer}
+use Rattle.board.specs.Description.{Space, Board, WellDescribed}
+use Rattle.board.specs.Access.{unsupported, storedBytes, storedBesides, afterWrite, shownWord}
+use Rattle.board.specs.Serving.{respond, serve}
+use Rattle.runs.specs.Run.{Event, packet, reset, after}
+use Rattle.runs.specs.Bench.{zeros, holding, benchRules, p1, p2}
+use Rattle.shares.specs.Kinds.{only}
+use Rattle.shares.specs.Views.{OrdinaryState, TrustedState, Shown, ordinaryState, trustedState, ordinaryEvents, trustedPackets, ordinaryShown, trustedShown, correlations, captures}
+use Rattle.shares.proofs.Half.{Half}
+use Rattle.shares.proofs.FirstHalf.{first-half}
+use Rattle.shares.proofs.SecondHalf.{second-half}
+use Rattle.shares.proofs.Examples.{readAt, trustedReadAt, trustedWriteAt, sent, boardOf, spaceOf, usual, ones}
+
+-- ---- the statements
+
+-- what a half is about: a state, the events that are compared, the shared value at each of them, what is shown
+pub record About (State Shared : Type 0) : Type 0 where
+  pub state : Board → State
+  pub events : List Event → List Event
+  pub cells : Board → List Event → Shared
+  pub shows : Board → List Event → List Shown
+
+abbrev pub ordinary : About OrdinaryState (List (Option (List ℕ)))
+ordinary = record { state = ordinaryState; events = ordinaryEvents; cells = correlations; shows = ordinaryShown }
+
+abbrev pub trusted : About TrustedState (List Capture)
+trusted = record { state = trustedState; events = trustedPackets; cells = captures; shows = trustedShown }
+
+-- a half of demand 3 that asks something of each board, and compares a part of the states, of the events and of the shared values
+abbrev pub Asking : {State Shared S E C : Type 0} → About State Shared → (Board → Type 0) → (State → S) → (List Event → E) → (Shared → C) → Type 0
+Asking half fit states events shared =
+    Half (λ d es. fit d) (λ d. states (half .state d)) (λ es. events (half .events es)) (λ d es. shared (half .cells d es)) (half .shows) after
+
+-- the whole is compared, or nothing
+abbrev pub whole : {A : Type 0} → A → A
+whole x = x
+
+abbrev pub nothing : {A : Type 0} → A → Unit {0}
+nothing x = tt
+
+-- a state but for one part
+abbrev pub butFunction : OrdinaryState → OrdinaryState
+butFunction s = record { function = 0; a = s .a; space = s .space; capture = s .capture }
+
+abbrev pub butA : OrdinaryState → OrdinaryState
+butA s = record { function = s .function; a = 0; space = s .space; capture = s .capture }
+
+abbrev pub butCapture : OrdinaryState → OrdinaryState
+butCapture s = record { function = s .function; a = s .a; space = s .space; capture = Nothing }
+
+abbrev pub butBytes : Space → Space
+butBytes s = record { bytes = []; rules = s .rules }
+
+abbrev pub butRules : Space → Space
+butRules s = record { bytes = s .bytes; rules = [] }
+
+abbrev pub inOrdinary : (Space → Space) → OrdinaryState → OrdinaryState
+inOrdinary but s = record { function = s .function; a = s .a; space = but (s .space); capture = s .capture }
+
+abbrev pub butTrustedFunction : TrustedState → TrustedState
+butTrustedFunction s = record { function = 0; space = s .space }
+
+abbrev pub inTrusted : (Space → Space) → TrustedState → TrustedState
+inTrusted but s = record { function = s .function; space = but (s .space) }
+
+-- events but for the packets' bytes, but for the reply sizes, or but for where the resets stand between the packets
+abbrev pub isReset : Event → Bool
+isReset (packet bytes size) = false
+isReset reset = true
+
+abbrev pub noBytes : Event → Event
+noBytes (packet bytes size) = packet [] size
+noBytes reset = reset
+
+abbrev pub noSize : Event → Event
+noSize (packet bytes size) = packet bytes 0
+noSize reset = reset
+
+abbrev pub butPlaces : List Event → List Event × List Event
+butPlaces es = (only (λ e. not (isReset e)) es, only isReset es)
+
+-- the first half holds with all that it asks, and with one thing less it is false: the correlation register; the function number, A, the
+-- ordinary bytes, the ordinary rules, the capture; the packets, their reply sizes, the order of the resets; that both are well described
+abbrev pub FirstPremisesNeeded : Type 0
+FirstPremisesNeeded =
+    Asking ordinary WellDescribed whole whole whole
+    × (¬ Asking ordinary WellDescribed whole whole nothing)
+    × (¬ Asking ordinary WellDescribed butFunction whole whole)
+    × (¬ Asking ordinary WellDescribed butA whole whole)
+    × (¬ Asking ordinary WellDescribed (inOrdinary butBytes) whole whole)
+    × (¬ Asking ordinary WellDescribed (inOrdinary butRules) whole whole)
+    × (¬ Asking ordinary WellDescribed butCapture whole whole)
+    × (¬ Asking ordinary WellDescribed whole (map noBytes) whole)
+    × (¬ Asking ordinary WellDescribed whole (map noSize) whole)
+    × (¬ Asking ordinary WellDescribed whole butPlaces whole)
+    × (¬ Asking ordinary (λ d. Unit {0}) whole whole whole)
+
+-- the second half likewise: the capture at each trusted packet; the function number, the trusted bytes, the trusted rules; the packets, their
+-- reply sizes; that both are well described
+abbrev pub SecondPremisesNeeded : Type 0
+SecondPremisesNeeded =
+    Asking trusted WellDescribed whole whole whole
+    × (¬ Asking trusted WellDescribed whole whole nothing)
+    × (¬ Asking trusted WellDescribed butTrustedFunction whole whole)
+    × (¬ Asking trusted WellDescribed (inTrusted butBytes) whole whole)
+    × (¬ Asking trusted WellDescribed (inTrusted butRules) whole whole)
+    × (¬ Asking trusted WellDescribed whole (map noBytes) whole)
+    × (¬ Asking trusted WellDescribed whole (map noSize) whole)
+    × (¬ Asking trusted (λ d. Unit {0}) whole whole whole)
+
+-- ---- the witnesses
+
+-- it is false if two runs meet what is asked and one number tells what they show apart
+refuted : {State Shared S E C : Type 0} (half : About State Shared) (fit : Board → Type 0) (states : State → S) (events : List Event → E)
+    (shared : Shared → C) (d e : Board) (es fs : List Event) → fit d → fit e → states (half .state d) ≡ states (half .state e)
+    → events (half .events es) ≡ events (half .events fs) → shared (half .cells d es) ≡ shared (half .cells e fs) → (tell : List Shown → ℕ)
+    → eqb (tell (half .shows d es)) (tell (half .shows e fs)) ≡ false → ¬ Asking half fit states events shared
+refuted half fit states events shared d e es fs w u v o k tell differ h = eqb-false _ _ differ (ap tell (h d e es fs w u v o k .0))
+
+-- the n-th answer, and a byte of the n-th reply
+abbrev pub nth : ℕ → List Shown → Shown
+nth n l = getD l n (record { number = 0; written = []; bytes = [] })
+
+abbrev answer : ℕ → List Shown → ℕ
+answer n l = nth n l .number
+
+abbrev replied : ℕ → ℕ → List Shown → ℕ
+replied n at l = byte (nth n l .written) at
+
+-- a space of zeros with the bench sheet's rules, one with FFh in four places, one where nothing is writable; runs of one or two packets
+abbrev zero : Space
+zero = spaceOf zeros benchRules
+
+abbrev full : ℕ → Space
+full at = spaceOf (holding at ones) benchRules
+
+abbrev shut : Space
+shut = spaceOf zeros zeros
+
+abbrev atA : List Event
+atA = sent (readAt 0x01 0x04) ∷ []
+
+abbrev at4 : List Event
+at4 = sent (readAt 0x00 0x04) ∷ []
+
+abbrev written4 : List Event
+written4 = sent p2 ∷ at4
+
+abbrev trusted4 : List Event
+trusted4 = sent p1 ∷ []
+
+abbrev stored4 : List Event
+stored4 = sent (trustedWriteAt 0x0f 0x00 0x04 ones) ∷ trusted4
+
+pub first-premises-needed : FirstPremisesNeeded
+unfolding serve respond unsupported storedBytes storedBesides afterWrite shownWord requestOf typeOf withData withoutData completer merged mergedByte shown
+first-premises-needed = (
+  first-half,
+  refuted ordinary WellDescribed whole whole nothing (usual zero zero) (usual zero (full 0x00c)) atA atA
+      refl refl refl refl refl (replied 0 12) refl,
+  refuted ordinary WellDescribed butFunction whole whole (usual zero zero) (boardOf 1 0x104 0x00c (Number 0x05 0x03) zero zero) at4 at4
+      refl refl refl refl refl (replied 0 6) refl,
+  refuted ordinary WellDescribed butA whole whole (usual (full 0x104) zero) (boardOf 0 0x108 0x00c (Number 0x05 0x03) (full 0x104) zero) atA atA
+      refl refl refl refl refl (replied 0 12) refl,
+  refuted ordinary WellDescribed (inOrdinary butBytes) whole whole (usual zero zero) (usual (full 0x004) zero) at4 at4
+      refl refl refl refl refl (replied 0 12) refl,
+  refuted ordinary WellDescribed (inOrdinary butRules) whole whole (usual zero zero) (usual shut zero) written4 written4
+      refl refl refl refl refl (replied 1 12) refl,
+  refuted ordinary WellDescribed butCapture whole whole (usual zero zero) (boardOf 0 0x104 0x00c Nothing zero zero) at4 at4
+      refl refl refl refl refl (replied 0 4) refl,
+  refuted ordinary WellDescribed whole (map noBytes) whole (usual (full 0x004) zero) (usual (full 0x004) zero) at4 (sent (readAt 0x00 0x08) ∷ [])
+      refl refl refl refl refl (replied 0 12) refl,
+  refuted ordinary WellDescribed whole (map noSize) whole (usual zero zero) (usual zero zero) (packet [] 15 ∷ []) (packet [] 16 ∷ [])
+      refl refl refl refl refl (answer 0) refl,
+  refuted ordinary WellDescribed whole butPlaces whole (usual zero zero) (usual zero zero)
+      (reset ∷ sent (readAt 0x00 0x04) ∷ []) (sent (readAt 0x00 0x04) ∷ reset ∷ [])
+      refl refl refl refl refl (replied 0 4) refl,
+  refuted ordinary (λ d. Unit {0}) whole whole whole (usual zero zero) (usual zero (spaceOf [] [])) (sent [] ∷ []) (sent [] ∷ [])
+      tt tt refl refl refl (answer 0) refl,
+)
+
+pub second-premises-needed : SecondPremisesNeeded
+unfolding serve respond unsupported storedBytes storedBesides afterWrite shownWord requestOf typeOf withData withoutData completer merged mergedByte shown
+second-premises-needed = (
+  second-half,
+  refuted trusted WellDescribed whole whole nothing (usual zero zero) (boardOf 0 0x104 0x00c Nothing zero zero) trusted4 trusted4
+      refl refl refl refl refl (replied 0 6) refl,
+  refuted trusted WellDescribed butTrustedFunction whole whole (usual zero zero) (boardOf 1 0x104 0x00c (Number 0x05 0x03) zero zero) trusted4 trusted4
+      refl refl refl refl refl (replied 0 6) refl,
+  refuted trusted WellDescribed (inTrusted butBytes) whole whole (usual zero zero) (usual zero (full 0x004)) trusted4 trusted4
+      refl refl refl refl refl (replied 0 12) refl,
+  refuted trusted WellDescribed (inTrusted butRules) whole whole (usual zero zero) (usual zero shut) stored4 stored4
+      refl refl refl refl refl (replied 1 12) refl,
+  refuted trusted WellDescribed whole (map noBytes) whole (usual zero (full 0x004)) (usual zero (full 0x004)) trusted4 (sent (trustedReadAt 0x00 0x08) ∷ [])
+      refl refl refl refl refl (replied 0 12) refl,
+  refuted trusted WellDescribed whole (map noSize) whole (usual zero zero) (usual zero zero) trusted4 (packet p1 15 ∷ [])
+      refl refl refl refl refl (answer 0) refl,
+  refuted trusted (λ d. Unit {0}) whole whole whole (usual zero zero) (usual (spaceOf [] []) zero) trusted4 trusted4
+      tt tt refl refl refl (answer 0) refl,
+)

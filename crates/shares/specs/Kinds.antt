@@ -1,0 +1,20 @@
+-- Events of a kind within a run, for any states, events and step: "The n-th packet of a kind in one run is compared with the n-th of
+-- that kind in the other". Assumes nothing.
+use mathlib.Core.Bool.{Bool, true, false}
+use mathlib.Core.List.{List, [], _∷_}
+
+-- x in front of the list, if it counts
+abbrev pub keep : {A : Type 0} → Bool → A → List A → List A
+keep true x xs = x ∷ xs
+keep false x xs = xs
+
+module _ {Event : Type 0} (counts : Event → Bool) where
+  -- the events that count, in their order
+  abbrev pub only : List Event → List Event
+  only [] = []
+  only (e ∷ es) = keep (counts e) e (only es)
+
+  -- a value for each event that counts, in their order, made of the state before it and the event; `next` gives the state after it
+  abbrev pub along : {State Value : Type 0} (next : State → Event → State) (value : State → Event → Value) → State → List Event → List Value
+  along next value s [] = []
+  along next value s (e ∷ es) = keep (counts e) (value s e) (along next value (next s e) es)

@@ -1,0 +1,29 @@
+-- Demand 3, both halves, over demand 2's definition of serving. Assumes nothing.
+use mathlib.Core.List.{List}
+use mathlib.Core.Path.{_≡_}
+use Rattle.board.specs.Description.{Board, WellDescribed}
+use Rattle.runs.specs.Run.{Event, after}
+use Rattle.shares.specs.Views.{ordinaryEvents, trustedPackets, ordinaryState, trustedState, ordinaryShown, trustedShown, correlations, captures}
+
+-- "Take two runs of a well-described board from the same ordinary state, with the same ordinary packets, reply sizes for them and resets
+-- in the same order. Let trusted bytes, trusted write rules and trusted packets differ in any way. If the correlation register holds the
+-- same value in both whenever an ordinary packet is served, all ordinary answers, written reply bytes and ordinary bytes agree": at each
+-- ordinary packet, and at the end, with the rest of the ordinary state. "B may differ between the two runs in its first half".
+abbrev pub FirstHalf : Type 0
+FirstHalf =
+    (d e : Board) (es fs : List Event) → WellDescribed d → WellDescribed e
+    → ordinaryState d ≡ ordinaryState e
+    → ordinaryEvents es ≡ ordinaryEvents fs
+    → correlations d es ≡ correlations e fs
+    → (ordinaryShown d es ≡ ordinaryShown e fs) × (ordinaryState (after d es) ≡ ordinaryState (after e fs))
+
+-- "The other way round, with the same function number, trusted packets, their reply sizes, trusted bytes and rules, and equal capture at
+-- each trusted packet, all trusted answers, written reply bytes and trusted bytes agree": at each trusted packet, and at the end. "A, B
+-- and all ordinary bytes, rules, packets and resets may differ in its second [half]."
+abbrev pub SecondHalf : Type 0
+SecondHalf =
+    (d e : Board) (es fs : List Event) → WellDescribed d → WellDescribed e
+    → trustedState d ≡ trustedState e
+    → trustedPackets es ≡ trustedPackets fs
+    → captures d es ≡ captures e fs
+    → (trustedShown d es ≡ trustedShown e fs) × (trustedState (after d es) ≡ trustedState (after e fs))
