@@ -21,3 +21,11 @@ for link in $(grep -ohE '\]\([A-Za-z0-9_./-]+\)' README.md docs/*.md samples/*.m
     [ -e "$link" ] || [ -e "docs/$link" ] || [ -e "samples/$link" ] || { echo "FAILED a page links $link, which is not there"; bad=1; }
 done
 [ "$bad" -eq 0 ] && echo "ok every link of README and docs/ leads somewhere"
+bad=0 seen=0
+for edit in $(grep -oE '(must-fail|\|) [a-z0-9_]+/[a-z0-9_-]+(, [a-z0-9_]+/[a-z0-9_-]+)*' docs/TRACE.md | grep -oE '[a-z0-9_]+/[a-z0-9_-]+' | sort -u); do
+    crate=${edit%%/*}
+    [ -d "crates/$crate" ] || continue
+    seen=$((seen + 1))
+    [ -f "crates/$crate/must-fail/${edit#*/}.edit" ] || { echo "FAILED docs/TRACE.md cites the edit $edit, which is not there"; bad=1; }
+done
+[ "$bad" -eq 0 ] && [ "$seen" -gt 0 ] && echo "ok $seen must-fail edits that docs/TRACE.md cites are there"

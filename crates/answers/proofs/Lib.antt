@@ -1,2 +1,2 @@
-pub mod Lowest
+pub mod Checks
 pub mod Unique

@@ -17,19 +17,19 @@ use Rattle.capture.specs.declared.Capture.{Capture}
 use Rattle.capture.specs.Kept.{captured}
 use Rattle.board.specs.declared.Description.{Description}
 use Rattle.board.specs.Description.{Board, ranges, outOfRange, WellDescribed, afterReset}
-use Rattle.board.specs.Access.{unsupported, storedBytes, storedBesides, afterWrite}
+use Rattle.board.specs.Access.{unsupported, storedBytes, storedOrdinary, afterWrite}
 use Rattle.board.specs.Serving.{respond, serveNumber, byNumber, serve}
 use Rattle.board.proofs.Laws.{Well, well-described, none-of}
 use Rattle.board.proofs.Outcomes.{respond-unsupported, respond-write, respond-read}
 
 -- what serving keeps, stated of the board before and the board after
-pub record Kept (d e : Board) : Type 0 where
+pub record Keeping (d e : Board) : Type 0 where
   pub description : e .description ≡ d .description
-  pub rules : e .ordinary .rules ≡ d .ordinary .rules
-  pub limits : e .trusted .rules ≡ d .trusted .rules
+  pub ordinaryRules : e .ordinary .rules ≡ d .ordinary .rules
+  pub trustedRules : e .trusted .rules ≡ d .trusted .rules
 
 abbrev pub ServeKeeps : Type 0
-ServeKeeps = (d : Board) (p : List ℕ) (size : ℕ) → Kept d (serve d p size .after)
+ServeKeeps = (d : Board) (p : List ℕ) (size : ℕ) → Keeping d (serve d p size .after)
 
 abbrev pub ServeKeepsWell : Type 0
 ServeKeepsWell = (d : Board) (p : List ℕ) (size : ℕ) → WellDescribed d → WellDescribed (serve d p size .after)
@@ -54,19 +54,19 @@ module _ (P : Board → Type 0) (d : Board) where
 
 -- ---- the description and the rules
 
-kept-write : (d : Board) (q : Request) (new : List ℕ) (trusted : Bool) → isTrusted (q .target) ≡ trusted → Kept d (afterWrite d q new)
+kept-write : (d : Board) (q : Request) (new : List ℕ) (trusted : Bool) → isTrusted (q .target) ≡ trusted → Keeping d (afterWrite d q new)
 unfolding afterWrite
-kept-write d q new true t = rw t (record { description = refl; rules = refl; limits = refl })
-kept-write d q new false t = rw t (record { description = refl; rules = refl; limits = refl })
+kept-write d q new true t = rw t (record { description = refl; ordinaryRules = refl; trustedRules = refl })
+kept-write d q new false t = rw t (record { description = refl; ordinaryRules = refl; trustedRules = refl })
 
 pub serve-keeps : ServeKeeps
 serve-keeps d p size =
-    after-serving (Kept d) d p size (record { description = refl; rules = refl; limits = refl }) (kept-write d (requestOf p) (dataOf p) _ refl)
+    after-serving (Keeping d) d p size (record { description = refl; ordinaryRules = refl; trustedRules = refl }) (kept-write d (requestOf p) (dataOf p) _ refl)
 
 -- ---- well described
 
 pub described-well : (d : Board) → Well d → WellDescribed d
-described-well d w = rw (w .bytes, w .rules, w .guarded, w .limits, w .inRange)
+described-well d w = rw (w .ordinaryBytes, w .ordinaryRules, w .trustedBytes, w .trustedRules, w .inRange)
 
 captured-range : (d : Description) (kept : Capture) (bus device : ℕ) → device ≤ 31 → outOfRange d kept ≡ false
     → outOfRange d (captured kept bus device) ≡ false
@@ -80,8 +80,8 @@ unfolding storedBytes
 stored-length space rules q new e h = put-length space (q .offset) _ (rw merged-length (omega arith)) ∙ e
 
 besides-length : (a : ℕ) (space rules : List ℕ) (q : Request) (new : List ℕ) (at : Bool) → eqb (q .offset) a ≡ at → length space ≡ 4096
-    → q .offset + 4 ≤ 4096 → length (storedBesides a space rules q new) ≡ 4096
-unfolding storedBesides
+    → q .offset + 4 ≤ 4096 → length (storedOrdinary a space rules q new) ≡ 4096
+unfolding storedOrdinary
 besides-length a space rules q new true at e h = rw at e
 besides-length a space rules q new false at e h = rw at (stored-length space rules q new e h)
 
@@ -89,14 +89,14 @@ well-write : (d : Board) (q : Request) (new : List ℕ) (trusted : Bool) → isT
     → Well d → WellDescribed (afterWrite d q new)
 unfolding afterWrite
 well-write d q new true t h k w =
-    rw (t, w .bytes, w .rules, stored-length (d .trusted .bytes) (d .trusted .rules) q new (w .guarded) h, w .limits, w .inRange)
+    rw (t, w .ordinaryBytes, w .ordinaryRules, stored-length (d .trusted .bytes) (d .trusted .rules) q new (w .trustedBytes) h, w .trustedRules, w .inRange)
 well-write d q new false t h k w =
     rw (
       t,
-      besides-length (d .description .a) (d .ordinary .bytes) (d .ordinary .rules) q new _ refl (w .bytes) h,
-      w .rules,
-      w .guarded,
-      w .limits,
+      besides-length (d .description .a) (d .ordinary .bytes) (d .ordinary .rules) q new _ refl (w .ordinaryBytes) h,
+      w .ordinaryRules,
+      w .trustedBytes,
+      w .trustedRules,
       captured-range (d .description) (d .capture) (q .bus) (q .device) k (w .inRange),
     )
 
@@ -109,4 +109,4 @@ pub reset-keeps-well : (d : Board) → WellDescribed d → WellDescribed (afterR
 reset-keeps-well d e =
     let w = well-described d e in
     let n = none-of (ranges (d .description) (d .capture)) (w .inRange) in
-    rw (w .bytes, w .rules, w .guarded, w .limits, n .1 .0, n .1 .1 .0, n .1 .1 .1 .0)
+    rw (w .ordinaryBytes, w .ordinaryRules, w .trustedBytes, w .trustedRules, n .1 .0, n .1 .1 .0, n .1 .1 .1 .0)

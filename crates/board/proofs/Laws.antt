@@ -9,7 +9,7 @@ use lib.Bits.{bitAnd, and-mask}
 use lib.Dec.{eqb, leb, ltb}
 use lib.ListN.{length, drop, take}
 use borrow.Author.Tests.{le-leb, lt-leb, eq-eqb, ne-eqb, leb-true, eqb-true, not-false}
-use Rattle.answers.specs.Lowest.{any}
+use Rattle.answers.specs.Checks.{any}
 use Rattle.words.specs.Bytes.{four, fourOrZero, put, Puts}
 use Rattle.words.proofs.Laws.{four-inside, puts-is}
 use Rattle.registers.specs.Merge.{merged}
@@ -25,7 +25,7 @@ use Rattle.capture.specs.declared.Identified.{Identified}
 use Rattle.capture.specs.Kept.{completer, identified}
 use Rattle.board.specs.declared.Description.{Description}
 use Rattle.board.specs.Description.{Board, place, outOfRange, ranges, wrongSize, causes, WellDescribed}
-use Rattle.board.specs.Access.{addressed, unsupported, storedBytes, storedBesides, shownWord}
+use Rattle.board.specs.Access.{addressed, unsupported, storedBytes, storedOrdinary, shownWord}
 use Rattle.board.specs.Promise.{over}
 use Rattle.board.specs.Inner.{Sized, Readable, done}
 
@@ -45,10 +45,11 @@ module _ (low n : ℕ) where
   pub place-between : low ≤ n → n ≤ 0xffc → place low n ≡ eqb (bitAnd n 3) 0
   place-between l h = rw (le-leb low n l, le-leb n 0xffc h, and-mask n 2)
 
-pub place-inside : (low n : ℕ) → place low n ≡ true → (low ≤ n) × (n ≤ 0xffc)
+pub place-inside : (low n : ℕ) → place low n ≡ true → (low ≤ n) × (n ≤ 0xffc) × (n % 4 ≡ 0)
 place-inside low n e =
-    let f = and-true-both (leb low n) (leb n 0xffc) (and-true-both (leb low n && leb n 0xffc) (eqb (n % 4) 0) e .0) in
-    (leb-true low n (f .0), leb-true n 0xffc (f .1))
+    let f = and-true-both (leb low n && leb n 0xffc) (eqb (n % 4) 0) e in
+    let g = and-true-both (leb low n) (leb n 0xffc) (f .0) in
+    (leb-true low n (g .0), leb-true n 0xffc (g .1), eqb-true (n % 4) 0 (f .1))
 
 -- ---- a well-described board
 
@@ -66,11 +67,13 @@ right-size : (n : ℕ) → wrongSize n ≡ false → n ≡ 4096
 right-size n e = eqb-true n 4096 (not-false (eqb n 4096) e)
 
 pub record Well (d : Board) : Type 0 where
-  pub bytes : length (d .ordinary .bytes) ≡ 4096
-  pub rules : length (d .ordinary .rules) ≡ 4096
-  pub guarded : length (d .trusted .bytes) ≡ 4096
-  pub limits : length (d .trusted .rules) ≡ 4096
+  pub ordinaryBytes : length (d .ordinary .bytes) ≡ 4096
+  pub ordinaryRules : length (d .ordinary .rules) ≡ 4096
+  pub trustedBytes : length (d .trusted .bytes) ≡ 4096
+  pub trustedRules : length (d .trusted .rules) ≡ 4096
   pub inRange : outOfRange (d .description) (d .capture) ≡ false
+  pub atAInside : d .description .a ≤ 0xffc
+  pub atAAligned : d .description .a % 4 ≡ 0
   pub register : d .description .b ≤ 0xffc
 
 pub well-described : (d : Board) → WellDescribed d → Well d
@@ -82,11 +85,13 @@ well-described d e =
     e in
     let r = none-of (ranges (d .description) (d .capture)) (n .1 .1 .1 .1 .0) in
     record {
-      bytes = right-size _ (n .0);
-      rules = right-size _ (n .1 .0);
-      guarded = right-size _ (n .1 .1 .0);
-      limits = right-size _ (n .1 .1 .1 .0);
+      ordinaryBytes = right-size _ (n .0);
+      ordinaryRules = right-size _ (n .1 .0);
+      trustedBytes = right-size _ (n .1 .1 .0);
+      trustedRules = right-size _ (n .1 .1 .1 .0);
       inRange = n .1 .1 .1 .1 .0;
+      atAInside = place-inside 0x104 (d .description .a) (not-false _ (r .1 .1 .0)) .1;
+      atAAligned = place-inside 0x104 (d .description .a) (not-false _ (r .1 .1 .0)) .2;
       register = place-inside 0x00c (d .description .b) (not-false _ (r .1 .1 .1 .0)) .1;
     }
 
@@ -125,14 +130,14 @@ stored-is space rules q new old rule word said after sized o r w p =
     (o ∙ four-inside space (q .offset) (omega (arith, sized)))
     (r ∙ four-inside rules (q .offset) (omega (arith, sized))))
 
-pub stored-at-a : (a : ℕ) (space rules : List ℕ) (q : Request) (new : List ℕ) → q .offset ≡ a → storedBesides a space rules q new ≡ space
-unfolding storedBesides
+pub stored-at-a : (a : ℕ) (space rules : List ℕ) (q : Request) (new : List ℕ) → q .offset ≡ a → storedOrdinary a space rules q new ≡ space
+unfolding storedOrdinary
 stored-at-a a space rules q new e = rw (eq-eqb (q .offset) a e)
 
-pub stored-besides : (a : ℕ) (space rules : List ℕ) (q : Request) (new : List ℕ) → (q .offset ≡ a → ⊥)
-    → storedBesides a space rules q new ≡ storedBytes space rules q new
-unfolding storedBesides
-stored-besides a space rules q new h = rw (ne-eqb (q .offset) a h)
+pub stored-ordinary : (a : ℕ) (space rules : List ℕ) (q : Request) (new : List ℕ) → (q .offset ≡ a → ⊥)
+    → storedOrdinary a space rules q new ≡ storedBytes space rules q new
+unfolding storedOrdinary
+stored-ordinary a space rules q new h = rw (ne-eqb (q .offset) a h)
 
 -- the three words that a read can show
 module _ (d : Description) (ordinary trusted : List ℕ) (q : Request) (ready : Readable d ordinary trusted q) where

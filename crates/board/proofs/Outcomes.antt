@@ -23,7 +23,7 @@ use Rattle.capture.specs.Kept.{captured, completer}
 use Rattle.board.specs.declared.Description.{Description}
 use Rattle.board.specs.declared.Served.{Served}
 use Rattle.board.specs.Description.{Board, badlyDescribed, outOfRange}
-use Rattle.board.specs.Access.{unsupported, storedBytes, storedBesides, afterWrite, readWord}
+use Rattle.board.specs.Access.{unsupported, storedBytes, storedOrdinary, afterWrite, readWord}
 use Rattle.board.specs.Serving.{Outcome, completerOf, replies, repliesData, respond, serveNumber, refused, byNumber, serve}
 use Rattle.board.specs.Promise.{lent, seen, shows, over, Serves}
 use Rattle.board.specs.Inner.{Ready, done, refusing}
@@ -54,7 +54,7 @@ module _ (d : Description) (kept : Capture) (o or t tr p : List ℕ) (q : Reques
   written-trusted t′ is st e f =
       rw (is, ← (four-inside p 12 (omega arith)), ← w, ← st) (replies-seen (lent d kept o or t′ tr) q reply r after success e f)
 
-  pub written-ordinary : (o′ : List ℕ) (state : Capture) → isTrusted (q .target) ≡ false → o′ ≡ storedBesides (d .a) o or q new
+  pub written-ordinary : (o′ : List ℕ) (state : Capture) → isTrusted (q .target) ≡ false → o′ ≡ storedOrdinary (d .a) o or q new
       → state ≡ captured kept (q .bus) (q .device) → r ≡ done 12 state
       → after ≡ over (withoutData (completer state (d .function)) success (q .requester) (q .tag)) reply
       → seen r o′ t after ≡ shows (replies (afterWrite (lent d kept o or t tr) q (dataOf p)) success q) reply
@@ -114,8 +114,8 @@ module _ (d : Description) (kept : Capture) (o or t tr p reply : List ℕ) (well
       let w = well-described (lent d kept o or t tr) well in
       let inside : q .offset + 4 ≤ 4096 = rw (asks .1) (offset-inside p) in (
         record {
-          plain = record { bytes = w .bytes; limits = w .rules; inside = inside };
-          guarded = record { bytes = w .guarded; limits = w .limits; inside = inside };
+          sizedOrdinary = record { wholeBytes = w .ordinaryBytes; wholeRules = w .ordinaryRules; inside = inside };
+          sizedTrusted = record { wholeBytes = w .trustedBytes; wholeRules = w .trustedRules; inside = inside };
           register = omega (arith, w .register);
           room = room;
         },

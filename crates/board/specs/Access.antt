@@ -4,7 +4,7 @@ use Prim.Native.Nat.{ℕ}
 use mathlib.Core.Bool.{Bool, true, false, not, _&&_, cond}
 use mathlib.Core.List.{List, [], _∷_}
 use lib.Dec.{eqb}
-use Rattle.answers.specs.Lowest.{any}
+use Rattle.answers.specs.Checks.{any}
 use Rattle.words.specs.Bytes.{four, put}
 use Rattle.registers.specs.Merge.{merged}
 use Rattle.registers.specs.Shown.{shown}
@@ -55,8 +55,8 @@ unfoldable pub storedBytes : List ℕ → List ℕ → Request → List ℕ → 
 storedBytes bytes rules q new = put bytes (q .offset) (merged (four bytes (q .offset)) (four rules (q .offset)) new (q .enables))
 
 -- "An ordinary write [at A] succeeds, captures, and changes no byte.": A, and the rest as above
-unfoldable pub storedBesides : ℕ → List ℕ → List ℕ → Request → List ℕ → List ℕ
-storedBesides a bytes rules q new = cond (eqb (q .offset) a) bytes (storedBytes bytes rules q new)
+unfoldable pub storedOrdinary : ℕ → List ℕ → List ℕ → Request → List ℕ → List ℕ
+storedOrdinary a bytes rules q new = cond (eqb (q .offset) a) bytes (storedBytes bytes rules q new)
 
 -- "A successful Type 0 write captures its bus and device number before the reply is written, also with no byte enabled. No trusted
 -- request captures."
@@ -74,7 +74,7 @@ afterWrite d q new =
       capture = captured (d .capture) (q .bus) (q .device);
       ordinary =
           record {
-            bytes = storedBesides (d .description .a) (d .ordinary .bytes) (d .ordinary .rules) q new;
+            bytes = storedOrdinary (d .description .a) (d .ordinary .bytes) (d .ordinary .rules) q new;
             rules = d .ordinary .rules;
           };
       trusted = d .trusted;

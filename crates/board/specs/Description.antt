@@ -5,7 +5,7 @@ use mathlib.Core.List.{List, [], _∷_}
 use mathlib.Core.Path.{_≡_}
 use lib.Dec.{leb, ltb, eqb}
 use lib.ListN.{length}
-use Rattle.answers.specs.Lowest.{any}
+use Rattle.answers.specs.Checks.{any}
 use Rattle.capture.specs.declared.Capture.{Capture}
 use Rattle.capture.specs.Kept.{forgotten, deviceOver}
 use Rattle.board.specs.declared.Description.{Description}

@@ -11,14 +11,14 @@ use Rattle.board.specs.declared.Description.{Description}
 use Rattle.board.specs.declared.Served.{Served}
 
 -- a space and its rules, with room for the request's four bytes
-pub record Sized (space rules : List ℕ) (q : Request) : Type 0 where
-  pub bytes : length space ≡ 4096
-  pub limits : length rules ≡ 4096
+pub record Sized (bytes rules : List ℕ) (q : Request) : Type 0 where
+  pub wholeBytes : length bytes ≡ 4096
+  pub wholeRules : length rules ≡ 4096
   pub inside : q .offset + 4 ≤ 4096
 
 pub record Readable (d : Description) (ordinary trusted : List ℕ) (q : Request) : Type 0 where
-  pub plain : length ordinary ≡ 4096
-  pub guarded : length trusted ≡ 4096
+  pub wholeOrdinary : length ordinary ≡ 4096
+  pub wholeTrusted : length trusted ≡ 4096
   pub inside : q .offset + 4 ≤ 4096
   pub register : d .b + 4 ≤ 4096
 
@@ -32,7 +32,7 @@ refusing kept refusal = record { answer = Refused refusal; length = 0; capture =
 
 -- what the checks 1 and 2 leave: whole spaces, offsets inside, and a reply with room
 pub record Ready (d : Description) (ordinary ordinaryRules trusted trustedRules : List ℕ) (q : Request) (reply : List ℕ) : Type 0 where
-  pub plain : Sized ordinary ordinaryRules q
-  pub guarded : Sized trusted trustedRules q
+  pub sizedOrdinary : Sized ordinary ordinaryRules q
+  pub sizedTrusted : Sized trusted trustedRules q
   pub register : d .b + 4 ≤ 4096
   pub room : 16 ≤ length reply

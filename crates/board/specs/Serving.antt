@@ -4,7 +4,7 @@ use Prim.Native.Nat.{ℕ, zero, suc}
 use mathlib.Core.Bool.{cond}
 use mathlib.Core.List.{List, [], _∷_}
 use lib.Dec.{ltb}
-use Rattle.answers.specs.Lowest.{Check, check, lowest}
+use Rattle.answers.specs.Checks.{Check, check, firstThatApplies}
 use Rattle.packet.specs.declared.Id.{Id}
 use Rattle.packet.specs.declared.Request.{Request}
 use Rattle.packet.specs.Fields.{dataOf}
@@ -44,7 +44,7 @@ abbrev pub serveChecks : Board → List ℕ → ℕ → List Check
 serveChecks d p size = check 1 (badlyDescribed d) ∷ check 2 (ltb size 16) ∷ packetChecks p
 
 abbrev pub serveNumber : Board → List ℕ → ℕ → ℕ
-serveNumber d p size = lowest (serveChecks d p size)
+serveNumber d p size = firstThatApplies (serveChecks d p size)
 
 -- "Every number but 0 leaves spaces, capture, reply and list room unchanged, and reports length or count 0"
 abbrev pub refused : ℕ → Board → Outcome

@@ -1,7 +1,7 @@
 // The access: which requests are unsupported, what a write leaves in a space, what a read shows.
 ghost use mathlib.Core.Path.{_≡_};
 ghost use mathlib.Core.Bool.{_&&_};
-ghost use Rattle.board.specs.Access.{addressed, unsupported, storedBytes, storedBesides, shownWord};
+ghost use Rattle.board.specs.Access.{addressed, unsupported, storedBytes, storedOrdinary, shownWord};
 ghost use Rattle.board.specs.Inner.{Sized, Readable};
 use super::Description;
 use capture::Capture;
@@ -33,7 +33,7 @@ fn is_poisoned_write(request: Request) -> bool
     if writes { request.poisoned } else { false }
 }
 
-pub fn is_unsupported(description: Description, kept: Capture, request: Request) -> bool
+pub(super) fn is_unsupported(description: Description, kept: Capture, request: Request) -> bool
     ensures { λ r. ⌜ r ≡ unsupported description kept request ⌝ }
 {
     if is_poisoned_write(request) {
@@ -48,7 +48,7 @@ pub fn is_unsupported(description: Description, kept: Capture, request: Request)
 }
 
 // A write to a space: the data merged into the four bytes at the request's offset.
-pub fn store(space: &mut [u8], rules: &[u8], request: Request, new: [u8; 4])
+pub(super) fn store(space: &mut [u8], rules: &[u8], request: Request, new: [u8; 4])
     requires { ⌜ Sized (now space) (now rules) request ⌝ }
     ensures { λ _. ⌜ now (space .exit) ≡ storedBytes (now (space .entry)) (now (rules .entry)) request new ⌝ }
 {
@@ -60,9 +60,15 @@ pub fn store(space: &mut [u8], rules: &[u8], request: Request, new: [u8; 4])
 }
 
 // An ordinary write, which changes no byte at the correlation word's place.
-pub fn store_ordinary(a: usize, space: &mut [u8], rules: &[u8], request: Request, new: [u8; 4])
+pub(super) fn store_ordinary(
+    a: usize,
+    space: &mut [u8],
+    rules: &[u8],
+    request: Request,
+    new: [u8; 4],
+)
     requires { ⌜ Sized (now space) (now rules) request ⌝ }
-    ensures { λ _. ⌜ now (space .exit) ≡ storedBesides a (now (space .entry)) (now (rules .entry)) request new ⌝ }
+    ensures { λ _. ⌜ now (space .exit) ≡ storedOrdinary a (now (space .entry)) (now (rules .entry)) request new ⌝ }
 {
     let offset = request.offset;
     if offset != a {
@@ -71,7 +77,7 @@ pub fn store_ordinary(a: usize, space: &mut [u8], rules: &[u8], request: Request
 }
 
 // The four bytes that a read shows.
-pub fn read_word(
+pub(super) fn read_word(
     description: Description,
     ordinary: &[u8],
     trusted: &[u8],

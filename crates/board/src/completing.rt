@@ -13,7 +13,7 @@ use capture::Capture;
 use packet::Request;
 
 // A completion without data.
-pub fn reply_status(
+pub(super) fn reply_status(
     description: Description,
     kept: Capture,
     status: u8,
@@ -38,7 +38,7 @@ pub fn reply_status(
 }
 
 // A completion with four data bytes.
-pub fn reply_data(
+pub(super) fn reply_data(
     description: Description,
     kept: Capture,
     four: [u8; 4],

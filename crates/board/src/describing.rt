@@ -49,26 +49,26 @@ fn is_wrong_size(size: usize) -> bool
 }
 
 // Answer 1: from the sizes of the four buffers, and the board's numbers.
-pub fn is_badly_described(
-    bytes: usize,
-    rules: usize,
+pub(super) fn is_badly_described(
+    ordinary: usize,
+    ordinary_rules: usize,
     trusted: usize,
-    limits: usize,
+    trusted_rules: usize,
     description: Description,
     kept: Capture,
 ) -> bool
-    ensures { λ r. ⌜ r ≡ badly bytes rules trusted limits description kept ⌝ }
+    ensures { λ r. ⌜ r ≡ badly ordinary «ordinary_rules» trusted «trusted_rules» description kept ⌝ }
 {
-    if is_wrong_size(bytes) {
+    if is_wrong_size(ordinary) {
         return true;
     }
-    if is_wrong_size(rules) {
+    if is_wrong_size(ordinary_rules) {
         return true;
     }
     if is_wrong_size(trusted) {
         return true;
     }
-    if is_wrong_size(limits) {
+    if is_wrong_size(trusted_rules) {
         return true;
     }
     out_of_range(description, kept)

@@ -26,7 +26,7 @@ deviceOver Nothing = false
 deviceOver (Number bus device) = ltb 31 device
 
 -- "Completer ID: captured bus, then captured device × 8 + own function; bus and device are 0 while none is captured." (Each is one byte:
--- the remainder is for a device over 31, which a board answers with 1.)
+-- the remainder is for a device over 31 or a function over 7, which a board answers with 1.)
 unfoldable pub completer : Capture → ℕ → Id
 completer Nothing function = record { high = 0; low = function }
 completer (Number bus device) function = record { high = bus; low = (device * 8 + function) % 256 }

@@ -1,5 +1,5 @@
 // The captured bus and device number, kept between packets: a state by value, handed back by each of its methods.
-// Promised for every state and number: specs/Capture.antt.
+// Promised for every state and number: specs/Kept.antt.
 ghost use mathlib.Core.Path.{_≡_};
 ghost use Rattle.capture.specs.Kept.{forgotten, captured, identified};
 use packet::Id;

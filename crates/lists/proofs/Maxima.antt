@@ -16,8 +16,8 @@ use Rattle.lists.specs.Chain.{Legal, Legal.ends, Legal.goes, HasChain}
 use Rattle.lists.proofs.NoRepeats.{Distinct, Distinct.none, Distinct.more, legal-repeats-none}
 use Rattle.lists.proofs.Pointers.{Bytes, Within, span, first-within, follows-within}
 
-abbrev pub WithinMaximum : Type 0
-WithinMaximum = (kind : Kind) (s : List ℕ) → Bytes s → (chain : List ℕ) → HasChain (describe kind) s chain
+abbrev pub ChainMaximum : Type 0
+ChainMaximum = (kind : Kind) (s : List ℕ) → Bytes s → (chain : List ℕ) → HasChain (describe kind) s chain
     → length chain ≤ describe kind .maximum
 
 -- a list without one of its numbers: one shorter, still with no number twice, and that number is gone
@@ -94,7 +94,7 @@ module _ (kind : Kind) (s : List ℕ) (bytes : Bytes s) where
       (placed (follows-within kind s pointer bytes) l x)
       (List·Memᴰ·cases-cons (subst (λ (c : List ℕ). List·Memᴰ x c) e m))
 
-pub chain-maximum : WithinMaximum
+pub chain-maximum : ChainMaximum
 chain-maximum kind s bytes chain l =
     pigeonhole (describe kind .floor) (describe kind .maximum) (floor-aligned kind) (legal-repeats-none _ _ _ _ l)
     (placed kind s bytes (first-within kind s bytes) l)

@@ -15,8 +15,8 @@ pub data Distinct : List ℕ → Type 0 where
   none : Distinct []
   more : {x : ℕ} {l : List ℕ} → (List·Memᴰ x l → ⊥) → Distinct l → Distinct (x ∷ l)
 
-abbrev pub RepeatsNone : Type 0
-RepeatsNone = (d : Description) (s : List ℕ) (pointer : ℕ) (chain : List ℕ) → Legal d s pointer chain → Distinct chain
+abbrev pub LegalRepeatsNone : Type 0
+LegalRepeatsNone = (d : Description) (s : List ℕ) (pointer : ℕ) (chain : List ℕ) → Legal d s pointer chain → Distinct chain
 
 module _ {d : Description} {s : List ℕ} where
   -- from an offset of a chain a chain is legal, and no longer
@@ -41,5 +41,5 @@ module _ {d : Description} {s : List ℕ} where
           let same : t .0 ≡ pointer ∷ rest = legal-unique (t .1) (goes n h l refl) in
           omega (arith, ap length same)
 
-pub legal-repeats-none : RepeatsNone
+pub legal-repeats-none : LegalRepeatsNone
 legal-repeats-none d s pointer chain l = repeats-none l

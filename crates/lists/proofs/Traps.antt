@@ -50,9 +50,9 @@ goes-on d s at to n e (ends z f) = absurd (n z)
 goes-on d s at to n e (goes {rest = rest} m h l f) = (rest, subst (λ (p : ℕ). Legal d s p rest) e l, f)
 
 -- "Testing loops only against the start: 100h to 140h to 180h to 140h never comes back to 100h."
-pub loop-unserved : (room after : List ℕ) (r : Walked) → Walks Extended looping room r after → numberGiven r ≡ 0 → ⊥
+pub loop-broken : (room after : List ℕ) (r : Walked) → 960 ≤ length room → Walks Extended looping room r after → numberGiven r ≡ 7
 unfolding looping first follows extendedStart extendedNext
-loop-unserved room after r w = unserved w no-chain
+loop-broken room after r roomy w = served-iff-legal Extended looping room r after w refl roomy .1 .1 no-chain
   where
     no-chain : NoChain (describe Extended) looping
     no-chain chain l =
@@ -91,9 +91,9 @@ pub absent : List ℕ
 absent = set blank 0x34 0x40
 
 -- one that looks at byte 34h where the compatible list counts as empty
-pub compatible-not-empty : (room : List ℕ) → Walks Compatible absent room (served 1) (0x40 ∷ drop 1 room) → ⊥
+pub compatible-empty-listed : (room : List ℕ) → Walks Compatible absent room (served 1) (0x40 ∷ drop 1 room) → ⊥
 unfolding absent first follows compatibleStart compatibleNext
-compatible-not-empty room w =
+compatible-empty-listed room w =
     let l : HasChain (describe Compatible) absent [] = ends refl refl in
     omega (arith, served-lists w refl l .counted)
 
@@ -102,8 +102,8 @@ pub nameless : List ℕ
 nameless = header 0x100 0x00 0x00 0x01 0x14 blank
 
 -- one that looks at that pointer where the extended list counts as empty
-pub extended-not-empty : (room : List ℕ) → Walks Extended nameless room (served 2) (0x100 ∷ 0x140 ∷ drop 2 room) → ⊥
+pub extended-empty-listed : (room : List ℕ) → Walks Extended nameless room (served 2) (0x100 ∷ 0x140 ∷ drop 2 room) → ⊥
 unfolding nameless first follows extendedStart extendedNext
-extended-not-empty room w =
+extended-empty-listed room w =
     let l : HasChain (describe Extended) nameless [] = ends refl refl in
     omega (arith, served-lists w refl l .counted)

@@ -10,8 +10,8 @@ use Rattle.lists.specs.declared.Walked.{Walked}
 use Rattle.lists.specs.Walks.{Refuses, Lists, numberGiven, Walks, Walks.misdescribed, Walks.roomless, Walks.broken, Walks.listed}
 use Rattle.lists.proofs.OneChain.{legal-unique}
 
-abbrev pub OneAnswer : Type 0
-OneAnswer = (kind : Kind) (s room : List ℕ) (r q : Walked) (l m : List ℕ) → Walks kind s room r l → Walks kind s room q m → (r ≡ q) × (l ≡ m)
+abbrev pub WalkUnique : Type 0
+WalkUnique = (kind : Kind) (s room : List ℕ) (r q : Walked) (l m : List ℕ) → Walks kind s room r l → Walks kind s room q m → (r ≡ q) × (l ≡ m)
 
 -- the number and the count say the whole answer
 same-walked : (r q : Walked) → numberGiven r ≡ numberGiven q → r .count ≡ q .count → r ≡ q
@@ -25,7 +25,7 @@ module _ {room : List ℕ} {r q : Walked} {l m : List ℕ} where
   listed-same : {chain : List ℕ} → Lists chain room r l → Lists chain room q m → (r ≡ q) × (l ≡ m)
   listed-same a b = (same-walked r q (a .given ∙ sym (b .given)) (a .counted ∙ sym (b .counted)), a .listed ∙ sym (b .listed))
 
-pub walk-unique : OneAnswer
+pub walk-unique : WalkUnique
 walk-unique kind s room r q l m (misdescribed n a) (misdescribed o b) = refused-same a b
 walk-unique kind s room r q l m (misdescribed n a) (roomless size o b) = absurd (n size)
 walk-unique kind s room r q l m (misdescribed n a) (broken size roomy o b) = absurd (n size)

@@ -1,7 +1,7 @@
 -- Laws of the packet's fields and checks, for the proofs of this crate and above. Assumes nothing.
 use Prim.Native.Nat.{ℕ, suc, _+_, _*_, _/_, _%_, _^_, _<_, _≤_}
-use mathlib.Core.Bool.{Bool, true, false, not, cond}
-use mathlib.Core.List.{List}
+use mathlib.Core.Bool.{Bool, true, false, not, cond, _||_}
+use mathlib.Core.List.{List, [], _∷_}
 use mathlib.Core.Path.{_≡_, refl, sym, ap, ap₂, _∙_}
 use native.Mathlib.Nat.{mod-eq-of-lt}
 use native.Mathlib.Omega.{arith}
@@ -9,13 +9,15 @@ use lib.Bits.{bitAnd, bitOr, and-mask, mask-lt, and-high, or-shifted}
 use lib.Dec.{eqb, ltb}
 use lib.ListN.{length}
 use borrow.Author.Tests.{eq-eqb, ne-eqb, lt-ltb, le-ltb, eqb-true, not-false}
-use Rattle.answers.proofs.Lowest.{none-applies}
+use Rattle.answers.proofs.Checks.{none-applies}
 use Rattle.packet.specs.declared.TypeCode.{TypeCode}
 use Rattle.packet.specs.declared.TypeCode.the-variants.{Known, Unknown}
 use Rattle.words.specs.Bytes.{byte}
 use Rattle.packet.specs.declared.Target.{Target}
+use Rattle.packet.specs.declared.Target.the-variants.{Type0, Type1, Trusted}
 use Rattle.packet.specs.Fields.{typeCode, typeOf, digest, lengthField, offsetOf, wholeLength, wrongField, traffic, attributes, lastEnables}
-use Rattle.packet.specs.Request.{typed, writesOf, packetChecks, packetNumber, requestOf, KnownHeader}
+use Rattle.packet.specs.Request.{typed, writesOf, packetChecks, packetNumber, requestOf, targetOf, isTrusted, trusted}
+use Rattle.packet.specs.Inner.{KnownHeader}
 
 -- byte 0 without bit 7 is the type code
 pub code-is : (first k : ℕ) → bitAnd first 127 ≡ k → typeCode first ≡ k
@@ -74,6 +76,10 @@ pub offset-inside : (p : List ℕ) → requestOf p .offset + 4 ≤ 4096
 unfolding requestOf
 offset-inside p = omega arith
 
+pub offset-aligned : (p : List ℕ) → requestOf p .offset % 4 ≡ 0
+unfolding requestOf
+offset-aligned p = omega arith
+
 pub device-inside : (p : List ℕ) → requestOf p .device ≤ 31
 unfolding requestOf
 device-inside p = omega arith
@@ -89,3 +95,29 @@ unfolding requestOf
 write-long p e w =
     let h : length p ≡ 16 + 4 * digest (byte p 2) = whole-is p e ∙ rw w in
     omega arith
+
+-- ---- trusted packets ask for the trusted space, and no other packet does
+
+last-two : (a b : Bool) → isTrusted (targetOf (cond a (Known false Trusted) (cond b (Known true Trusted) Unknown))) ≡ (a || b)
+last-two true b = refl
+last-two false true = refl
+last-two false false = refl
+
+type-trusted : (code : ℕ) → isTrusted (targetOf (typeOf code)) ≡ (eqb code 0x1b || eqb code 0x5b)
+unfolding typeOf
+type-trusted code = go (eqb code 0x04) (eqb code 0x44) (eqb code 0x05) (eqb code 0x45) refl refl refl refl
+  where
+    go : (a b c d : Bool) → eqb code 0x04 ≡ a → eqb code 0x44 ≡ b → eqb code 0x05 ≡ c → eqb code 0x45 ≡ d
+        → isTrusted (targetOf (cond a (Known false Type0) (cond b (Known true Type0) (cond c (Known false Type1) (cond d (Known true Type1)
+        (cond (eqb code 0x1b) (Known false Trusted) (cond (eqb code 0x5b) (Known true Trusted) Unknown)))))))
+        ≡ (eqb code 0x1b || eqb code 0x5b)
+    go true b c d e f g h = rw (eqb-true code 0x04 e)
+    go false true c d e f g h = rw (eqb-true code 0x44 f)
+    go false false true d e f g h = rw (eqb-true code 0x05 g)
+    go false false false true e f g h = rw (eqb-true code 0x45 h)
+    go false false false false e f g h = last-two (eqb code 0x1b) (eqb code 0x5b)
+
+pub trusted-target : (p : List ℕ) → isTrusted (requestOf p .target) ≡ trusted p
+unfolding requestOf typeOf
+trusted-target [] = refl
+trusted-target (first ∷ rest) = type-trusted (typeCode first)

@@ -3,7 +3,7 @@ use Prim.Native.Nat.{ℕ, _+_, _*_}
 use mathlib.Core.Bool.{Bool, true, false, not, cond}
 use mathlib.Core.List.{List, [], _∷_}
 use lib.Dec.{eqb}
-use Rattle.answers.specs.Lowest.{any}
+use Rattle.answers.specs.Checks.{any}
 use Rattle.words.specs.Bytes.{byte, four}
 use Rattle.words.specs.Fields.{bits, bit}
 use Rattle.packet.specs.declared.Id.{Id}

@@ -1,3 +1,4 @@
 pub mod Fields
 pub mod Request
 pub mod Completion
+pub mod Inner

@@ -1,12 +1,12 @@
 -- Document 01, "The packet": the checks 3 to 6, lowest number first, and the request that a packet with none of those faults is.
 -- Assumes nothing.
-use Prim.Native.Nat.{ℕ, _≤_}
-use mathlib.Core.Bool.{Bool, true, false, not}
+use Prim.Native.Nat.{ℕ}
+use mathlib.Core.Bool.{Bool, true, false, not, _||_}
 use mathlib.Core.List.{List, [], _∷_}
 use mathlib.Core.Path.{_≡_}
 use lib.Dec.{eqb, ltb}
 use lib.ListN.{length}
-use Rattle.answers.specs.Lowest.{Check, check, lowest}
+use Rattle.answers.specs.Checks.{Check, check, firstThatApplies}
 use Rattle.answers.specs.Numbers.{numberOf}
 use Rattle.words.specs.Bytes.{byte}
 use Rattle.packet.specs.declared.Target.{Target}
@@ -30,7 +30,7 @@ abbrev pub writesOf : TypeCode → Bool
 writesOf (Known writes target) = writes
 writesOf Unknown = false
 
--- (an unknown type is refused, so what stands for it here is never seen)
+-- (no request has an unknown type: it is refused)
 abbrev pub targetOf : TypeCode → Target
 targetOf (Known writes target) = target
 targetOf Unknown = Type1
@@ -46,7 +46,7 @@ packetChecks p =
     ∷ []
 
 abbrev pub packetNumber : List ℕ → ℕ
-packetNumber p = lowest (packetChecks p)
+packetNumber p = firstThatApplies (packetChecks p)
 
 -- the request that a packet asks for
 unfoldable pub requestOf : List ℕ → Request
@@ -64,22 +64,19 @@ requestOf p =
       offset = offsetOf (byte p 10) (byte p 11);
     }
 
--- "A packet is trusted if its first byte, bit 7 cleared, is 1Bh or 5Bh, whatever its length. All others, the empty one included, are
--- ordinary." (the byte of an empty packet reads 00h, which is neither)
+-- a request for the trusted space
 abbrev pub isTrusted : Target → Bool
 isTrusted Type0 = false
 isTrusted Type1 = false
 isTrusted Trusted = true
 
+-- "A packet is trusted if its first byte, bit 7 cleared, is 1Bh or 5Bh, whatever its length. All others, the empty one included, are
+-- ordinary."
 abbrev pub trusted : List ℕ → Bool
-trusted p = isTrusted (targetOf (typed p))
+trusted [] = false
+trusted (first ∷ rest) = eqb (typeCode first) 0x1b || eqb (typeCode first) 0x5b
 
 -- what `packet::decode` answers: the request of a packet without a fault, else the refusal with the lowest number
 abbrev pub Decodes : List ℕ → Decoded → Type 0
 Decodes p (Asks request) = (packetNumber p ≡ 0) × (request ≡ requestOf p)
 Decodes p (Refused refusal) = packetNumber p ≡ numberOf refusal
-
--- what the checks 3 and 4 leave: a whole header, of a known type
-pub record KnownHeader (p : List ℕ) (writes : Bool) (target : Target) : Type 0 where
-  pub long : 12 ≤ length p
-  pub known : typed p ≡ Known writes target

@@ -1,6 +1,7 @@
 // The checks 3 to 6 in their order, and the request of a packet that passes them.
 ghost use mathlib.Core.Path.{_≡_};
-ghost use Rattle.packet.specs.Request.{Decodes, KnownHeader, requestOf};
+ghost use Rattle.packet.specs.Request.{Decodes, requestOf};
+ghost use Rattle.packet.specs.Inner.{KnownHeader};
 use super::Decoded;
 use super::Id;
 use super::Request;

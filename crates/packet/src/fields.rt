@@ -19,7 +19,7 @@ const READ_TRUSTED: u8 = 0x1b;
 const WRITE_TRUSTED: u8 = 0x5b;
 
 // Byte 0 without bit 7 decides.
-pub fn type_of(first: u8) -> TypeCode
+pub(super) fn type_of(first: u8) -> TypeCode
     ensures { λ r. ⌜ r ≡ typeOf (typeCode first) ⌝ }
 {
     let code = first & 0x7f;
@@ -40,7 +40,7 @@ fn wide(byte: u8) -> usize
     byte as usize
 }
 
-pub fn whole_length(writes: bool, two: u8) -> usize
+pub(super) fn whole_length(writes: bool, two: u8) -> usize
     ensures { λ r. ⌜ r ≡ wholeLength writes two ⌝ }
 {
     let digest = wide((two >> 7) & 1);
@@ -51,31 +51,31 @@ pub fn whole_length(writes: bool, two: u8) -> usize
     }
 }
 
-pub fn is_poisoned(two: u8) -> bool
+pub(super) fn is_poisoned(two: u8) -> bool
     ensures { λ r. ⌜ r ≡ eqb (poison two) 1 ⌝ }
 {
     (two >> 6) & 1 == 1
 }
 
-pub fn first_enables(seven: u8) -> u8
+pub(super) fn first_enables(seven: u8) -> u8
     ensures { λ r. ⌜ r ≡ firstEnables seven ⌝ }
 {
     seven & 0x0f
 }
 
-pub fn device_of(nine: u8) -> u8
+pub(super) fn device_of(nine: u8) -> u8
     ensures { λ r. ⌜ r ≡ deviceOf nine ⌝ }
 {
     (nine >> 3) & 0x1f
 }
 
-pub fn function_of(nine: u8) -> u8
+pub(super) fn function_of(nine: u8) -> u8
     ensures { λ r. ⌜ r ≡ functionOf nine ⌝ }
 {
     nine & 0x07
 }
 
-pub fn offset_of(ten: u8, eleven: u8) -> usize
+pub(super) fn offset_of(ten: u8, eleven: u8) -> usize
     ensures { λ r. ⌜ r ≡ offsetOf ten eleven ⌝ }
 {
     (wide(ten & 0x0f) << 8) | wide(eleven & 0xfc)
@@ -88,7 +88,7 @@ fn length_field(two: u8, three: u8) -> usize
 }
 
 // TC, Attr or the last enables are not 0, or Length is not 1.
-pub fn wrong_field(one: u8, two: u8, three: u8, seven: u8) -> bool
+pub(super) fn wrong_field(one: u8, two: u8, three: u8, seven: u8) -> bool
     ensures { λ r. ⌜ r ≡ wrongField one two three seven ⌝ }
 {
     if (one >> 4) & 0x07 != 0 {

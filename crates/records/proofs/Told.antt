@@ -10,7 +10,7 @@ use lib.Dec.{eqb, leb}
 use lib.ListN.{length, take, drop}
 use Rattle.answers.proofs.Unique.{number-positive}
 use Rattle.answers.specs.declared.Refusal.{Refusal}
-use Rattle.answers.specs.Lowest.{lowest}
+use Rattle.answers.specs.Checks.{firstThatApplies}
 use Rattle.answers.specs.Numbers.{numberOf}
 use Rattle.words.specs.Bytes.{byte}
 use Rattle.words.specs.Fields.{word}
@@ -73,7 +73,7 @@ module _ (s : List ℕ) (at : ℕ) where
   -- the number, by what the tests say: a fact that is not tested stands for itself
   pub dvsec-number : {a b c d : Bool} → sized s ≡ a → placed 0x100 0xffc at ≡ b → isDvsec (word s at) ≡ c
       → extends at (headerAt s at .length) ≡ d
-      → dvsecNumber s at ≡ lowest (required a 1 ∷ required b 1 ∷ required c 8 ∷ required d 9 ∷ [])
+      → dvsecNumber s at ≡ firstThatApplies (required a 1 ∷ required b 1 ∷ required c 8 ∷ required d 9 ∷ [])
   unfolding dvsecNumber
   dvsec-number a b c d = rw (a, b, c, d)
 
@@ -125,6 +125,6 @@ module _ (s : List ℕ) (at : ℕ) where
   pub dual-number : {a b c d e f : Bool} → sized s ≡ a → placed 0x040 0x0fc at ≡ b → eqb (byte s at) 0x09 ≡ c
       → fitsDual at (byte s (at + 2)) (word s (at + 4)) ≡ d → isDual (word s (at + 4)) (word s (at + 8)) ≡ e → oneSet (vectorAt s at) ≡ f
       → dualNumber s at
-      ≡ lowest (required a 1 ∷ required b 1 ∷ required c 8 ∷ required d 9 ∷ required e 8 ∷ required f 10 ∷ [])
+      ≡ firstThatApplies (required a 1 ∷ required b 1 ∷ required c 8 ∷ required d 9 ∷ required e 8 ∷ required f 10 ∷ [])
   unfolding dualNumber
   dual-number a b c d e f = rw (a, b, c, d, e, f)

@@ -11,14 +11,14 @@ use Rattle.records.specs.declared.DvsecRead.the-variants.{Found, Refused
 use Rattle.records.specs.DvsecRule.{DvsecTold, tellsDvsec, dvsecSays, BodyLies}
 use Rattle.records.specs.DualRule.{DualTold, tellsDual, dualSays}
 
-abbrev pub OneDvsec : Type 0
-OneDvsec = (s : List ℕ) (at : ℕ) (r q : DvsecRead) → tellsDvsec r ≡ dvsecSays s at → tellsDvsec q ≡ dvsecSays s at → r ≡ q
+abbrev pub DvsecUnique : Type 0
+DvsecUnique = (s : List ℕ) (at : ℕ) (r q : DvsecRead) → tellsDvsec r ≡ dvsecSays s at → tellsDvsec q ≡ dvsecSays s at → r ≡ q
 
-abbrev pub OneDual : Type 0
-OneDual = (s : List ℕ) (at : ℕ) (r q : DualRead) → tellsDual r ≡ dualSays s at → tellsDual q ≡ dualSays s at → r ≡ q
+abbrev pub DualBdfUnique : Type 0
+DualBdfUnique = (s : List ℕ) (at : ℕ) (r q : DualRead) → tellsDual r ≡ dualSays s at → tellsDual q ≡ dualSays s at → r ≡ q
 
-abbrev pub OneBody : Type 0
-OneBody = (place : ℕ × ℕ) (s : List ℕ) (at : ℕ) (p q : ℕ × ℕ) (l m : List ℕ) → BodyLies place s at p l → BodyLies place s at q m
+abbrev pub DvsecBodyUnique : Type 0
+DvsecBodyUnique = (place : ℕ × ℕ) (s : List ℕ) (at : ℕ) (p q : ℕ × ℕ) (l m : List ℕ) → BodyLies place s at p l → BodyLies place s at q m
     → (p ≡ q) × (l ≡ m)
 
 -- an answer is told by what it tells
@@ -35,12 +35,12 @@ dual-same (dual.Found a) (dual.Refused x) e = absurd (number-positive x (sym (ap
 dual-same (dual.Refused x) (dual.Found b) e = absurd (number-positive x (ap (λ (t : DualTold). t .number) e))
 dual-same (dual.Refused x) (dual.Refused y) e = ap dual.Refused (number-tells x y (ap (λ (t : DualTold). t .number) e))
 
-pub dvsec-unique : OneDvsec
+pub dvsec-unique : DvsecUnique
 dvsec-unique s at r q e f = dvsec-same r q (e ∙ sym f)
 
-pub dual-unique : OneDual
-dual-unique s at r q e f = dual-same r q (e ∙ sym f)
+pub dual-bdf-unique : DualBdfUnique
+dual-bdf-unique s at r q e f = dual-same r q (e ∙ sym f)
 
-pub body-unique : OneBody
-body-unique place s at p q l m a b =
+pub dvsec-body-unique : DvsecBodyUnique
+dvsec-body-unique place s at p q l m a b =
     (ap₂ (λ (x y : ℕ). (x, y)) (a .block ∙ sym (b .block)) (a .offset ∙ sym (b .offset)), a .same ∙ sym (b .same))

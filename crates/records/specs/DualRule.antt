@@ -4,7 +4,7 @@ use mathlib.Core.Bool.{Bool, cond, _&&_, _||_}
 use mathlib.Core.List.{List, [], _∷_}
 use lib.Dec.{eqb, leb}
 use lib.ListN.{length, getD}
-use Rattle.answers.specs.Lowest.{lowest}
+use Rattle.answers.specs.Checks.{firstThatApplies}
 use Rattle.answers.specs.Numbers.{numberOf}
 use Rattle.words.specs.Bytes.{byte}
 use Rattle.words.specs.Fields.{bit, bits, word}
@@ -56,7 +56,7 @@ alternateAt s at = alternateOf (word s (at + 8)) (vectorAt s at)
 -- the number, in the order that document 01 states
 unfoldable pub dualNumber : List ℕ → ℕ → ℕ
 dualNumber s at =
-    lowest
+    firstThatApplies
     (required (sized s) 1
     ∷ required (placed 0x040 0x0fc at) 1
     ∷ required (eqb (byte s at) 0x09) 8

@@ -5,7 +5,7 @@ use mathlib.Core.List.{List, [], _∷_}
 use mathlib.Core.Path.{_≡_}
 use lib.Dec.{eqb, leb}
 use lib.ListN.{take, drop}
-use Rattle.answers.specs.Lowest.{lowest}
+use Rattle.answers.specs.Checks.{firstThatApplies}
 use Rattle.answers.specs.Numbers.{numberOf}
 use Rattle.words.specs.Fields.{bits, word}
 use Rattle.records.specs.declared.DvsecHeader.{DvsecHeader}
@@ -32,7 +32,7 @@ headerAt s at = headerOf (word s (at + 4)) (word s (at + 8))
 -- the number, in the order that document 01 states
 unfoldable pub dvsecNumber : List ℕ → ℕ → ℕ
 dvsecNumber s at =
-    lowest
+    firstThatApplies
     (required (sized s) 1
     ∷ required (placed 0x100 0xffc at) 1
     ∷ required (isDvsec (word s at)) 8

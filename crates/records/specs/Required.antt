@@ -4,7 +4,7 @@ use mathlib.Core.Bool.{Bool, true, not, _&&_, cond}
 use mathlib.Core.List.{List, [], _∷_}
 use lib.Dec.{eqb, leb}
 use lib.ListN.{length}
-use Rattle.answers.specs.Lowest.{Check, check}
+use Rattle.answers.specs.Checks.{Check, check}
 
 -- all of the facts hold
 abbrev pub all : List Bool → Bool

@@ -10,15 +10,15 @@ use lib.ListN.{length}
 use borrow.Author.Tests.{eq-eqb, ne-eqb}
 use Rattle.words.specs.Bytes.{four}
 use Rattle.words.specs.Fields.{bit}
-use Rattle.registers.specs.Merge.{lowest, merged, mergedByte, mergedBit, fromBits}
+use Rattle.registers.specs.Merge.{lowestSet, merged, mergedByte, mergedBit, fromBits}
 use Rattle.registers.specs.Shown.{shown}
 use Rattle.registers.proofs.Masks.{from-low, bit-suc, bit-zero}
 
 -- the test that the code makes of the lowest enable
-pub lowest-set : (enables : ℕ) → bitAnd enables 1 ≡ 1 → lowest enables ≡ true
+pub lowest-set : (enables : ℕ) → bitAnd enables 1 ≡ 1 → lowestSet enables ≡ true
 lowest-set e h = eq-eqb _ _ (sym (and-mask e 1) ∙ h)
 
-pub lowest-clear : (enables : ℕ) → (bitAnd enables 1 ≡ 1 → ⊥) → lowest enables ≡ false
+pub lowest-clear : (enables : ℕ) → (bitAnd enables 1 ≡ 1 → ⊥) → lowestSet enables ≡ false
 lowest-clear e h = ne-eqb _ _ (λ k. h (and-mask e 1 ∙ k))
 
 -- four bytes stay four

@@ -22,11 +22,11 @@ unfoldable pub mergedByte : ℕ → ℕ → ℕ → ℕ
 mergedByte old rule new = fromBits (λ k. mergedBit (bit k rule) (bit k old) (bit k new)) 8
 
 -- the lowest enable is set; the byte at place k is enabled
-abbrev pub lowest : ℕ → Bool
-lowest enables = eqb (enables % 2) 1
+abbrev pub lowestSet : ℕ → Bool
+lowestSet enables = eqb (enables % 2) 1
 
 abbrev pub enabled : ℕ → ℕ → Bool
-enabled k enables = lowest (enables / 2 ^ k)
+enabled k enables = lowestSet (enables / 2 ^ k)
 
 -- "For an enabled byte, a write takes ..": the byte at place k. "A byte not enabled stays."
 abbrev pub writtenByte : ℕ → List ℕ → List ℕ → List ℕ → ℕ → ℕ

@@ -2,7 +2,7 @@
 // Enable bit 0 is the byte at the lowest address. Promised for every value: specs/Merge.antt and specs/Shown.antt.
 ghost use mathlib.Core.Path.{_≡_};
 ghost use mathlib.Core.Bool.{cond};
-ghost use Rattle.registers.specs.Merge.{lowest, mergedByte, merged};
+ghost use Rattle.registers.specs.Merge.{lowestSet, mergedByte, merged};
 ghost use Rattle.registers.specs.Shown.{shown};
 
 // The data bit where the rule bit is 1, the old bit where it is 0.
@@ -14,7 +14,7 @@ fn merge_byte(old: u8, rule: u8, new: u8) -> u8
 
 // A byte after a write, under the lowest of these enables.
 fn write_byte(enables: u8, old: u8, rule: u8, new: u8) -> u8
-    ensures { λ r. ⌜ r ≡ cond (lowest enables) (mergedByte old rule new) old ⌝ }
+    ensures { λ r. ⌜ r ≡ cond (lowestSet enables) (mergedByte old rule new) old ⌝ }
 {
     if enables & 1 == 1 {
         merge_byte(old, rule, new)
@@ -25,7 +25,7 @@ fn write_byte(enables: u8, old: u8, rule: u8, new: u8) -> u8
 
 // A byte as a read returns it, under the lowest of these enables.
 fn show_byte(enables: u8, byte: u8) -> u8
-    ensures { λ r. ⌜ r ≡ cond (lowest enables) byte 0 ⌝ }
+    ensures { λ r. ⌜ r ≡ cond (lowestSet enables) byte 0 ⌝ }
 {
     if enables & 1 == 1 { byte } else { 0 }
 }

@@ -8,9 +8,9 @@ use Rattle.board.specs.declared.Served.{Served}
 use Rattle.board.specs.Description.{Board, WellDescribed, afterReset}
 use Rattle.board.specs.Serving.{serve}
 use Rattle.board.specs.Promise.{Seen, lent, seen, shows, Serves}
-use Rattle.board.proofs.Keeps.{Kept, serve-keeps, serve-keeps-well, reset-keeps-well}
+use Rattle.board.proofs.Keeps.{serve-keeps, serve-keeps-well, reset-keeps-well}
 use Rattle.runs.specs.Run.{Event, packet, reset, next, after, outcomes}
-use Rattle.runs.specs.Calls.{Call, served, wasReset, eventOf, eventsOf, holds, held, Meets, AllMeet, Show}
+use Rattle.runs.specs.Calls.{Call, called, wasReset, eventOf, eventsOf, holds, held, Meets, AllMeet, Show}
 
 -- the statement
 abbrev pub CallsGiveRun : Type 0
@@ -22,7 +22,7 @@ RunKeepsWell = (d : Board) (es : List Event) → WellDescribed d → WellDescrib
 
 -- what the caller holds after a call of `serve` is the board after serving
 held-served : (d : Board) (bytes reply : List ℕ) (r : Served) (o t replied : List ℕ) → Serves d bytes reply r o t replied
-    → holds d (served bytes reply r o t replied) ≡ serve d bytes (length reply) .after
+    → holds d (called bytes reply r o t replied) ≡ serve d bytes (length reply) .after
 unfolding shows
 held-served d bytes reply r o t replied e =
     let k = serve-keeps d bytes (length reply) in
@@ -30,20 +30,20 @@ held-served d bytes reply r o t replied e =
     record {
       description = sym (k .description) i;
       capture = (ap (λ (x : Seen). x .capture) e) i;
-      ordinary = record { bytes = (ap (λ (x : Seen). x .ordinary) e) i; rules = sym (k .rules) i };
-      trusted = record { bytes = (ap (λ (x : Seen). x .trusted) e) i; rules = sym (k .limits) i };
+      ordinary = record { bytes = (ap (λ (x : Seen). x .ordinary) e) i; rules = sym (k .ordinaryRules) i };
+      trusted = record { bytes = (ap (λ (x : Seen). x .trusted) e) i; rules = sym (k .trustedRules) i };
     }
 
 held-next : (d : Board) (c : Call) → Meets d c → holds d c ≡ next d (eventOf c)
-held-next d (served bytes reply r o t replied) e = held-served d bytes reply r o t replied e
+held-next d (called bytes reply r o t replied) e = held-served d bytes reply r o t replied e
 held-next d (wasReset kept) e =
     λ i. record { description = d .description; capture = e i; ordinary = d .ordinary; trusted = d .trusted }
 
 pub calls-give-run : CallsGiveRun
 calls-give-run d [] m = (refl, tt)
-calls-give-run d (served bytes reply r o t replied ∷ cs) m =
-    let h = held-next d (served bytes reply r o t replied) (m .0) in
-    let rest = calls-give-run (holds d (served bytes reply r o t replied)) cs (m .1) in (
+calls-give-run d (called bytes reply r o t replied ∷ cs) m =
+    let h = held-next d (called bytes reply r o t replied) (m .0) in
+    let rest = calls-give-run (holds d (called bytes reply r o t replied)) cs (m .1) in (
       rest .0 ∙ ap (λ (x : Board). after x (eventsOf cs)) h,
       (m .0, subst (λ (x : Board). Show cs (outcomes x (eventsOf cs))) h (rest .1)),
     )

@@ -15,7 +15,7 @@ use Rattle.capture.specs.declared.Capture.the-variants.{Nothing, Number}
 use Rattle.capture.specs.Kept.{completer}
 use Rattle.board.specs.declared.Served.{Served}
 use Rattle.board.specs.Description.{Board, WellDescribed}
-use Rattle.board.specs.Access.{unsupported, storedBytes, storedBesides, afterWrite, shownWord}
+use Rattle.board.specs.Access.{unsupported, storedBytes, storedOrdinary, afterWrite, shownWord}
 use Rattle.board.specs.Serving.{Outcome, respond, serve}
 use Rattle.board.specs.Promise.{Seen, seen, shows, Serves}
 use Rattle.runs.specs.Run.{Event, packet, outcomes}
@@ -41,12 +41,13 @@ threePackets =
     ∷ []
 
 -- the statements: UR to everything (P3); one fixed completion, whatever it is (P1 against P2); replies and stores nothing (the byte after a
--- write); serves the first packet and afterwards only replies (a run of three packets)
+-- write); serves the first packet and afterwards only replies (at its second packet, and in a run of three)
 abbrev pub WrongServersCaught : Type 0
 WrongServersCaught =
     Caught alwaysUR
     × ((completion : List ℕ) → MeetsAt (fixedCompletion completion) (bench zeros) p1 → MeetsAt (fixedCompletion completion) (bench zeros) p2 → ⊥)
     × Caught storesNothing
+    × Caught (servesOnce (packet (changed p2 0xb 0x08) 16 ∷ []))
     × (outcomesBy servesOnce [] (bench zeros) threePackets ≡ outcomes (bench zeros) threePackets → ⊥)
 
 -- the traps: a capture from a trusted write, a capture from a poisoned write, dropped register bits, stale bytes at A
@@ -73,31 +74,35 @@ stored : ℕ → Seen → ℕ
 stored at x = getD (x .ordinary) at 0
 
 ur-caught : Caught alwaysUR
-unfolding replied stored shows serve respond unsupported storedBytes storedBesides afterWrite shownWord requestOf typeOf withData withoutData completer merged mergedByte shown
+unfolding replied stored shows serve respond unsupported storedBytes storedOrdinary afterWrite shownWord requestOf typeOf withData withoutData completer merged mergedByte shown
 ur-caught =
     caught-by alwaysUR (benchAfter zeros (holding 0x004 (0x08 ∷ 0x00 ∷ 0x00 ∷ 0x00 ∷ []))) p1 (replied 6) refl (λ e. omega (arith, e))
 
 fixed-caught : (completion : List ℕ) → MeetsAt (fixedCompletion completion) (bench zeros) p1
     → MeetsAt (fixedCompletion completion) (bench zeros) p2 → ⊥
-unfolding replied stored shows serve respond unsupported storedBytes storedBesides afterWrite shownWord requestOf typeOf withData withoutData completer merged mergedByte shown
+unfolding replied stored shows serve respond unsupported storedBytes storedOrdinary afterWrite shownWord requestOf typeOf withData withoutData completer merged mergedByte shown
 fixed-caught completion one two =
     let a = ap (replied 10) (sym (one .4) ∙ one .5) in
     let b = ap (replied 10) (sym (two .4) ∙ two .5) in
     omega (arith, sym a ∙ b)
 
 stores-caught : Caught storesNothing
-unfolding replied stored shows serve respond unsupported storedBytes storedBesides afterWrite shownWord requestOf typeOf withData withoutData completer merged mergedByte shown
+unfolding replied stored shows serve respond unsupported storedBytes storedOrdinary afterWrite shownWord requestOf typeOf withData withoutData completer merged mergedByte shown
 stores-caught = caught-by storesNothing (bench zeros) p2 (stored 0x004) refl (λ e. omega (arith, e))
 
+second-caught : Caught (servesOnce (packet (changed p2 0xb 0x08) 16 ∷ []))
+unfolding replied stored shows serve respond unsupported storedBytes storedOrdinary afterWrite shownWord requestOf typeOf withData withoutData completer merged mergedByte shown
+second-caught = caught-by (servesOnce (packet (changed p2 0xb 0x08) 16 ∷ [])) (bench zeros) p2 (stored 0x004) refl (λ e. omega (arith, e))
+
 once-caught : outcomesBy servesOnce [] (bench zeros) threePackets ≡ outcomes (bench zeros) threePackets → ⊥
-unfolding replied stored shows serve respond unsupported storedBytes storedBesides afterWrite shownWord requestOf typeOf withData withoutData completer merged mergedByte shown
+unfolding replied stored shows serve respond unsupported storedBytes storedOrdinary afterWrite shownWord requestOf typeOf withData withoutData completer merged mergedByte shown
 once-caught e =
     let third : List Outcome → ℕ = λ os. getD (getD os 2 (record { number = 0; after = bench []; written = [] }) .written) 12 0 in
     let d : third (outcomesBy servesOnce [] (bench zeros) threePackets) ≡ third (outcomes (bench zeros) threePackets) = ap third e in
     omega (arith, d)
 
 pub wrong-servers-caught : WrongServersCaught
-wrong-servers-caught = (ur-caught, fixed-caught, stores-caught, once-caught)
+wrong-servers-caught = (ur-caught, fixed-caught, stores-caught, second-caught, once-caught)
 
 -- ---- the traps
 
@@ -106,20 +111,20 @@ bus : Seen → ℕ
 bus x = elim (x .capture) [ Nothing ↦ 0 | Number b device ↦ b ]
 
 trusted-capture-caught : Caught capturesTrusted
-unfolding replied stored shows serve respond unsupported storedBytes storedBesides afterWrite shownWord requestOf typeOf withData withoutData completer merged mergedByte shown bus
+unfolding replied stored shows serve respond unsupported storedBytes storedOrdinary afterWrite shownWord requestOf typeOf withData withoutData completer merged mergedByte shown bus
 trusted-capture-caught = caught-by capturesTrusted (bench zeros) (changed p2 0 0x5b) bus refl (λ e. omega (arith, e))
 
 poisoned-capture-caught : Caught capturesPoisoned
-unfolding replied stored shows serve respond unsupported storedBytes storedBesides afterWrite shownWord requestOf typeOf withData withoutData completer merged mergedByte shown bus
+unfolding replied stored shows serve respond unsupported storedBytes storedOrdinary afterWrite shownWord requestOf typeOf withData withoutData completer merged mergedByte shown bus
 poisoned-capture-caught = caught-by capturesPoisoned (bench zeros) (changed p2 2 0x40) bus refl (λ e. omega (arith, e))
 
 register-bits-caught : Caught dropsRegisterBits
-unfolding replied stored shows serve respond unsupported storedBytes storedBesides afterWrite shownWord requestOf typeOf withData withoutData completer merged mergedByte shown
+unfolding replied stored shows serve respond unsupported storedBytes storedOrdinary afterWrite shownWord requestOf typeOf withData withoutData completer merged mergedByte shown
 register-bits-caught =
     caught-by dropsRegisterBits (benchAfter (holding 0x008 (0x55 ∷ [])) zeros) (readAt 0x01 0x08) (replied 12) refl (λ e. omega (arith, e))
 
 stale-caught : Caught showsStale
-unfolding replied stored shows serve respond unsupported storedBytes storedBesides afterWrite shownWord requestOf typeOf withData withoutData completer merged mergedByte shown
+unfolding replied stored shows serve respond unsupported storedBytes storedOrdinary afterWrite shownWord requestOf typeOf withData withoutData completer merged mergedByte shown
 stale-caught =
     caught-by showsStale (benchAfter (holding 0x104 (0xaa ∷ [])) (holding 0x00c (0xbb ∷ []))) (readAt 0x01 0x04) (replied 12) refl (λ e. omega (arith, e))
 

@@ -14,12 +14,12 @@ use Rattle.runs.specs.Run.{Event, packet, reset}
 -- a call of `board::serve`: the packet and the reply as lent, the result, and the two spaces and the reply at its end; or a call of
 -- `board::reset`: its result
 pub data Call : Type 0 where
-  served : (bytes reply : List ℕ) (result : Served) (ordinary trusted replied : List ℕ) → Call
+  called : (bytes reply : List ℕ) (result : Served) (ordinary trusted replied : List ℕ) → Call
   wasReset : (kept : Capture) → Call
 
 -- the event that a call handles
 abbrev pub eventOf : Call → Event
-eventOf (served bytes reply result ordinary trusted replied) = packet bytes (length reply)
+eventOf (called bytes reply result ordinary trusted replied) = packet bytes (length reply)
 eventOf (wasReset kept) = reset
 
 abbrev pub eventsOf : List Call → List Event
@@ -28,7 +28,7 @@ eventsOf (c ∷ cs) = eventOf c ∷ eventsOf cs
 
 -- what the caller holds after a call: the capture that was handed back, and the spaces as the call left them
 abbrev pub holds : Board → Call → Board
-holds d (served bytes reply result ordinary trusted replied) =
+holds d (called bytes reply result ordinary trusted replied) =
     lent (d .description) (result .capture) ordinary (d .ordinary .rules) trusted (d .trusted .rules)
 holds d (wasReset kept) = record { description = d .description; capture = kept; ordinary = d .ordinary; trusted = d .trusted }
 
@@ -38,7 +38,7 @@ held d (c ∷ cs) = held (holds d c) cs
 
 -- the call's result meets the entry's promise
 abbrev pub Meets : Board → Call → Type 0
-Meets d (served bytes reply result ordinary trusted replied) = Serves d bytes reply result ordinary trusted replied
+Meets d (called bytes reply result ordinary trusted replied) = Serves d bytes reply result ordinary trusted replied
 Meets d (wasReset kept) = kept ≡ forgotten (d .capture)
 
 -- each call does, from what the caller held
@@ -50,6 +50,6 @@ AllMeet d (c ∷ cs) = Meets d c × AllMeet (holds d c) cs
 abbrev pub Show : List Call → List Outcome → Type 0
 Show [] [] = Unit {0}
 Show [] (o ∷ os) = ⊥
-Show (served bytes reply result ordinary trusted replied ∷ cs) [] = ⊥
-Show (served bytes reply result ordinary trusted replied ∷ cs) (o ∷ os) = (seen result ordinary trusted replied ≡ shows o reply) × Show cs os
+Show (called bytes reply result ordinary trusted replied ∷ cs) [] = ⊥
+Show (called bytes reply result ordinary trusted replied ∷ cs) (o ∷ os) = (seen result ordinary trusted replied ≡ shows o reply) × Show cs os
 Show (wasReset kept ∷ cs) os = Show cs os

@@ -62,7 +62,8 @@ storesNothing =
 -- "one that serves the first packet and afterwards only replies": by what came before
 abbrev pub servesOnce : List Event → Server
 servesOnce [] = serve
-servesOnce (e ∷ past) = λ d p size. record { number = serve d p size .number; after = d; written = serve d p size .written }
+servesOnce (reset ∷ past) = servesOnce past
+servesOnce (packet bytes size₀ ∷ past) = λ d p size. record { number = serve d p size .number; after = d; written = serve d p size .written }
 
 -- a run of a server that remembers what came before
 abbrev pub outcomesBy : (List Event → Server) → List Event → Board → List Event → List Outcome
@@ -71,7 +72,8 @@ outcomesBy server past d (packet bytes size ∷ es) =
     server past d bytes size ∷ outcomesBy server (packet bytes size ∷ past) (server past d bytes size .after) es
 outcomesBy server past d (reset ∷ es) = outcomesBy server (reset ∷ past) (afterReset d) es
 
--- "Capturing from a trusted write": the capture after a write that succeeded is the write's
+-- "Capturing from a trusted write": the capture is the write's, whatever the write is answered. (One that succeeds names the captured two
+-- already; one that is answered UR tells.)
 abbrev pub capturing : Board → Request → Board
 capturing d q =
     record {

@@ -6,7 +6,7 @@ use mathlib.Core.Bool.{Bool, true, false}
 use mathlib.Core.List.{List, _∷_}
 use mathlib.Core.Path.{_≡_, refl, sym, ap, ap₂, _∙_, subst}
 use lib.Dec.{ltb}
-use Rattle.answers.specs.Lowest.{check, lowest}
+use Rattle.answers.specs.Checks.{check, firstThatApplies}
 use Rattle.packet.specs.declared.Id.{Id}
 use Rattle.packet.specs.declared.Request.{Request}
 use Rattle.packet.specs.Fields.{dataOf}
@@ -48,7 +48,7 @@ ServedAlike view =
 
 -- of a well-described board, the number is the packet's and the reply size's alone
 number-same : (d e : Board) (p : List ℕ) (size : ℕ) → WellDescribed d → WellDescribed e → serveNumber d p size ≡ serveNumber e p size
-number-same d e p size w v = ap (λ (b : Bool). lowest (check 1 b ∷ check 2 (ltb size 16) ∷ packetChecks p)) (w ∙ sym v)
+number-same d e p size w v = ap (λ (b : Bool). firstThatApplies (check 1 b ∷ check 2 (ltb size 16) ∷ packetChecks p)) (w ∙ sym v)
 
 -- ---- a request
 
@@ -116,9 +116,3 @@ pub served-alike : {View : Type 0} (view : Board → View) → ServedAlike view
 unfolding serve
 served-alike view d e p size w v a =
     subst (ByNumber view d e p (serveNumber d p size)) (number-same d e p size w v) (by-number view d e p (serveNumber d p size) a)
-
--- ---- a request is for the trusted space exactly if its packet is trusted
-
-pub target-trusted : (p : List ℕ) → isTrusted (requestOf p .target) ≡ trusted p
-unfolding requestOf
-target-trusted p = refl

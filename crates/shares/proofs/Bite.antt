@@ -19,7 +19,7 @@ use Rattle.capture.specs.declared.Capture.{Capture}
 use Rattle.capture.specs.declared.Capture.the-variants.{Nothing, Number}
 use Rattle.capture.specs.Kept.{completer}
 use Rattle.board.specs.Description.{WellDescribed}
-use Rattle.board.specs.Access.{unsupported, storedBytes, storedBesides, afterWrite, shownWord}
+use Rattle.board.specs.Access.{unsupported, storedBytes, storedOrdinary, afterWrite, shownWord}
 use Rattle.board.specs.Serving.{respond, serve}
 use Rattle.shares.specs.Kinds.{only}
 use Rattle.shares.specs.Views.{ordinaryState, trustedState, ordinaryEvents, trustedPackets, ordinaryShown, trustedShown, correlations, captures}
@@ -68,7 +68,7 @@ bus Nothing = 0
 bus (Number b device) = b
 
 pub first-half-bites : FirstHalfBites
-unfolding serve respond unsupported storedBytes storedBesides afterWrite shownWord requestOf typeOf withData withoutData completer merged mergedByte shown
+unfolding serve respond unsupported storedBytes storedOrdinary afterWrite shownWord requestOf typeOf withData withoutData completer merged mergedByte shown
 first-half-bites =
     record {
       well = (refl, refl);
@@ -83,7 +83,7 @@ first-half-bites =
     }
 
 pub second-half-bites : SecondHalfBites
-unfolding serve respond unsupported storedBytes storedBesides afterWrite shownWord requestOf typeOf withData withoutData completer merged mergedByte shown
+unfolding serve respond unsupported storedBytes storedOrdinary afterWrite shownWord requestOf typeOf withData withoutData completer merged mergedByte shown
 second-half-bites =
     record {
       well = (refl, refl);

@@ -13,7 +13,7 @@ use Rattle.board.specs.Access.{correlation}
 use Rattle.board.specs.Serving.{serve}
 use Rattle.board.specs.Promise.{Seen, shows}
 use Rattle.runs.specs.Run.{Event, next, after}
-use Rattle.runs.specs.Calls.{Call, served, wasReset, eventOf, eventsOf, holds, held, Meets, AllMeet}
+use Rattle.runs.specs.Calls.{Call, called, wasReset, eventOf, eventsOf, holds, held, Meets, AllMeet}
 use Rattle.runs.proofs.Calls.{calls-give-run}
 use Rattle.shares.specs.Kinds.{keep, along}
 use Rattle.shares.specs.Views.{ordinaryPacket, trustedPacket, ordinaryEvents, trustedPackets, ordinaryState, trustedState, outcome, showing, register}
@@ -33,17 +33,17 @@ holds-next d c m = calls-give-run d (c ∷ []) (m, tt) .0
 
 number-shown : (d : Board) (c : Call) → Meets d c → answered c ≡ outcome d (eventOf c) .number
 unfolding shows
-number-shown d (served bytes reply r o t replied) m = ap (λ (x : Seen). x .number) m
+number-shown d (called bytes reply r o t replied) m = ap (λ (x : Seen). x .number) m
 number-shown d (wasReset kept) m = refl
 
 written-shown : (d : Board) (c : Call) → Meets d c → wrote c ≡ outcome d (eventOf c) .written
 unfolding shows
-written-shown d (served bytes reply r o t replied) m =
+written-shown d (called bytes reply r o t replied) m =
     ap (λ (x : Seen). take (x .length) (x .reply)) m ∙ take-append-seam (serve d bytes (length reply) .written) _
 written-shown d (wasReset kept) m = refl
 
 bytes-shown : (space : Board → Space) (d : Board) (c : Call) → Meets d c → space (holds d c) .bytes ≡ space (outcome d (eventOf c) .after) .bytes
-bytes-shown space d (served bytes reply r o t replied) m = ap (λ (x : Board). space x .bytes) (holds-next d (served bytes reply r o t replied) m)
+bytes-shown space d (called bytes reply r o t replied) m = ap (λ (x : Board). space x .bytes) (holds-next d (called bytes reply r o t replied) m)
 bytes-shown space d (wasReset kept) m = ap (λ (x : Board). space x .bytes) (holds-next d (wasReset kept) m)
 
 showed-is : (space : Board → Space) (d : Board) (c : Call) → Meets d c → showed space d c ≡ showing space d (eventOf c)

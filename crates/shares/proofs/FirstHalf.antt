@@ -16,7 +16,8 @@ use Rattle.board.proofs.Keeps.{after-serving}
 use Rattle.runs.specs.Run.{Event, packet, reset, next}
 use Rattle.shares.specs.Views.{OrdinaryState, ordinaryState, ordinaryPacket, trustedPacket, outcome, register}
 use Rattle.shares.specs.Statements.{FirstHalf}
-use Rattle.shares.proofs.Alike.{Alike, Same, Answered, served-alike, target-trusted}
+use Rattle.packet.proofs.Laws.{trusted-target}
+use Rattle.shares.proofs.Alike.{Alike, Same, Answered, served-alike}
 use Rattle.shares.proofs.Boards.{boards-agree}
 
 -- a board with a given ordinary state and correlation register, and nothing else
@@ -74,14 +75,14 @@ within reset h = refl
 hidden : (d : Board) (x : Event) → not (trustedPacket x) ≡ false → ordinaryState (next d x) ≡ ordinaryState d
 hidden d (packet bytes size) h =
     after-serving (λ b. ordinaryState b ≡ ordinaryState d) d bytes size refl
-    (trusted-write-keeps d (requestOf bytes) (dataOf bytes) (target-trusted bytes ∙ not-false (trusted bytes) h))
+    (trusted-write-keeps d (requestOf bytes) (dataOf bytes) (trusted-target bytes ∙ not-false (trusted bytes) h))
 hidden d reset h = absurd (true≢false h)
 
 stepped : (d e : Board) (x : Event) → WellDescribed d → WellDescribed e → not (trustedPacket x) ≡ true → ordinaryState d ≡ ordinaryState e
     → (ordinaryPacket x ≡ true → register d x ≡ register e x) → Same ordinaryState (outcome d x) (outcome e x)
 stepped d e (packet bytes size) w u h v k =
     served-alike ordinaryState d e bytes size w u (alike d e v) (λ m n.
-    answered d e (requestOf bytes) (dataOf bytes) (target-trusted bytes ∙ not-true (trusted bytes) h) v
+    answered d e (requestOf bytes) (dataOf bytes) (trusted-target bytes ∙ not-true (trusted bytes) h) v
     (served-register d e bytes size (k h) m n))
 stepped d e reset w u h v k =
     record {

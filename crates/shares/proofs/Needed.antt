@@ -19,7 +19,7 @@ use Rattle.capture.specs.declared.Capture.{Capture}
 use Rattle.capture.specs.declared.Capture.the-variants.{Nothing, Number}
 use Rattle.capture.specs.Kept.{completer}
 use Rattle.board.specs.Description.{Space, Board, WellDescribed}
-use Rattle.board.specs.Access.{unsupported, storedBytes, storedBesides, afterWrite, shownWord}
+use Rattle.board.specs.Access.{unsupported, storedBytes, storedOrdinary, afterWrite, shownWord}
 use Rattle.board.specs.Serving.{respond, serve}
 use Rattle.runs.specs.Run.{Event, packet, reset, after}
 use Rattle.runs.specs.Bench.{zeros, holding, benchRules, p1, p2}
@@ -172,7 +172,7 @@ abbrev stored4 : List Event
 stored4 = sent (trustedWriteAt 0x0f 0x00 0x04 ones) ∷ trusted4
 
 pub first-premises-needed : FirstPremisesNeeded
-unfolding serve respond unsupported storedBytes storedBesides afterWrite shownWord requestOf typeOf withData withoutData completer merged mergedByte shown
+unfolding serve respond unsupported storedBytes storedOrdinary afterWrite shownWord requestOf typeOf withData withoutData completer merged mergedByte shown
 first-premises-needed = (
   first-half,
   refuted ordinary WellDescribed whole whole nothing (usual zero zero) (usual zero (full 0x00c)) atA atA
@@ -199,7 +199,7 @@ first-premises-needed = (
 )
 
 pub second-premises-needed : SecondPremisesNeeded
-unfolding serve respond unsupported storedBytes storedBesides afterWrite shownWord requestOf typeOf withData withoutData completer merged mergedByte shown
+unfolding serve respond unsupported storedBytes storedOrdinary afterWrite shownWord requestOf typeOf withData withoutData completer merged mergedByte shown
 second-premises-needed = (
   second-half,
   refuted trusted WellDescribed whole whole nothing (usual zero zero) (boardOf 0 0x104 0x00c Nothing zero zero) trusted4 trusted4

@@ -14,7 +14,8 @@ use Rattle.board.proofs.Keeps.{after-serving}
 use Rattle.runs.specs.Run.{Event, packet, reset, next}
 use Rattle.shares.specs.Views.{TrustedState, trustedState, trustedPacket, outcome}
 use Rattle.shares.specs.Statements.{SecondHalf}
-use Rattle.shares.proofs.Alike.{Alike, Same, Answered, served-alike, target-trusted}
+use Rattle.packet.proofs.Laws.{trusted-target}
+use Rattle.shares.proofs.Alike.{Alike, Same, Answered, served-alike}
 use Rattle.shares.proofs.Boards.{boards-agree}
 
 -- a board with a given trusted state, and nothing else
@@ -67,14 +68,14 @@ answered d e q new t v k =
 hidden : (d : Board) (x : Event) → trustedPacket x ≡ false → trustedState (next d x) ≡ trustedState d
 hidden d (packet bytes size) h =
     after-serving (λ b. trustedState b ≡ trustedState d) d bytes size refl
-    (ordinary-write-keeps d (requestOf bytes) (dataOf bytes) (target-trusted bytes ∙ h))
+    (ordinary-write-keeps d (requestOf bytes) (dataOf bytes) (trusted-target bytes ∙ h))
 hidden d reset h = refl
 
 stepped : (d e : Board) (x : Event) → WellDescribed d → WellDescribed e → trustedPacket x ≡ true → trustedState d ≡ trustedState e
     → (trustedPacket x ≡ true → d .capture ≡ e .capture) → Same trustedState (outcome d x) (outcome e x)
 stepped d e (packet bytes size) w u h v k =
     served-alike trustedState d e bytes size w u (alike d e v (k h)) (λ m n.
-    answered d e (requestOf bytes) (dataOf bytes) (target-trusted bytes ∙ h) v (k h))
+    answered d e (requestOf bytes) (dataOf bytes) (trusted-target bytes ∙ h) v (k h))
 stepped d e reset w u h v k = absurd (false≢true h)
 
 pub second-half : SecondHalf

@@ -10,17 +10,17 @@ use Rattle.answers.specs.Numbers.{answerOf}
 use Rattle.board.specs.Description.{Space, Board, WellDescribed}
 use Rattle.board.specs.Access.{correlation}
 use Rattle.runs.specs.Run.{Event}
-use Rattle.runs.specs.Calls.{Call, served, wasReset, eventOf, eventsOf, holds, held, AllMeet}
+use Rattle.runs.specs.Calls.{Call, called, wasReset, eventOf, eventsOf, holds, held, AllMeet}
 use Rattle.shares.specs.Kinds.{along}
 use Rattle.shares.specs.Views.{Shown, ordinaryPacket, trustedPacket, ordinaryEvents, trustedPackets, ordinaryState, trustedState}
 
 -- the number that a call answered, and the part of the reply that it says it wrote (a reset answers and writes nothing)
 abbrev pub answered : Call → ℕ
-answered (served bytes reply result ordinary trusted replied) = answerOf (result .answer)
+answered (called bytes reply result ordinary trusted replied) = answerOf (result .answer)
 answered (wasReset kept) = 0
 
 abbrev pub wrote : Call → List ℕ
-wrote (served bytes reply result ordinary trusted replied) = take (result .length) replied
+wrote (called bytes reply result ordinary trusted replied) = take (result .length) replied
 wrote (wasReset kept) = []
 
 -- at a call: its number, the written part of the reply, and the bytes of a space that the caller then holds

@@ -1,12 +1,13 @@
 -- Laws of the bytes of a space, for the proofs above: what `four`, `word` and `put` come to inside and outside the space, and what stands in a
 -- space after a `put`. Assumes nothing.
-use Prim.Native.Nat.{ℕ, _+_, _-_, _≤_, _<_}
+use Prim.Native.Nat.{ℕ, _+_, _-_, _%_, _≤_, _<_}
 use mathlib.Core.Bool.{Bool, true, false, cond}
 use mathlib.Core.List.{List, [], _∷_, _++_}
-use mathlib.Core.Path.{_≡_, refl, sym, ap, _∙_}
+use mathlib.Core.Path.{_≡_, refl, sym, ap, _∙_, subst}
+use native.Mathlib.Nat.{add-zero}
 use native.Mathlib.Omega.{arith}
-use borrow.Author.Tests.{le-leb, lt-leb}
-use lib.Dec.{leb}
+use borrow.Author.Tests.{le-leb, lt-leb, ltb-true, ltb-false}
+use lib.Dec.{leb, ltb}
 use lib.Seq.{length-take-le, getD-take, getD-drop, getD-append-add}
 use lib.ListN.{length, length-append, length-take, length-drop, getD, take, drop, List·getD-append}
 use Rattle.words.specs.Bytes.{byte, four, put, fourOrZero, Puts}
@@ -81,3 +82,17 @@ module _ (s : List ℕ) (at : ℕ) (bytes : List ℕ) where
 
         split : k ≡ (at + length bytes) + (k - (at + length bytes))
         split = omega arith
+
+-- another word of the space is as it was: no two offsets that are multiples of 4 reach the same byte
+pub four-elsewhere : (s : List ℕ) (at : ℕ) (bytes : List ℕ) (o : ℕ) → at + length bytes ≤ length s → length bytes ≡ 4 → at % 4 ≡ 0 → o % 4 ≡ 0
+    → (o ≡ at → ⊥) → four (put s at bytes) o ≡ four s o
+four-elsewhere s at bytes o h size a b apart = go (ltb o at) refl
+  where
+    each : ((k : ℕ) → k < 4 → byte (put s at bytes) (o + k) ≡ byte s (o + k)) → four (put s at bytes) o ≡ four s o
+    each f =
+        λ i. subst (λ (n : ℕ). byte (put s at bytes) n ≡ byte s n) (add-zero o) (f 0 (omega arith)) i
+        ∷ f 1 (omega arith) i ∷ f 2 (omega arith) i ∷ f 3 (omega arith) i ∷ []
+
+    go : (less : Bool) → ltb o at ≡ less → four (put s at bytes) o ≡ four s o
+    go true e = each (λ k small. put-before s at bytes h (o + k) (omega (arith, ltb-true o at e)))
+    go false e = each (λ k small. put-after s at bytes h (o + k) (omega (arith, ltb-false o at e)))

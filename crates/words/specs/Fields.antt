@@ -8,16 +8,13 @@ use Rattle.words.specs.Bytes.{byte}
 
 -- bits high:low of a number, as a number
 abbrev pub bits : ℕ → ℕ → ℕ → ℕ
-bits high low n = n / 2 ^ low % 2 ^ (suc high - low)
+bits high low n = (n / 2 ^ low) % 2 ^ (suc high - low)
 
 -- bit k of a number, 0 or 1
 abbrev pub bit : ℕ → ℕ → ℕ
-bit k n = n / 2 ^ k % 2
+bit k n = (n / 2 ^ k) % 2
 
--- "Words are little-endian": the 16 and the 32 bits at an offset
-abbrev pub half : List ℕ → ℕ → ℕ
-half s at = byte s at + 256 * byte s (at + 1)
-
+-- "Words are little-endian": the 32 bits at an offset
 abbrev pub word : List ℕ → ℕ → ℕ
 word s at = byte s at + 256 * byte s (at + 1) + 65536 * byte s (at + 2) + 16777216 * byte s (at + 3)
 

@@ -1,5 +1,6 @@
 // Bytes of a lent space: four of them at an offset, as a little-endian word, and a run of bytes stored.
-// Every function answers for every offset and length: what does not lie in the space reads as zeros, and is not stored.
+// Every function answers for every offset and length: four bytes that do not all lie in the space read as four zeros, and bytes that do
+// not all lie in it are not stored.
 ghost use mathlib.Core.Path.{_≡_};
 ghost use Prim.Native.Nat.{_+_, _*_};
 ghost use Rattle.words.specs.Bytes.{fourOrZero, Puts};

@@ -1,7 +1,7 @@
 -- `board::store_ordinary` meets its contract: at A nothing is stored. Assumes nothing.
 use denote.Ref.{now}
 use mathlib.Core.Path.{refl, sym, ap, _∙_}
-use Rattle.board.proofs.Laws.{stored-at-a, stored-besides}
+use Rattle.board.proofs.Laws.{stored-at-a, stored-ordinary}
 use borrow.Author.Needs.{needs}
 use Rattle.board.proofs.access.store_ordinary.Statement.{statement}
 use Rattle.board.proofs.access.store_ordinary.Tie as tie
@@ -13,7 +13,7 @@ same-length : tie.Need-same-length
 same-length c = search needs
 
 returns : tie.Need-returns
-returns c = c .before .before .store .ensures ∙ sym (stored-besides _ _ _ _ _ (c .before .before .before .before .if1 .taken))
+returns c = c .before .before .store .ensures ∙ sym (stored-ordinary _ _ _ _ _ (c .before .before .before .before .if1 .taken))
 
 returns-2 : tie.Need-returns-2
 returns-2 c = sym (stored-at-a _ _ _ _ _ (c .if1 .left))

@@ -1,5 +1,5 @@
--- Document 01, "For packets and for walks the lowest applicable number is given": a list of checks, lowest number first, and the
--- number of the first that applies. Assumes nothing.
+-- Document 01, "For packets [..] the lowest applicable number is given; the two records below state their own order": a list of checks in
+-- the order in which they count (for packets the lowest number first), and the number of the first that applies. Assumes nothing.
 use Prim.Native.Nat.{ℕ}
 use mathlib.Core.Bool.{Bool, false, _||_, cond}
 use mathlib.Core.List.{List, [], _∷_}
@@ -13,9 +13,9 @@ abbrev pub check : ℕ → Bool → Check
 check n cause = record { number = n; applies = cause }
 
 -- the number of the first check that applies, 0 where none does
-abbrev pub lowest : List Check → ℕ
-lowest [] = 0
-lowest (c ∷ cs) = cond (c .applies) (c .number) (lowest cs)
+abbrev pub firstThatApplies : List Check → ℕ
+firstThatApplies [] = 0
+firstThatApplies (c ∷ cs) = cond (c .applies) (c .number) (firstThatApplies cs)
 
 -- one of the causes is there
 abbrev pub any : List Bool → Bool
