@@ -1,0 +1,16 @@
+// Lists the capabilities of a configuration space on standard input, as document 01 says.
+// The text is `report::listing`'s, whose promise says its bytes; no contract can say what a program reads or writes.
+use libc::STDIN_FILENO;
+use libc::STDOUT_FILENO;
+
+// A space and one byte more, so that a longer input is seen without being read to its end.
+const INPUT: usize = 4097;
+
+fn main() {
+    let mut input = [0u8; INPUT];
+    let mut text = [0u8; report::LONGEST];
+    let read = io::read_full(STDIN_FILENO, &mut input);
+    let written = report::listing(&input[..read], &mut text);
+    let length = written.length;
+    io::write_all(STDOUT_FILENO, &text[..length]);
+}

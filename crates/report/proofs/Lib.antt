@@ -1,0 +1,9 @@
+pub mod Adding
+pub mod Numerals
+pub mod Lines
+pub mod Writing
+pub mod Walked
+pub mod Printing
+pub mod Unique
+pub mod Longest
+pub mod Sample

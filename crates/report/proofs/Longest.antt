@@ -1,0 +1,37 @@
+-- THEOREM. No listing is longer than the room that is asked for it: a text of `longest` bytes holds the listing of any input. Assumes nothing.
+use Prim.Native.Nat.{ℕ, _≤_}
+use mathlib.Core.List.{List, _++_}
+use mathlib.Core.Path.{ap}
+use native.Mathlib.Omega.{arith}
+use lib.ListN.{length, length-append}
+use Rattle.lists.proofs.Pointers.{Bytes}
+use Rattle.lists.proofs.Maxima.{chain-maximum}
+use Rattle.report.specs.declared.section.Section.{Section}
+use Rattle.report.specs.declared.section.Section.the-variants.{Compatible, Extended}
+use Rattle.report.specs.Text.{ascii, line, decimal}
+use Rattle.report.specs.Listing.{refused, Part, Part.listed, Part.broken, Says, Says.other, Says.parts}
+use Rattle.report.specs.Prints.{longest}
+use Rattle.report.specs.Inner.{kindOf, shown, most}
+use Rattle.report.proofs.Walked.{shown-list}
+use Rattle.report.proofs.Writing.{section-length, refused-length}
+
+abbrev pub NoneLonger : Type 0
+NoneLonger = (s out : List ℕ) → Bytes s → Says s out → length out ≤ longest
+
+part-length : (section : Section) {s out : List ℕ} → Bytes s → Part (shown section) s out → length out ≤ most section
+part-length section {s} bytes (listed chain l e) =
+    omega (arith, ap length e, section-length section s chain (chain-maximum (kindOf section) s bytes chain (rw (shown-list section) l)))
+part-length section bytes (broken n e) = omega (arith, ap length e, refused-length section 7)
+
+pub none-longer : NoneLonger
+unfolding refused decimal
+none-longer s out bytes (other n e) = omega (arith, ap length e)
+none-longer s out bytes (parts size first second p q e) =
+    omega (
+      arith,
+      ap length e,
+      length-append (first ++ second) (line (ascii "end")),
+      length-append first second,
+      part-length Compatible bytes p,
+      part-length Extended bytes q,
+    )

@@ -1,0 +1,52 @@
+-- Laws of a listing as a whole: its parts one after the other, and the text that holds it. Assumes nothing.
+use Prim.Native.Nat.{ℕ, _+_, _≤_}
+use mathlib.Core.List.{List, _++_}
+use mathlib.Core.Path.{_≡_, refl, ap, _∙_}
+use native.Mathlib.Nat.{zero-add}
+use native.Mathlib.Omega.{arith}
+use lib.Dec.{lit≤}
+use lib.ListN.{length, drop, length-append}
+use Rattle.answers.specs.declared.Answer.the-variants.{Done}
+use Rattle.answers.specs.Numbers.{answerOf}
+use Rattle.lists.specs.Walks.{Space}
+use Rattle.report.specs.declared.Written.{Written}
+use Rattle.report.specs.declared.section.Section.the-variants.{Compatible, Extended}
+use Rattle.report.specs.Text.{ascii, line, decimal}
+use Rattle.report.specs.Listing.{compatible, extended, refused, Part, Says, Says.other, Says.parts}
+use Rattle.report.specs.Prints.{longest, Prints, Prints.printed, Prints.roomless}
+use Rattle.report.specs.Inner.{most, Added, Told, Fits}
+use Rattle.report.proofs.Adding.{added-then}
+
+module _ {s text : List ℕ} (space : Space s) (fits : Fits longest text 0) where
+  pub parts-told : {at then r : ℕ} {a b after : List ℕ} → Told (Part compatible s) (most Compatible) text 0 at a
+      → Told (Part extended s) (most Extended) a at then b → Added (line (ascii "end")) b then r after → Told (Says s) longest text 0 r after
+  parts-told first second last = record {
+    bytes = first .bytes ++ second .bytes ++ line (ascii "end");
+    known = parts space (first .bytes) (second .bytes) (first .known) (second .known) refl;
+    short = omega (arith, length-append (first .bytes ++ second .bytes) (line (ascii "end")), both, first .short, second .short);
+    added = added-then (added-then (first .added) (second .added) (omega (arith, fits, first .short, second .short))) (last)
+        (omega (arith, fits, both, first .short, second .short));
+  }
+    where
+      both : length (first .bytes ++ second .bytes) ≡ length (first .bytes) + length (second .bytes)
+      both = length-append (first .bytes) (second .bytes)
+
+-- an input of another size
+pub other-told : {s text after : List ℕ} {r : ℕ} → (Space s → ⊥) → Added (refused (ascii "input") 1) text 0 r after → Told (Says s) longest text 0 r after
+unfolding refused decimal
+other-told n added = record { bytes = refused (ascii "input") 1; known = other n refl; short = lit≤ tt; added = added }
+
+-- a listing at the start of a text that has room for the longest
+pub told-prints : {s text after : List ℕ} {n : ℕ} (r : Written) → longest ≤ length text → Told (Says s) longest text 0 n after
+    → (r .answer ≡ Done) × (r .length ≡ n) → Prints s text r after
+told-prints {s} {text} {after} {n} r room told e = printed room (told .bytes) (told .known) (record {
+  given = ap answerOf (e .0);
+  counted = e .1 ∙ told .added .next ∙ zero-add (length (told .bytes));
+  written = told .added .left ∙ ap (λ (k : ℕ). told .bytes ++ drop k text) (zero-add (length (told .bytes)));
+})
+
+-- what was written lies in the text, as a caller that reads it needs
+pub prints-inside : {s text after : List ℕ} {r : Written} → Prints s text r after → r .length ≤ length after
+prints-inside (roomless h p) = omega (arith, p .none)
+prints-inside {text = text} (printed h out says p) =
+    omega (arith, p .counted, ap length (p .written), length-append out (drop (length out) text))

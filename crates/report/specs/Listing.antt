@@ -1,0 +1,58 @@
+-- Document 01, "The listing program": what is written for a space. Assumes nothing.
+use Prim.Native.Nat.{ℕ}
+use mathlib.Core.List.{List, [], _∷_, _++_}
+use mathlib.Core.Path.{_≡_}
+use lib.ListN.{length}
+use Rattle.words.specs.Bytes.{byte}
+use Rattle.words.specs.Fields.{bits, word}
+use Rattle.lists.specs.declared.Kind.the-variants.{Compatible, Extended}
+use Rattle.lists.specs.Table.{Description, describe}
+use Rattle.lists.specs.Chain.{HasChain, NoChain}
+use Rattle.lists.specs.Walks.{Space}
+use Rattle.report.specs.Text.{ascii, line, hex, decimal}
+
+-- how a list is shown: which list it is, its name, and what a line says of the header at an offset of a space
+pub record Shown : Type 0 where
+  pub list : Description
+  pub name : List ℕ
+  pub entry : List ℕ → ℕ → List ℕ
+
+-- "`040 09`": the offset, and the ID of the header "ID byte, next byte"
+unfoldable pub compatibleEntry : List ℕ → ℕ → List ℕ
+compatibleEntry s at = hex 3 at ++ ascii " " ++ hex 2 (byte s at)
+
+-- "`100 0023 1`": the offset, and the ID and the version of the header "ID 15:0, version 19:16, next 31:20"
+unfoldable pub extendedEntry : List ℕ → ℕ → List ℕ
+extendedEntry s at = hex 3 at ++ ascii " " ++ hex 4 (bits 15 0 (word s at)) ++ ascii " " ++ hex 1 (bits 19 16 (word s at))
+
+-- the two lists that are shown
+abbrev pub compatible : Shown
+compatible = record { list = describe Compatible; name = ascii "compatible"; entry = compatibleEntry }
+
+abbrev pub extended : Shown
+extended = record { list = describe Extended; name = ascii "extended"; entry = extendedEntry }
+
+-- "`compatible 1`", "`extended 1`": the name and the count
+unfoldable pub heading : List ℕ → ℕ → List ℕ
+heading name count = line (name ++ ascii " " ++ decimal count)
+
+-- "`compatible 7 refused`", "`extended 7 refused`", "`input 1 refused`"
+unfoldable pub refused : List ℕ → ℕ → List ℕ
+refused name number = line (name ++ ascii " " ++ decimal number ++ ascii " refused")
+
+-- a line for each offset, in order
+abbrev pub entries : Shown → List ℕ → List ℕ → List ℕ
+entries shown s [] = []
+entries shown s (at ∷ rest) = line (shown .entry s at) ++ entries shown s rest
+
+-- what is written for one list: its chain, or, where none is legal, "A broken list's lines are replaced by …"
+pub data Part (shown : Shown) (s out : List ℕ) : Type 0 where
+  listed : (chain : List ℕ) → HasChain (shown .list) s chain → out ≡ heading (shown .name) (length chain) ++ entries shown s chain
+      → Part shown s out
+  broken : NoChain (shown .list) s → out ≡ refused (shown .name) 7 → Part shown s out
+
+-- "Input of another size writes only `input 1 refused`"; else the compatible part, the extended part and "`end`"
+pub data Says (s out : List ℕ) : Type 0 where
+  other : (Space s → ⊥) → out ≡ refused (ascii "input") 1 → Says s out
+  parts : Space s → (first second : List ℕ) → Part compatible s first → Part extended s second → out ≡ first ++ second ++ line (ascii "end")
+      → Says s out

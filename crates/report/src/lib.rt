@@ -1,0 +1,90 @@
+// What the listing program writes, made as bytes in a lent text: the lines of the compatible and the extended list of a space.
+// `listing` answers for every input and every text. What it promises is specs/Prints.antt over specs/Listing.antt.
+use answers::Answer;
+use answers::Refusal;
+use section::Section;
+ghost use mathlib.Core.Path.{_≡_};
+ghost use Rattle.lists.specs.Walks.{Space};
+ghost use Rattle.report.specs.Text.{ascii};
+ghost use Rattle.report.specs.Listing.{compatible, extended, refused, Part, Says};
+ghost use Rattle.report.specs.Prints.{longest, Prints};
+ghost use Rattle.report.specs.Inner.{most, Added, Told, Fits};
+
+mod section; // section.rt: one list
+mod text; // text.rt: bytes and numbers
+
+// What was written: its length is 0 where the text is refused.
+pub struct Written {
+    pub answer: Answer,
+    pub length: usize,
+}
+
+// The size of a space, and the most headers of each list.
+const SPACE: usize = 0x1000;
+
+const COMPATIBLE_MAXIMUM: usize = 48;
+
+const EXTENDED_MAXIMUM: usize = 960;
+
+// The longest listing: both headings, each list at its maximum with 7 and 11 bytes to a line, and the end.
+pub const LONGEST: usize = 14 + COMPATIBLE_MAXIMUM * 7 + 13 + EXTENDED_MAXIMUM * 11 + 4;
+
+// Writes the listing of an input at the start of a text.
+pub fn listing(space: &[u8], text: &mut [u8]) -> Written
+    ensures { λ r. ⌜ Prints (now (space .entry)) (now (text .entry)) r (now (text .exit)) ⌝ }
+{
+    if text.len() < LONGEST {
+        return Written {
+            answer: Answer::Refused(Refusal::NoRoom),
+            length: 0,
+        };
+    }
+    if space.len() != SPACE {
+        return done(other(text));
+    }
+    done(parts(space, text))
+}
+
+fn done(length: usize) -> Written
+    ensures { λ r. ⌜ (r .answer ≡ Answer.Done) × (r .length ≡ length) ⌝ }
+{
+    Written {
+        answer: Answer::Done,
+        length,
+    }
+}
+
+// An input of another size.
+fn other(text: &mut [u8]) -> usize
+    requires { ⌜ Fits longest (now text) 0 ⌝ }
+    ensures { λ r. ⌜ Added (refused (ascii "input") 1) (now (text .entry)) 0 r (now (text .exit)) ⌝ }
+{
+    let named = text::append(text, 0, b"input");
+    text::refused(text, named, Refusal::BadDescription)
+}
+
+// A space: the compatible part, the extended part, and the end.
+fn parts(space: &[u8], text: &mut [u8]) -> usize
+    requires { ⌜ Space (now space) × Fits longest (now text) 0 ⌝ }
+    ensures { λ r. ⌜ Told (Says (now (space .entry))) longest (now (text .entry)) 0 r (now (text .exit)) ⌝ }
+{
+    let first = compatible(space, text, 0);
+    let second = extended(space, text, first);
+    text::append(text, second, b"end\n")
+}
+
+fn compatible(space: &[u8], text: &mut [u8], place: usize) -> usize
+    requires { ⌜ Space (now space) × Fits (most Section.Compatible) (now text) place ⌝ }
+    ensures { λ r. ⌜ Told (Part compatible (now (space .entry))) (most Section.Compatible) (now (text .entry)) place r (now (text .exit)) ⌝ }
+{
+    let mut room = [0u16; COMPATIBLE_MAXIMUM];
+    section::write(Section::Compatible, space, text, place, &mut room)
+}
+
+fn extended(space: &[u8], text: &mut [u8], place: usize) -> usize
+    requires { ⌜ Space (now space) × Fits (most Section.Extended) (now text) place ⌝ }
+    ensures { λ r. ⌜ Told (Part extended (now (space .entry))) (most Section.Extended) (now (text .entry)) place r (now (text .exit)) ⌝ }
+{
+    let mut room = [0u16; EXTENDED_MAXIMUM];
+    section::write(Section::Extended, space, text, place, &mut room)
+}
