@@ -1,17 +1,16 @@
 -- Laws of the definitions of this crate, one for each way through the code and for the proofs above. Assumes nothing.
-use Prim.Native.Nat.{ℕ, zero, suc, _+_, _%_, _≤_, _<_}
-use mathlib.Core.Bool.{Bool, true, false, not, _&&_, _||_, cond, or-false, or-true}
-use mathlib.Core.List.{List, [], _∷_, _++_}
+use Prim.Native.Nat.{ℕ, _+_, _%_, _≤_}
+use mathlib.Core.Bool.{Bool, true, false, not, _&&_, or-false, or-true}
+use mathlib.Core.List.{List, [], _∷_}
 use mathlib.Core.Path.{_≡_, refl, sym, ap, ap₂, _∙_}
 use native.Mathlib.Nat.{zero-add}
 use native.Mathlib.Omega.{arith}
-use lib.Bits.{bitAnd, and-mask}
-use lib.Dec.{eqb, leb, ltb}
-use lib.ListN.{length, drop, take}
-use borrow.Author.Tests.{le-leb, lt-leb, eq-eqb, ne-eqb, leb-true, eqb-true, not-false}
+use lib.Dec.{eqb}
+use lib.ListN.{length}
+use borrow.Author.Tests.{eq-eqb, ne-eqb, eqb-true, not-false}
 use Rattle.answers.specs.Checks.{any}
 use Rattle.words.specs.Bytes.{four, fourOrZero, put, Puts}
-use Rattle.words.proofs.Laws.{four-inside, puts-is}
+use Rattle.words.proofs.Laws.{four-inside, puts-is, placed-true}
 use Rattle.registers.specs.Merge.{merged}
 use Rattle.registers.specs.Shown.{shown}
 use Rattle.registers.proofs.Laws.{merged-length}
@@ -24,32 +23,10 @@ use Rattle.capture.specs.declared.Capture.the-variants.{Nothing, Number}
 use Rattle.capture.specs.declared.Identified.{Identified}
 use Rattle.capture.specs.Kept.{completer, identified}
 use Rattle.board.specs.declared.Description.{Description}
-use Rattle.board.specs.Description.{Board, place, outOfRange, ranges, wrongSize, causes, WellDescribed}
+use Rattle.board.specs.Description.{Board, outOfRange, ranges, wrongSize, causes, WellDescribed}
 use Rattle.board.specs.Access.{addressed, unsupported, storedBytes, storedOrdinary, shownWord}
 use Rattle.board.specs.Promise.{over}
 use Rattle.board.specs.Inner.{Sized, Readable, done}
-
-and-true-both : (a b : Bool) → (a && b) ≡ true → (a ≡ true) × (b ≡ true)
-and-true-both true b e = (refl, e)
-and-true-both false b e = let z : _≡_ {A = ℕ} 0 1 = cc in absurd (omega arith)
-
--- ---- a place
-
-module _ (low n : ℕ) where
-  pub place-below : n < low → place low n ≡ false
-  place-below h = rw (lt-leb low n h)
-
-  pub place-above : low ≤ n → 0xffc < n → place low n ≡ false
-  place-above l h = rw (le-leb low n l, lt-leb n 0xffc h)
-
-  pub place-between : low ≤ n → n ≤ 0xffc → place low n ≡ eqb (bitAnd n 3) 0
-  place-between l h = rw (le-leb low n l, le-leb n 0xffc h, and-mask n 2)
-
-pub place-inside : (low n : ℕ) → place low n ≡ true → (low ≤ n) × (n ≤ 0xffc) × (n % 4 ≡ 0)
-place-inside low n e =
-    let f = and-true-both (leb low n && leb n 0xffc) (eqb (n % 4) 0) e in
-    let g = and-true-both (leb low n) (leb n 0xffc) (f .0) in
-    (leb-true low n (g .0), leb-true n 0xffc (g .1), eqb-true (n % 4) 0 (f .1))
 
 -- ---- a well-described board
 
@@ -90,9 +67,9 @@ well-described d e =
       trustedBytes = right-size _ (n .1 .1 .0);
       trustedRules = right-size _ (n .1 .1 .1 .0);
       inRange = n .1 .1 .1 .1 .0;
-      atAInside = place-inside 0x104 (d .description .a) (not-false _ (r .1 .1 .0)) .1;
-      atAAligned = place-inside 0x104 (d .description .a) (not-false _ (r .1 .1 .0)) .2;
-      register = place-inside 0x00c (d .description .b) (not-false _ (r .1 .1 .1 .0)) .1;
+      atAInside = placed-true _ 0x104 0xffc (not-false _ (r .1 .1 .0)) .below;
+      atAAligned = placed-true _ 0x104 0xffc (not-false _ (r .1 .1 .0)) .aligned;
+      register = placed-true _ 0x00c 0xffc (not-false _ (r .1 .1 .1 .0)) .below;
     }
 
 -- ---- unsupported requests

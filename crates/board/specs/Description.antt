@@ -1,11 +1,12 @@
 -- Document 01, "What the board software covers": a board, and when it is well described. Assumes nothing.
-use Prim.Native.Nat.{ℕ, _%_}
-use mathlib.Core.Bool.{Bool, false, not, _&&_}
+use Prim.Native.Nat.{ℕ}
+use mathlib.Core.Bool.{Bool, false, not}
 use mathlib.Core.List.{List, [], _∷_}
 use mathlib.Core.Path.{_≡_}
-use lib.Dec.{leb, ltb, eqb}
+use lib.Dec.{ltb, eqb}
 use lib.ListN.{length}
 use Rattle.answers.specs.Checks.{any}
+use Rattle.words.specs.Places.{placed}
 use Rattle.capture.specs.declared.Capture.{Capture}
 use Rattle.capture.specs.Kept.{forgotten, deviceOver}
 use Rattle.board.specs.declared.Description.{Description}
@@ -23,13 +24,10 @@ pub record Board : Type 0 where
   pub ordinary : Space
   pub trusted : Space
 
--- "a multiple of 4 from [low] to FFCh"
-abbrev pub place : ℕ → ℕ → Bool
-place low n = leb low n && leb n 0xffc && eqb (n % 4) 0
-
--- "a captured device is over 31, or a function number or offset is outside its range": "A [..] from 104h", "B [..] from 00Ch"
+-- "a captured device is over 31, or a function number or offset is outside its range": "A [..] a multiple of 4 from 104h to FFCh", "B [..] from
+-- 00Ch to FFCh"
 abbrev pub ranges : Description → Capture → List Bool
-ranges d kept = deviceOver kept ∷ ltb 7 (d .function) ∷ not (place 0x104 (d .a)) ∷ not (place 0x00c (d .b)) ∷ []
+ranges d kept = deviceOver kept ∷ ltb 7 (d .function) ∷ not (placed (d .a) 0x104 0xffc) ∷ not (placed (d .b) 0x00c 0xffc) ∷ []
 
 abbrev pub outOfRange : Description → Capture → Bool
 outOfRange d kept = any (ranges d kept)

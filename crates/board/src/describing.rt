@@ -1,22 +1,16 @@
 // Whether a board's numbers are in their ranges.
 ghost use mathlib.Core.Path.{_≡_};
-ghost use Rattle.board.specs.Description.{place, outOfRange, wrongSize, badly};
+ghost use Rattle.board.specs.Description.{outOfRange, wrongSize, badly};
 ghost use Rattle.capture.specs.Kept.{deviceOver};
 use super::Description;
 use capture::Capture;
 
-// A multiple of 4 from `low` to FFCh.
-fn is_place(low: usize, n: usize) -> bool
-    ensures { λ r. ⌜ r ≡ place low n ⌝ }
-{
-    if n < low {
-        return false;
-    }
-    if 0xffc < n {
-        return false;
-    }
-    n & 3 == 0
-}
+// The lowest places of A and of B, and the highest of both.
+const LOWEST_A: usize = 0x104;
+
+const LOWEST_B: usize = 0x00c;
+
+const HIGHEST: usize = 0xffc;
 
 fn device_over(kept: Capture) -> bool
     ensures { λ r. ⌜ r ≡ deviceOver kept ⌝ }
@@ -36,10 +30,10 @@ fn out_of_range(description: Description, kept: Capture) -> bool
     if 7 < description.function {
         return true;
     }
-    if !is_place(0x104, description.a) {
+    if !words::placed(description.a, LOWEST_A, HIGHEST) {
         return true;
     }
-    !is_place(0x00c, description.b)
+    !words::placed(description.b, LOWEST_B, HIGHEST)
 }
 
 fn is_wrong_size(size: usize) -> bool

@@ -9,11 +9,11 @@ use Rattle.lists.specs.declared.Kind.{Kind}
 use Rattle.lists.specs.declared.Walked.{Walked}
 use Rattle.lists.specs.Table.{describe}
 use Rattle.lists.specs.Chain.{HasChain, NoChain}
-use Rattle.lists.specs.Walks.{Space, Roomy, Lists, numberGiven, Walks, Walks.misdescribed, Walks.roomless, Walks.broken, Walks.listed}
+use Rattle.lists.specs.Walks.{WholeSpace, Roomy, Lists, numberGiven, Walks, Walks.misdescribed, Walks.roomless, Walks.broken, Walks.listed}
 use Rattle.lists.proofs.OneChain.{legal-unique}
 
 abbrev pub ServedIffLegal : Type 0
-ServedIffLegal = (kind : Kind) (s room : List ℕ) (r : Walked) (after : List ℕ) → Walks kind s room r after → Space s → Roomy kind room
+ServedIffLegal = (kind : Kind) (s room : List ℕ) (r : Walked) (after : List ℕ) → Walks kind s room r after → WholeSpace s → Roomy kind room
     → ((numberGiven r ≡ 0) ↔ ((chain : List ℕ) × HasChain (describe kind) s chain)) × ((numberGiven r ≡ 7) ↔ NoChain (describe kind) s)
 
 module _ {kind : Kind} {s room : List ℕ} {r : Walked} {after : List ℕ} where

@@ -6,7 +6,7 @@ use mathlib.Core.Path.{_≡_, refl, sym, ap, subst}
 use native.Mathlib.Nat.{le-refl}
 use native.Mathlib.Omega.{arith}
 use lib.ListN.{length}
-use Rattle.lists.specs.Table.{Description}
+use Rattle.lists.specs.Table.{ListRule}
 use Rattle.lists.specs.Chain.{Legal, Legal.ends, Legal.goes}
 use Rattle.lists.proofs.OneChain.{legal-unique}
 
@@ -16,9 +16,9 @@ pub data Distinct : List ℕ → Type 0 where
   more : {x : ℕ} {l : List ℕ} → (List·Memᴰ x l → ⊥) → Distinct l → Distinct (x ∷ l)
 
 abbrev pub LegalRepeatsNone : Type 0
-LegalRepeatsNone = (d : Description) (s : List ℕ) (pointer : ℕ) (chain : List ℕ) → Legal d s pointer chain → Distinct chain
+LegalRepeatsNone = (d : ListRule) (s : List ℕ) (pointer : ℕ) (chain : List ℕ) → Legal d s pointer chain → Distinct chain
 
-module _ {d : Description} {s : List ℕ} where
+module _ {d : ListRule} {s : List ℕ} where
   -- from an offset of a chain a chain is legal, and no longer
   tail-of : {pointer x : ℕ} {chain : List ℕ} → Legal d s pointer chain → List·Memᴰ x chain
       → (tail : List ℕ) × Legal d s x tail × (length tail ≤ length chain)

@@ -11,7 +11,7 @@ use Rattle.words.specs.Bytes.{byte}
 use Rattle.words.specs.Fields.{bit, bits, word}
 use Rattle.lists.specs.declared.Kind.{Kind}
 use Rattle.lists.specs.declared.Kind.the-variants.{Compatible, Extended, Trusted}
-use Rattle.lists.specs.Table.{Description, describe, compatibleStart, extendedStart, trustedStart, compatibleNext, extendedNext, unlessEmpty}
+use Rattle.lists.specs.Table.{ListRule, describe, compatibleStart, extendedStart, trustedStart, compatibleNext, extendedNext, unlessEmpty}
 use Rattle.lists.specs.Chain.{dropped, first, follows}
 use Rattle.lists.specs.Chase.{Raw, Offset}
 
@@ -58,11 +58,11 @@ unfolding follows
 follows-within kind s at b = dropped-within kind (describe kind .next s at) (next-below kind s at b)
 
 -- the code's pointer, its bottom two bits dropped, is the one that the definitions drop them from
-pub first-offset : (d : Description) (s : List ℕ) {raw r : ℕ} → Raw (d .start s) raw → Offset (dropped raw) r → Offset (first d s) r
+pub first-offset : (d : ListRule) (s : List ℕ) {raw r : ℕ} → Raw (d .start s) raw → Offset (dropped raw) r → Offset (first d s) r
 unfolding first
 first-offset d s p o = record { is = rw (← p .is) (o .is); inside = o .inside }
 
-pub follows-offset : (d : Description) (s : List ℕ) (at : ℕ) {raw r : ℕ} → Raw (d .next s at) raw → Offset (dropped raw) r
+pub follows-offset : (d : ListRule) (s : List ℕ) (at : ℕ) {raw r : ℕ} → Raw (d .next s at) raw → Offset (dropped raw) r
     → Offset (follows d s at) r
 unfolding follows
 follows-offset d s at p o = record { is = rw (← p .is) (o .is); inside = o .inside }

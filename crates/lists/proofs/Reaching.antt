@@ -7,14 +7,14 @@ use native.Mathlib.Numerals.{add-one}
 use native.Mathlib.Omega.{arith}
 use lib.ListN.{length, set, length-append, length-set}
 use lib.Seq.{take-suc-set}
-use Rattle.lists.specs.Table.{Description, describe}
+use Rattle.lists.specs.Table.{ListRule, describe}
 use Rattle.lists.specs.Chain.{Legal, Legal.ends, Legal.goes, HasChain, NoChain, first, follows}
 use Rattle.lists.specs.declared.Kind.{Kind}
 use Rattle.lists.specs.declared.chase.Step.the-variants.{Next, End, Fault}
 use Rattle.lists.specs.declared.chase.Chased.the-variants.{Ended, Broken, Full}
 use Rattle.lists.specs.Chase.{Reached, Underway, Leads, Chases, Offset}
 
-module _ {d : Description} {s : List ℕ} where
+module _ {d : ListRule} {s : List ℕ} where
   pub reached-start : Reached d s [] (first d s)
   reached-start = record { onward = λ rest l. l; back = λ chain l. (chain, l, refl) }
 

@@ -11,7 +11,7 @@ use lib.ListN.{length, getD, drop, set, replicate}
 use Rattle.answers.specs.declared.Answer.the-variants.{Done}
 use Rattle.lists.specs.declared.Kind.the-variants.{Compatible, Extended}
 use Rattle.lists.specs.declared.Walked.{Walked}
-use Rattle.lists.specs.Table.{Description, describe, compatibleStart, extendedStart, compatibleNext, extendedNext}
+use Rattle.lists.specs.Table.{ListRule, describe, compatibleStart, extendedStart, compatibleNext, extendedNext}
 use Rattle.lists.specs.Chain.{Legal, Legal.ends, Legal.goes, HasChain, NoChain, first, follows}
 use Rattle.lists.specs.Walks.{Walks, numberGiven}
 use Rattle.lists.proofs.OneChain.{legal-unique}
@@ -44,7 +44,7 @@ pub looping : List ℕ
 looping = header 0x100 0x23 0x00 0x01 0x14 (header 0x140 0x0b 0x00 0x01 0x18 (header 0x180 0x0b 0x00 0x01 0x14 blank))
 
 -- a chain from a pointer goes on at what that points to
-goes-on : (d : Description) (s : List ℕ) (at to : ℕ) → (at ≡ 0 → ⊥) → follows d s at ≡ to → {chain : List ℕ} → Legal d s at chain
+goes-on : (d : ListRule) (s : List ℕ) (at to : ℕ) → (at ≡ 0 → ⊥) → follows d s at ≡ to → {chain : List ℕ} → Legal d s at chain
     → (rest : List ℕ) × Legal d s to rest × (chain ≡ at ∷ rest)
 goes-on d s at to n e (ends z f) = absurd (n z)
 goes-on d s at to n e (goes {rest = rest} m h l f) = (rest, subst (λ (p : ℕ). Legal d s p rest) e l, f)

@@ -19,7 +19,7 @@ use Rattle.lists.specs.declared.chase.Chased.{Chased}
 use Rattle.lists.specs.declared.chase.Chased.the-variants.{Ended, Broken, Full}
 use Rattle.lists.specs.Table.{describe}
 use Rattle.lists.specs.Chain.{NoChain, first}
-use Rattle.lists.specs.Walks.{Space, Roomy, Refuses, Walks, Walks.listed, Walks.broken}
+use Rattle.lists.specs.Walks.{WholeSpace, Roomy, Refuses, Walks, Walks.listed, Walks.broken}
 use Rattle.lists.specs.Chase.{Offset, Underway, Chases, Logged, Answers}
 use Rattle.lists.proofs.chase.Chased.{the-type}
 use Rattle.lists.proofs.Pointers.{Bytes}
@@ -52,7 +52,7 @@ answered-ended log count h e = record { given = refl; counted = sym (length-take
 pub chases-logged : (kind : Kind) (s log : List ℕ) (chased : Chased) → Chases kind s chased log → Logged chased log
 chases-logged kind s log chased h count e = (subst (λ (x : Chased). Chases kind s x log) e h) .0
 
-pub underway-start : {kind : Kind} {s log : List ℕ} {start : ℕ} → Space s → Offset (first (describe kind) s) start
+pub underway-start : {kind : Kind} {s log : List ℕ} {start : ℕ} → WholeSpace s → Offset (first (describe kind) s) start
     → Underway kind s log 0 start
 underway-start size o = record { space = size; fits = omega arith; inside = o .inside; reached = rw (o .is) reached-start }
 
@@ -80,7 +80,7 @@ module _ (kind : Kind) (s log : List ℕ) (bytes : Bytes s) where
       let longer = reached-full (h .1 .reached) (h .0) chain l in
       omega (arith, chain-maximum kind s bytes chain l, longer, ap length (take-length log))
 
-  pub walks-answered : {room after : List ℕ} {r : Walked} → Space s → Roomy kind room → (chased : Chased) → Chases kind s chased log
+  pub walks-answered : {room after : List ℕ} {r : Walked} → WholeSpace s → Roomy kind room → (chased : Chased) → Chases kind s chased log
       → ((pointer : ℕ) → chased ≡ Full pointer → describe kind .maximum ≤ length log) → Answers chased log room r after
       → Walks kind s room r after
   walks-answered size roomy (Ended count) h most a = listed size roomy (take count log) (h .1) a

@@ -10,9 +10,9 @@ use Rattle.lists.specs.declared.chase.Step.{Step}
 use Rattle.lists.specs.declared.chase.Step.the-variants.{Next, End, Fault}
 use Rattle.lists.specs.declared.chase.Chased.{Chased}
 use Rattle.lists.specs.declared.chase.Chased.the-variants.{Ended, Broken, Full}
-use Rattle.lists.specs.Table.{Description, describe}
+use Rattle.lists.specs.Table.{ListRule, describe}
 use Rattle.lists.specs.Chain.{Legal, HasChain, NoChain}
-use Rattle.lists.specs.Walks.{Space, Lists, Refuses}
+use Rattle.lists.specs.Walks.{WholeSpace, Lists, Refuses}
 
 -- a pointer as it stands in the space, within twelve bits
 pub record Raw (pointer r : ℕ) : Type 0 where
@@ -25,19 +25,19 @@ pub record Offset (pointer r : ℕ) : Type 0 where
   pub inside : r ≤ 0xffc
 
 -- "A step answers the next offset, the end, or a fault."
-abbrev pub Leads : Description → ℕ → Step → Type 0
+abbrev pub Leads : ListRule → ℕ → Step → Type 0
 Leads d pointer (Next at) = (at ≡ pointer) × (pointer ≡ 0 → ⊥) × (d .floor ≤ pointer)
 Leads d pointer End = pointer ≡ 0
 Leads d pointer Fault = (pointer ≡ 0 → ⊥) × (pointer < d .floor)
 
 -- past some offsets a pointer is reached: the list's chains are those offsets, and then a chain from the pointer
-pub record Reached (d : Description) (s passed : List ℕ) (pointer : ℕ) : Type 0 where
+pub record Reached (d : ListRule) (s passed : List ℕ) (pointer : ℕ) : Type 0 where
   pub onward : (rest : List ℕ) → Legal d s pointer rest → HasChain d s (passed ++ rest)
   pub back : (chain : List ℕ) → HasChain d s chain → (rest : List ℕ) × Legal d s pointer rest × (chain ≡ passed ++ rest)
 
 -- a chase has so many offsets in its log and goes on at a pointer
 pub record Underway (kind : Kind) (s log : List ℕ) (count pointer : ℕ) : Type 0 where
-  pub space : Space s
+  pub space : WholeSpace s
   pub fits : count ≤ length log
   pub inside : pointer ≤ 0xffc
   pub reached : Reached (describe kind) s (take count log) pointer

@@ -9,7 +9,7 @@ use Rattle.lists.specs.declared.Kind.{Kind}
 use Rattle.lists.specs.declared.Kind.the-variants.{Compatible, Extended, Trusted}
 
 -- the pointer to the first header, the pointer in the header at an offset, the floor and the maximum
-pub record Description : Type 0 where
+pub record ListRule : Type 0 where
   pub start : List ℕ → ℕ
   pub next : List ℕ → ℕ → ℕ
   pub floor : ℕ
@@ -40,7 +40,7 @@ unfoldable pub extendedNext : List ℕ → ℕ → ℕ
 extendedNext s at = bits 31 20 (word s at)
 
 -- "compatible … 040h, 48"; "extended … 100h, 960"; "trusted … as extended … 008h, 1,022"
-abbrev pub describe : Kind → Description
+abbrev pub describe : Kind → ListRule
 describe Compatible = record { start = compatibleStart; next = compatibleNext; floor = 0x040; maximum = 48 }
 describe Extended = record { start = extendedStart; next = extendedNext; floor = 0x100; maximum = 960 }
 describe Trusted = record { start = trustedStart; next = extendedNext; floor = 0x008; maximum = 1022 }

@@ -10,8 +10,8 @@ use Rattle.lists.specs.Table.{describe}
 use Rattle.lists.specs.Chain.{HasChain, NoChain}
 
 -- "Each is read from a lent space of 4,096 bytes."
-abbrev pub Space : List ℕ → Type 0
-Space s = length s ≡ 4096
+abbrev pub WholeSpace : List ℕ → Type 0
+WholeSpace s = length s ≡ 4096
 
 -- the list room is not "under the list's maximum"
 abbrev pub Roomy : Kind → List ℕ → Type 0
@@ -36,8 +36,8 @@ pub record Lists (chain room : List ℕ) (r : Walked) (after : List ℕ) : Type 
 
 -- "the lowest applicable number is given": 1 the space, 2 the room, 7 no legal chain, 0 the legal chain
 pub data Walks (kind : Kind) (s room : List ℕ) (r : Walked) (after : List ℕ) : Type 0 where
-  misdescribed : (Space s → ⊥) → Refuses 1 room r after → Walks kind s room r after
-  roomless : Space s → (Roomy kind room → ⊥) → Refuses 2 room r after → Walks kind s room r after
-  broken : Space s → Roomy kind room → NoChain (describe kind) s → Refuses 7 room r after → Walks kind s room r after
-  listed : Space s → Roomy kind room → (chain : List ℕ) → HasChain (describe kind) s chain → Lists chain room r after
+  misdescribed : (WholeSpace s → ⊥) → Refuses 1 room r after → Walks kind s room r after
+  roomless : WholeSpace s → (Roomy kind room → ⊥) → Refuses 2 room r after → Walks kind s room r after
+  broken : WholeSpace s → Roomy kind room → NoChain (describe kind) s → Refuses 7 room r after → Walks kind s room r after
+  listed : WholeSpace s → Roomy kind room → (chain : List ℕ) → HasChain (describe kind) s chain → Lists chain room r after
       → Walks kind s room r after

@@ -8,7 +8,7 @@ ghost use mathlib.Core.Path.{_≡_};
 ghost use Prim.Native.Nat.{_≤_, _<_};
 ghost use lib.ListN.{length};
 ghost use Rattle.lists.specs.Table.{describe};
-ghost use Rattle.lists.specs.Walks.{Walks, Space, Roomy};
+ghost use Rattle.lists.specs.Walks.{Walks, WholeSpace, Roomy};
 ghost use Rattle.lists.specs.Chase.{Underway, Logged, Answers};
 
 mod chase; // chase.rt: a chain is followed, a step at a time
@@ -60,7 +60,7 @@ fn refused(refusal: Refusal) -> Walked
 
 // The walk with a short log, and with a long one where the chain goes on and the list may be longer.
 fn walk_short(kind: Kind, space: &[u8], room: &mut [u16]) -> Walked
-    requires { ⌜ Space (now space) × Roomy kind (now room) ⌝ }
+    requires { ⌜ WholeSpace (now space) × Roomy kind (now room) ⌝ }
     ensures { λ r. ⌜ Walks kind (now (space .entry)) (now (room .entry)) r (now (room .exit)) ⌝ }
 {
     let mut log = [0u16; SHORT];

@@ -4,7 +4,7 @@ ghost use mathlib.Core.Path.{_≡_};
 ghost use Prim.Native.Nat.{_≤_, _<_};
 ghost use Rattle.lists.specs.Table.{describe, compatibleStart, extendedStart, trustedStart, compatibleNext, extendedNext};
 ghost use Rattle.lists.specs.Chain.{dropped, first, follows};
-ghost use Rattle.lists.specs.Walks.{Space};
+ghost use Rattle.lists.specs.Walks.{WholeSpace};
 ghost use Rattle.lists.specs.Chase.{Raw, Offset};
 
 // The compatible list: a bit of the status byte says that there is one, and a byte points to its first header.
@@ -54,7 +54,7 @@ pub(crate) fn maximum(kind: Kind) -> usize
 
 // The offset of the list's first header, or 0.
 pub(crate) fn first(kind: Kind, space: &[u8]) -> usize
-    requires { ⌜ Space (now space) ⌝ }
+    requires { ⌜ WholeSpace (now space) ⌝ }
     ensures { λ r. ⌜ Offset (first (describe kind) (now (space .entry))) r ⌝ }
 {
     aligned(start(kind, space))
@@ -62,7 +62,7 @@ pub(crate) fn first(kind: Kind, space: &[u8]) -> usize
 
 // The offset that the header at an offset points to, or 0.
 pub(crate) fn follow(kind: Kind, space: &[u8], at: usize) -> usize
-    requires { ⌜ Space (now space) × (at ≤ 0xffc) ⌝ }
+    requires { ⌜ WholeSpace (now space) × (at ≤ 0xffc) ⌝ }
     ensures { λ r. ⌜ Offset (follows (describe kind) (now (space .entry)) at) r ⌝ }
 {
     aligned(next(kind, space, at))
@@ -77,7 +77,7 @@ fn aligned(pointer: usize) -> usize
 }
 
 fn start(kind: Kind, space: &[u8]) -> usize
-    requires { ⌜ Space (now space) ⌝ }
+    requires { ⌜ WholeSpace (now space) ⌝ }
     ensures { λ r. ⌜ Raw (describe kind .start (now (space .entry))) r ⌝ }
 {
     match kind {
@@ -88,7 +88,7 @@ fn start(kind: Kind, space: &[u8]) -> usize
 }
 
 fn compatible_start(space: &[u8]) -> usize
-    requires { ⌜ Space (now space) ⌝ }
+    requires { ⌜ WholeSpace (now space) ⌝ }
     ensures { λ r. ⌜ Raw (compatibleStart (now (space .entry))) r ⌝ }
 {
     if (space[STATUS] >> CAPABILITIES) & 1 == 0 {
@@ -98,7 +98,7 @@ fn compatible_start(space: &[u8]) -> usize
 }
 
 fn extended_start(space: &[u8]) -> usize
-    requires { ⌜ Space (now space) ⌝ }
+    requires { ⌜ WholeSpace (now space) ⌝ }
     ensures { λ r. ⌜ Raw (extendedStart (now (space .entry))) r ⌝ }
 {
     if words::word(space, EXTENDED_START) & 0xffff == 0 {
@@ -108,14 +108,14 @@ fn extended_start(space: &[u8]) -> usize
 }
 
 fn trusted_start(space: &[u8]) -> usize
-    requires { ⌜ Space (now space) ⌝ }
+    requires { ⌜ WholeSpace (now space) ⌝ }
     ensures { λ r. ⌜ Raw (trustedStart (now (space .entry))) r ⌝ }
 {
     (words::word(space, TRUSTED_START) & 0xfff) as usize
 }
 
 fn next(kind: Kind, space: &[u8], at: usize) -> usize
-    requires { ⌜ Space (now space) × (at ≤ 0xffc) ⌝ }
+    requires { ⌜ WholeSpace (now space) × (at ≤ 0xffc) ⌝ }
     ensures { λ r. ⌜ Raw (describe kind .next (now (space .entry)) at) r ⌝ }
 {
     match kind {
@@ -126,14 +126,14 @@ fn next(kind: Kind, space: &[u8], at: usize) -> usize
 }
 
 fn compatible_next(space: &[u8], at: usize) -> usize
-    requires { ⌜ Space (now space) × (at ≤ 0xffc) ⌝ }
+    requires { ⌜ WholeSpace (now space) × (at ≤ 0xffc) ⌝ }
     ensures { λ r. ⌜ Raw (compatibleNext (now (space .entry)) at) r ⌝ }
 {
     space[at + 1] as usize
 }
 
 fn extended_next(space: &[u8], at: usize) -> usize
-    requires { ⌜ Space (now space) × (at ≤ 0xffc) ⌝ }
+    requires { ⌜ WholeSpace (now space) × (at ≤ 0xffc) ⌝ }
     ensures { λ r. ⌜ Raw (extendedNext (now (space .entry)) at) r ⌝ }
 {
     (words::word(space, at) >> 20) as usize

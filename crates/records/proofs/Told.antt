@@ -16,7 +16,8 @@ use Rattle.words.specs.Bytes.{byte}
 use Rattle.words.specs.Fields.{word}
 use Rattle.records.specs.declared.DvsecHeader.{DvsecHeader}
 use Rattle.records.specs.declared.DvsecRead.the-variants.{Found, Refused}
-use Rattle.records.specs.Required.{required, sized, placed}
+use Rattle.words.specs.Places.{placed}
+use Rattle.records.specs.Required.{required, sized}
 use Rattle.records.specs.DvsecRule.{isDvsec, extends, headerAt, dvsecNumber, dvsecSays, dvsecBody, bodyFrom, BodyLies, tellsDvsec, DvsecTold}
 use Rattle.records.specs.DualRule.{fitsDual, isDual, oneSet, vectorAt, alternateAt, dualNumber, dualSays, DualTold}
 
@@ -36,20 +37,6 @@ and-split false b e = (e, cc)
 met : (fact : Bool) (n rest : ℕ) → cond (not fact) (suc n) rest ≡ 0 → (fact ≡ true) × (rest ≡ 0)
 met true n rest e = (refl, e)
 met false n rest e = absurd (omega arith)
-
--- where a record may be asked for
-pub record Place (low high at : ℕ) : Type 0 where
-  pub aligned : at % 4 ≡ 0
-  pub above : low ≤ at
-  pub below : at ≤ high
-
-pub placed-true : (low high at : ℕ) → placed low high at ≡ true → Place low high at
-unfolding placed
-placed-true low high at e =
-    let a = and-split (eqb (at % 4) 0) _ e in
-    let b = and-split (leb low at) _ (a .1) in
-    let c = and-split (leb at high) true (b .1) in
-    record { aligned = eqb-true _ _ (a .0); above = leb-true _ _ (b .0); below = leb-true _ _ (c .0) }
 
 -- a record of some length at an offset, in a space of some size
 pub record Inside (space at extent : ℕ) : Type 0 where
@@ -71,7 +58,7 @@ module _ (s : List ℕ) (at : ℕ) where
   dvsec-found e = rw e
 
   -- the number, by what the tests say: a fact that is not tested stands for itself
-  pub dvsec-number : {a b c d : Bool} → sized s ≡ a → placed 0x100 0xffc at ≡ b → isDvsec (word s at) ≡ c
+  pub dvsec-number : {a b c d : Bool} → sized s ≡ a → placed at 0x100 0xffc ≡ b → isDvsec (word s at) ≡ c
       → extends at (headerAt s at .length) ≡ d
       → dvsecNumber s at ≡ firstThatApplies (required a 1 ∷ required b 1 ∷ required c 8 ∷ required d 9 ∷ [])
   unfolding dvsecNumber
@@ -82,7 +69,7 @@ module _ (s : List ℕ) (at : ℕ) where
   unfolding dvsecNumber sized extends
   dvsec-inside e =
       let a = met (sized s) 0 _ e in
-      let b = met (placed 0x100 0xffc at) 0 _ (a .1) in
+      let b = met (placed at 0x100 0xffc) 0 _ (a .1) in
       let c = met (isDvsec (word s at)) 7 _ (b .1) in
       let d = met (extends at (headerAt s at .length)) 8 0 (c .1) in
       let left = and-split (leb (at + 0x0a) 0x1000) _ (d .0) in
@@ -122,7 +109,7 @@ module _ (s : List ℕ) (at : ℕ) where
   unfolding dualSays
   dual-found e = rw e
 
-  pub dual-number : {a b c d e f : Bool} → sized s ≡ a → placed 0x040 0x0fc at ≡ b → eqb (byte s at) 0x09 ≡ c
+  pub dual-number : {a b c d e f : Bool} → sized s ≡ a → placed at 0x040 0x0fc ≡ b → eqb (byte s at) 0x09 ≡ c
       → fitsDual at (byte s (at + 2)) (word s (at + 4)) ≡ d → isDual (word s (at + 4)) (word s (at + 8)) ≡ e → oneSet (vectorAt s at) ≡ f
       → dualNumber s at
       ≡ firstThatApplies (required a 1 ∷ required b 1 ∷ required c 8 ∷ required d 9 ∷ required e 8 ∷ required f 10 ∷ [])

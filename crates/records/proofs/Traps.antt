@@ -8,7 +8,8 @@ use lib.ListN.{length, take, drop, replicate}
 use lib.Seq.{sets}
 use Rattle.records.specs.declared.DualRead.the-variants.{Found}
 use Rattle.records.specs.declared.Alternate.{Alternate}
-use Rattle.records.specs.Required.{sized, placed}
+use Rattle.words.specs.Places.{placed}
+use Rattle.records.specs.Required.{sized}
 use Rattle.records.specs.DvsecRule.{isDvsec, extends, dvsecNumber, dvsecBody, bodyFrom, BodyLies}
 use Rattle.records.specs.DualRule.{fitsDual, isDual, knownPair, setPlaces, oneSet, dualNumber, tellsDual, dualSays, DualTold}
 

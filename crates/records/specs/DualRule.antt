@@ -11,7 +11,8 @@ use Rattle.words.specs.Fields.{bit, bits, word}
 use Rattle.records.specs.declared.Alternate.{Alternate}
 use Rattle.records.specs.declared.DualRead.{DualRead}
 use Rattle.records.specs.declared.DualRead.the-variants.{Found, Refused}
-use Rattle.records.specs.Required.{all, required, toldFor, sized, placed}
+use Rattle.words.specs.Places.{placed}
+use Rattle.records.specs.Required.{all, required, toldFor, sized}
 
 -- "offset + 12 at most 100h, capability length 0Ch, DVSEC Length 00Ch"
 unfoldable pub fitsDual : ℕ → ℕ → ℕ → Bool
@@ -58,7 +59,7 @@ unfoldable pub dualNumber : List ℕ → ℕ → ℕ
 dualNumber s at =
     firstThatApplies
     (required (sized s) 1
-    ∷ required (placed 0x040 0x0fc at) 1
+    ∷ required (placed at 0x040 0x0fc) 1
     ∷ required (eqb (byte s at) 0x09) 8
     ∷ required (fitsDual at (byte s (at + 2)) (word s (at + 4))) 9
     ∷ required (isDual (word s (at + 4)) (word s (at + 8))) 8

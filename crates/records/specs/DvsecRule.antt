@@ -11,7 +11,8 @@ use Rattle.words.specs.Fields.{bits, word}
 use Rattle.records.specs.declared.DvsecHeader.{DvsecHeader}
 use Rattle.records.specs.declared.DvsecRead.{DvsecRead}
 use Rattle.records.specs.declared.DvsecRead.the-variants.{Found, Refused}
-use Rattle.records.specs.Required.{all, required, toldFor, sized, placed}
+use Rattle.words.specs.Places.{placed}
+use Rattle.records.specs.Required.{all, required, toldFor, sized}
 
 -- "ID 0023h and version 1h", of the header there: "ID 15:0, version 19:16"
 unfoldable pub isDvsec : ℕ → Bool
@@ -34,7 +35,7 @@ unfoldable pub dvsecNumber : List ℕ → ℕ → ℕ
 dvsecNumber s at =
     firstThatApplies
     (required (sized s) 1
-    ∷ required (placed 0x100 0xffc at) 1
+    ∷ required (placed at 0x100 0xffc) 1
     ∷ required (isDvsec (word s at)) 8
     ∷ required (extends at (headerAt s at .length)) 9
     ∷ [])

@@ -22,7 +22,3 @@ toldFor number value = cond (eqb number 0) value 0
 -- "after the space's size": 4,096 bytes
 unfoldable pub sized : List ℕ → Bool
 sized s = eqb (length s) 4096
-
--- "asked for at a multiple of 4 from … to …"
-unfoldable pub placed : ℕ → ℕ → ℕ → Bool
-placed low high at = all (eqb (at % 4) 0 ∷ leb low at ∷ leb at high ∷ [])

@@ -6,7 +6,6 @@ ghost use denote.Ref.{ptr};
 ghost use Rattle.records.specs.DvsecRule.{tellsDvsec, dvsecSays, BodyLies};
 ghost use Rattle.records.specs.DualRule.{tellsDual, dualSays};
 
-mod asked; // asked.rt: where a record may be asked for
 mod dual; // dual.rt: what a Dual-BDF record requires, and its fields
 mod vendor; // vendor.rt: what a DVSEC record requires, and its fields
 
@@ -55,7 +54,7 @@ pub fn dvsec(space: &[u8], at: usize) -> DvsecRead
     if space.len() != SPACE {
         return DvsecRead::Refused(Refusal::BadDescription);
     }
-    if !asked::placed(at, DVSEC_LOWEST, DVSEC_HIGHEST) {
+    if !words::placed(at, DVSEC_LOWEST, DVSEC_HIGHEST) {
         return DvsecRead::Refused(Refusal::BadDescription);
     }
     if !vendor::is_dvsec(words::word(space, at)) {
@@ -88,7 +87,7 @@ pub fn dual_bdf(space: &[u8], at: usize) -> DualRead
     if space.len() != SPACE {
         return DualRead::Refused(Refusal::BadDescription);
     }
-    if !asked::placed(at, DUAL_LOWEST, DUAL_HIGHEST) {
+    if !words::placed(at, DUAL_LOWEST, DUAL_HIGHEST) {
         return DualRead::Refused(Refusal::BadDescription);
     }
     if space[at] != dual::VENDOR_SPECIFIC {

@@ -8,7 +8,7 @@ use lib.Dec.{lit≤}
 use lib.ListN.{length, drop, length-append}
 use Rattle.answers.specs.declared.Answer.the-variants.{Done}
 use Rattle.answers.specs.Numbers.{answerOf}
-use Rattle.lists.specs.Walks.{Space}
+use Rattle.lists.specs.Walks.{WholeSpace}
 use Rattle.report.specs.declared.Written.{Written}
 use Rattle.report.specs.declared.section.Section.the-variants.{Compatible, Extended}
 use Rattle.report.specs.Text.{ascii, line, decimal}
@@ -17,7 +17,7 @@ use Rattle.report.specs.Prints.{longest, Prints, Prints.printed, Prints.
 use Rattle.report.specs.Inner.{most, Added, Told, Fits}
 use Rattle.report.proofs.Adding.{added-then}
 
-module _ {s text : List ℕ} (space : Space s) (fits : Fits longest text 0) where
+module _ {s text : List ℕ} (space : WholeSpace s) (fits : Fits longest text 0) where
   pub parts-told : {at then r : ℕ} {a b after : List ℕ} → Told (Part compatible s) (most Compatible) text 0 at a
       → Told (Part extended s) (most Extended) a at then b → Added (line (ascii "end")) b then r after → Told (Says s) longest text 0 r after
   parts-told first second last = record {
@@ -32,7 +32,7 @@ module _ {s text : List ℕ} (space : Space s) (fits : Fits longest text 0) wher
       both = length-append (first .bytes) (second .bytes)
 
 -- an input of another size
-pub other-told : {s text after : List ℕ} {r : ℕ} → (Space s → ⊥) → Added (refused (ascii "input") 1) text 0 r after → Told (Says s) longest text 0 r after
+pub other-told : {s text after : List ℕ} {r : ℕ} → (WholeSpace s → ⊥) → Added (refused (ascii "input") 1) text 0 r after → Told (Says s) longest text 0 r after
 unfolding refused decimal
 other-told n added = record { bytes = refused (ascii "input") 1; known = other n refl; short = lit≤ tt; added = added }
 

@@ -15,7 +15,7 @@ use Rattle.lists.specs.declared.Kind.the-variants as kind
 use Rattle.lists.specs.declared.Walked.{Walked}
 use Rattle.lists.specs.Table.{describe}
 use Rattle.lists.specs.Chain.{Legal, Legal.ends, Legal.goes, HasChain, NoChain}
-use Rattle.lists.specs.Walks.{Space, Roomy, Walks, Walks.misdescribed, Walks.roomless, Walks.broken, Walks.listed}
+use Rattle.lists.specs.Walks.{WholeSpace, Roomy, Walks, Walks.misdescribed, Walks.roomless, Walks.broken, Walks.listed}
 use Rattle.lists.proofs.Pointers.{Bytes, Within, span, first-within, follows-within}
 use Rattle.report.specs.declared.section.Section.{Section}
 use Rattle.report.specs.declared.section.Section.the-variants.{Compatible, Extended}
@@ -41,7 +41,7 @@ module _ (kind : Kind) (s : List ℕ) (bytes : Bytes s) where
 
 -- ---- what a walk answered, with a space and a room of their sizes
 
-module _ {kind : Kind} {s room : List ℕ} {r : Walked} {after : List ℕ} (size : Space s) (roomy : Roomy kind room) (kept : length after ≡ length room) where
+module _ {kind : Kind} {s room : List ℕ} {r : Walked} {after : List ℕ} (size : WholeSpace s) (roomy : Roomy kind room) (kept : length after ≡ length room) where
   -- it is served: the chain stands at the start of the room
   found : Walks kind s room r after → r .answer ≡ Done → (r .count ≤ length after) × HasChain (describe kind) s (take (r .count) after)
   found (misdescribed n a) e = absurd (n size)

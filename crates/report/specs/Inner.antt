@@ -7,7 +7,7 @@ use Rattle.words.specs.Bytes.{put}
 use Rattle.lists.specs.declared.Kind.{Kind}
 use Rattle.lists.specs.declared.Kind.the-variants as kind
 use Rattle.lists.specs.Table.{describe}
-use Rattle.lists.specs.Walks.{Space}
+use Rattle.lists.specs.Walks.{WholeSpace}
 use Rattle.report.specs.declared.section.Section.{Section}
 use Rattle.report.specs.declared.section.Section.the-variants.{Compatible, Extended}
 use Rattle.report.specs.Listing.{Shown, compatible, extended}
@@ -55,19 +55,19 @@ Inside offsets = (index : ℕ) → getD offsets index 0 ≤ 0xffc
 
 -- what the lines of a section need: a space, offsets of its words, and a text with room for them
 pub record Ready (section : Section) (s offsets text : List ℕ) (place : ℕ) : Type 0 where
-  pub space : Space s
+  pub space : WholeSpace s
   pub inside : Inside offsets
   pub fits : Fits (width section * length offsets) text place
 
 -- what a legal chain needs besides: no more offsets than its list can have, and a text with room for the longest section
 pub record Chained (section : Section) (s offsets text : List ℕ) (place : ℕ) : Type 0 where
-  pub space : Space s
+  pub space : WholeSpace s
   pub inside : Inside offsets
   pub few : length offsets ≤ describe (kindOf section) .maximum
   pub fits : Fits (most section) text place
 
 -- what a section needs: a space, a room of its list's maximum, and a text with room for the longest section
 pub record Roomed (section : Section) (s room text : List ℕ) (place : ℕ) : Type 0 where
-  pub space : Space s
+  pub space : WholeSpace s
   pub whole : length room ≡ describe (kindOf section) .maximum
   pub fits : Fits (most section) text place

@@ -6,14 +6,14 @@ use lib.ListN.{length}
 use Rattle.words.specs.Bytes.{byte}
 use Rattle.words.specs.Fields.{bits, word}
 use Rattle.lists.specs.declared.Kind.the-variants.{Compatible, Extended}
-use Rattle.lists.specs.Table.{Description, describe}
+use Rattle.lists.specs.Table.{ListRule, describe}
 use Rattle.lists.specs.Chain.{HasChain, NoChain}
-use Rattle.lists.specs.Walks.{Space}
+use Rattle.lists.specs.Walks.{WholeSpace}
 use Rattle.report.specs.Text.{ascii, line, hex, decimal}
 
 -- how a list is shown: which list it is, its name, and what a line says of the header at an offset of a space
 pub record Shown : Type 0 where
-  pub list : Description
+  pub list : ListRule
   pub name : List ℕ
   pub entry : List ℕ → ℕ → List ℕ
 
@@ -53,6 +53,6 @@ pub data Part (shown : Shown) (s out : List ℕ) : Type 0 where
 
 -- "Input of another size writes only `input 1 refused`"; else the compatible part, the extended part and "`end`"
 pub data Says (s out : List ℕ) : Type 0 where
-  other : (Space s → ⊥) → out ≡ refused (ascii "input") 1 → Says s out
-  parts : Space s → (first second : List ℕ) → Part compatible s first → Part extended s second → out ≡ first ++ second ++ line (ascii "end")
+  other : (WholeSpace s → ⊥) → out ≡ refused (ascii "input") 1 → Says s out
+  parts : WholeSpace s → (first second : List ℕ) → Part compatible s first → Part extended s second → out ≡ first ++ second ++ line (ascii "end")
       → Says s out

@@ -4,7 +4,7 @@ use answers::Answer;
 use answers::Refusal;
 use section::Section;
 ghost use mathlib.Core.Path.{_≡_};
-ghost use Rattle.lists.specs.Walks.{Space};
+ghost use Rattle.lists.specs.Walks.{WholeSpace};
 ghost use Rattle.report.specs.Text.{ascii};
 ghost use Rattle.report.specs.Listing.{compatible, extended, refused, Part, Says};
 ghost use Rattle.report.specs.Prints.{longest, Prints};
@@ -65,7 +65,7 @@ fn other(text: &mut [u8]) -> usize
 
 // A space: the compatible part, the extended part, and the end.
 fn parts(space: &[u8], text: &mut [u8]) -> usize
-    requires { ⌜ Space (now space) × Fits longest (now text) 0 ⌝ }
+    requires { ⌜ WholeSpace (now space) × Fits longest (now text) 0 ⌝ }
     ensures { λ r. ⌜ Told (Says (now (space .entry))) longest (now (text .entry)) 0 r (now (text .exit)) ⌝ }
 {
     let first = compatible(space, text, 0);
@@ -74,7 +74,7 @@ fn parts(space: &[u8], text: &mut [u8]) -> usize
 }
 
 fn compatible(space: &[u8], text: &mut [u8], place: usize) -> usize
-    requires { ⌜ Space (now space) × Fits (most Section.Compatible) (now text) place ⌝ }
+    requires { ⌜ WholeSpace (now space) × Fits (most Section.Compatible) (now text) place ⌝ }
     ensures { λ r. ⌜ Told (Part compatible (now (space .entry))) (most Section.Compatible) (now (text .entry)) place r (now (text .exit)) ⌝ }
 {
     let mut room = [0u16; COMPATIBLE_MAXIMUM];
@@ -82,7 +82,7 @@ fn compatible(space: &[u8], text: &mut [u8], place: usize) -> usize
 }
 
 fn extended(space: &[u8], text: &mut [u8], place: usize) -> usize
-    requires { ⌜ Space (now space) × Fits (most Section.Extended) (now text) place ⌝ }
+    requires { ⌜ WholeSpace (now space) × Fits (most Section.Extended) (now text) place ⌝ }
     ensures { λ r. ⌜ Told (Part extended (now (space .entry))) (most Section.Extended) (now (text .entry)) place r (now (text .exit)) ⌝ }
 {
     let mut room = [0u16; EXTENDED_MAXIMUM];

@@ -8,7 +8,7 @@ ghost use mathlib.Core.List.{_++_};
 ghost use Prim.Native.Nat.{_≤_};
 ghost use lib.ListN.{length};
 ghost use Rattle.answers.specs.Numbers.{numberOf};
-ghost use Rattle.lists.specs.Walks.{Space};
+ghost use Rattle.lists.specs.Walks.{WholeSpace};
 ghost use Rattle.report.specs.Text.{line};
 ghost use Rattle.report.specs.Listing.{compatibleEntry, extendedEntry, heading, refused, entries, Part};
 ghost use Rattle.report.specs.Inner.{kindOf, shown, width, most, Added, Told, Fits, Ready, Chained, Roomed};
@@ -40,7 +40,7 @@ fn name(section: Section, text: &mut [u8], place: usize) -> usize
 
 // The offset and the ID.
 fn compatible_entry(space: &[u8], text: &mut [u8], place: usize, at: usize) -> usize
-    requires { ⌜ Space (now space) × (at ≤ 0xffc) × Fits 7 (now text) place ⌝ }
+    requires { ⌜ WholeSpace (now space) × (at ≤ 0xffc) × Fits 7 (now text) place ⌝ }
     ensures { λ r. ⌜ Added (line (compatibleEntry (now (space .entry)) at)) (now (text .entry)) place r (now (text .exit)) ⌝ }
 {
     let id = space[at] as usize;
@@ -58,7 +58,7 @@ fn compatible_entry(space: &[u8], text: &mut [u8], place: usize, at: usize) -> u
 
 // The offset, the ID and the version.
 fn extended_entry(space: &[u8], text: &mut [u8], place: usize, at: usize) -> usize
-    requires { ⌜ Space (now space) × (at ≤ 0xffc) × Fits 11 (now text) place ⌝ }
+    requires { ⌜ WholeSpace (now space) × (at ≤ 0xffc) × Fits 11 (now text) place ⌝ }
     ensures { λ r. ⌜ Added (line (extendedEntry (now (space .entry)) at)) (now (text .entry)) place r (now (text .exit)) ⌝ }
 {
     let header = words::word(space, at) as usize;
@@ -79,7 +79,7 @@ fn extended_entry(space: &[u8], text: &mut [u8], place: usize, at: usize) -> usi
 }
 
 fn entry(section: Section, space: &[u8], text: &mut [u8], place: usize, at: usize) -> usize
-    requires { ⌜ Space (now space) × (at ≤ 0xffc) × Fits (width section) (now text) place ⌝ }
+    requires { ⌜ WholeSpace (now space) × (at ≤ 0xffc) × Fits (width section) (now text) place ⌝ }
     ensures { λ r. ⌜ Added (line (shown section .entry (now (space .entry)) at)) (now (text .entry)) place r (now (text .exit)) ⌝ }
 {
     match section {

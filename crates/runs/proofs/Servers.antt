@@ -5,6 +5,7 @@ use mathlib.Core.List.{List, [], _∷_, _++_}
 use mathlib.Core.Path.{_≡_, refl, sym, ap, _∙_}
 use native.Mathlib.Omega.{arith}
 use lib.ListN.{length, getD, drop, replicate}
+use Rattle.words.specs.Places.{placed}
 use Rattle.registers.specs.Merge.{mergedByte, merged}
 use Rattle.registers.specs.Shown.{shown}
 use Rattle.packet.specs.Fields.{typeOf}
@@ -74,28 +75,28 @@ stored : ℕ → Seen → ℕ
 stored at x = getD (x .ordinary) at 0
 
 ur-caught : Caught alwaysUR
-unfolding replied stored shows serve respond unsupported storedBytes storedOrdinary afterWrite shownWord requestOf typeOf withData withoutData completer merged mergedByte shown
+unfolding placed replied stored shows serve respond unsupported storedBytes storedOrdinary afterWrite shownWord requestOf typeOf withData withoutData completer merged mergedByte shown
 ur-caught =
     caught-by alwaysUR (benchAfter zeros (holding 0x004 (0x08 ∷ 0x00 ∷ 0x00 ∷ 0x00 ∷ []))) p1 (replied 6) refl (λ e. omega (arith, e))
 
 fixed-caught : (completion : List ℕ) → MeetsAt (fixedCompletion completion) (bench zeros) p1
     → MeetsAt (fixedCompletion completion) (bench zeros) p2 → ⊥
-unfolding replied stored shows serve respond unsupported storedBytes storedOrdinary afterWrite shownWord requestOf typeOf withData withoutData completer merged mergedByte shown
+unfolding placed replied stored shows serve respond unsupported storedBytes storedOrdinary afterWrite shownWord requestOf typeOf withData withoutData completer merged mergedByte shown
 fixed-caught completion one two =
     let a = ap (replied 10) (sym (one .4) ∙ one .5) in
     let b = ap (replied 10) (sym (two .4) ∙ two .5) in
     omega (arith, sym a ∙ b)
 
 stores-caught : Caught storesNothing
-unfolding replied stored shows serve respond unsupported storedBytes storedOrdinary afterWrite shownWord requestOf typeOf withData withoutData completer merged mergedByte shown
+unfolding placed replied stored shows serve respond unsupported storedBytes storedOrdinary afterWrite shownWord requestOf typeOf withData withoutData completer merged mergedByte shown
 stores-caught = caught-by storesNothing (bench zeros) p2 (stored 0x004) refl (λ e. omega (arith, e))
 
 second-caught : Caught (servesOnce (packet (changed p2 0xb 0x08) 16 ∷ []))
-unfolding replied stored shows serve respond unsupported storedBytes storedOrdinary afterWrite shownWord requestOf typeOf withData withoutData completer merged mergedByte shown
+unfolding placed replied stored shows serve respond unsupported storedBytes storedOrdinary afterWrite shownWord requestOf typeOf withData withoutData completer merged mergedByte shown
 second-caught = caught-by (servesOnce (packet (changed p2 0xb 0x08) 16 ∷ [])) (bench zeros) p2 (stored 0x004) refl (λ e. omega (arith, e))
 
 once-caught : outcomesBy servesOnce [] (bench zeros) threePackets ≡ outcomes (bench zeros) threePackets → ⊥
-unfolding replied stored shows serve respond unsupported storedBytes storedOrdinary afterWrite shownWord requestOf typeOf withData withoutData completer merged mergedByte shown
+unfolding placed replied stored shows serve respond unsupported storedBytes storedOrdinary afterWrite shownWord requestOf typeOf withData withoutData completer merged mergedByte shown
 once-caught e =
     let third : List Outcome → ℕ = λ os. getD (getD os 2 (record { number = 0; after = bench []; written = [] }) .written) 12 0 in
     let d : third (outcomesBy servesOnce [] (bench zeros) threePackets) ≡ third (outcomes (bench zeros) threePackets) = ap third e in
@@ -111,20 +112,20 @@ bus : Seen → ℕ
 bus x = elim (x .capture) [ Nothing ↦ 0 | Number b device ↦ b ]
 
 trusted-capture-caught : Caught capturesTrusted
-unfolding replied stored shows serve respond unsupported storedBytes storedOrdinary afterWrite shownWord requestOf typeOf withData withoutData completer merged mergedByte shown bus
+unfolding placed replied stored shows serve respond unsupported storedBytes storedOrdinary afterWrite shownWord requestOf typeOf withData withoutData completer merged mergedByte shown bus
 trusted-capture-caught = caught-by capturesTrusted (bench zeros) (changed p2 0 0x5b) bus refl (λ e. omega (arith, e))
 
 poisoned-capture-caught : Caught capturesPoisoned
-unfolding replied stored shows serve respond unsupported storedBytes storedOrdinary afterWrite shownWord requestOf typeOf withData withoutData completer merged mergedByte shown bus
+unfolding placed replied stored shows serve respond unsupported storedBytes storedOrdinary afterWrite shownWord requestOf typeOf withData withoutData completer merged mergedByte shown bus
 poisoned-capture-caught = caught-by capturesPoisoned (bench zeros) (changed p2 2 0x40) bus refl (λ e. omega (arith, e))
 
 register-bits-caught : Caught dropsRegisterBits
-unfolding replied stored shows serve respond unsupported storedBytes storedOrdinary afterWrite shownWord requestOf typeOf withData withoutData completer merged mergedByte shown
+unfolding placed replied stored shows serve respond unsupported storedBytes storedOrdinary afterWrite shownWord requestOf typeOf withData withoutData completer merged mergedByte shown
 register-bits-caught =
     caught-by dropsRegisterBits (benchAfter (holding 0x008 (0x55 ∷ [])) zeros) (readAt 0x01 0x08) (replied 12) refl (λ e. omega (arith, e))
 
 stale-caught : Caught showsStale
-unfolding replied stored shows serve respond unsupported storedBytes storedOrdinary afterWrite shownWord requestOf typeOf withData withoutData completer merged mergedByte shown
+unfolding placed replied stored shows serve respond unsupported storedBytes storedOrdinary afterWrite shownWord requestOf typeOf withData withoutData completer merged mergedByte shown
 stale-caught =
     caught-by showsStale (benchAfter (holding 0x104 (0xaa ∷ [])) (holding 0x00c (0xbb ∷ []))) (readAt 0x01 0x04) (replied 12) refl (λ e. omega (arith, e))
 

@@ -9,6 +9,7 @@ use mathlib.Core.Path.{_≡_, refl, ap}
 use lib.Dec.{eqb}
 use lib.ListN.{length}
 use borrow.Author.Tests.{eqb-false}
+use Rattle.words.specs.Places.{placed}
 use Rattle.registers.specs.Merge.{mergedByte, merged}
 use Rattle.registers.specs.Shown.{shown}
 use Rattle.words.specs.Bytes.{byte}
@@ -68,7 +69,7 @@ bus Nothing = 0
 bus (Number b device) = b
 
 pub first-half-bites : FirstHalfBites
-unfolding serve respond unsupported storedBytes storedOrdinary afterWrite shownWord requestOf typeOf withData withoutData completer merged mergedByte shown
+unfolding placed serve respond unsupported storedBytes storedOrdinary afterWrite shownWord requestOf typeOf withData withoutData completer merged mergedByte shown
 first-half-bites =
     record {
       well = (refl, refl);
@@ -83,7 +84,7 @@ first-half-bites =
     }
 
 pub second-half-bites : SecondHalfBites
-unfolding serve respond unsupported storedBytes storedOrdinary afterWrite shownWord requestOf typeOf withData withoutData completer merged mergedByte shown
+unfolding placed serve respond unsupported storedBytes storedOrdinary afterWrite shownWord requestOf typeOf withData withoutData completer merged mergedByte shown
 second-half-bites =
     record {
       well = (refl, refl);

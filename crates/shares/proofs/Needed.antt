@@ -9,6 +9,7 @@ use mathlib.Core.Path.{_≡_, refl, ap}
 use lib.Dec.{eqb}
 use lib.ListN.{getD}
 use borrow.Author.Tests.{eqb-false}
+use Rattle.words.specs.Places.{placed}
 use Rattle.registers.specs.Merge.{mergedByte, merged}
 use Rattle.registers.specs.Shown.{shown}
 use Rattle.words.specs.Bytes.{byte}
@@ -172,7 +173,7 @@ abbrev stored4 : List Event
 stored4 = sent (trustedWriteAt 0x0f 0x00 0x04 ones) ∷ trusted4
 
 pub first-premises-needed : FirstPremisesNeeded
-unfolding serve respond unsupported storedBytes storedOrdinary afterWrite shownWord requestOf typeOf withData withoutData completer merged mergedByte shown
+unfolding placed serve respond unsupported storedBytes storedOrdinary afterWrite shownWord requestOf typeOf withData withoutData completer merged mergedByte shown
 first-premises-needed = (
   first-half,
   refuted ordinary WellDescribed whole whole nothing (usual zero zero) (usual zero (full 0x00c)) atA atA
@@ -199,7 +200,7 @@ first-premises-needed = (
 )
 
 pub second-premises-needed : SecondPremisesNeeded
-unfolding serve respond unsupported storedBytes storedOrdinary afterWrite shownWord requestOf typeOf withData withoutData completer merged mergedByte shown
+unfolding placed serve respond unsupported storedBytes storedOrdinary afterWrite shownWord requestOf typeOf withData withoutData completer merged mergedByte shown
 second-premises-needed = (
   second-half,
   refuted trusted WellDescribed whole whole nothing (usual zero zero) (boardOf 0 0x104 0x00c Nothing zero zero) trusted4 trusted4

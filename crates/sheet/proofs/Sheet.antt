@@ -12,7 +12,8 @@ use Rattle.board.specs.Access.{unsupported, storedBytes, storedOrdinary, afterW
 use Rattle.board.specs.Serving.{respond, serve}
 use Rattle.lists.specs.Table.{extendedStart, extendedNext}
 use Rattle.lists.specs.Chain.{first, follows}
-use Rattle.records.specs.Required.{sized, placed}
+use Rattle.words.specs.Places.{placed}
+use Rattle.records.specs.Required.{sized}
 use Rattle.records.specs.DvsecRule.{isDvsec, extends, dvsecNumber, dvsecSays, dvsecBody}
 use Rattle.records.specs.DualRule.{fitsDual, knownPair, isDual, setPlaces, oneSet, setPlace, dualNumber, dualSays}
 use Rattle.sheet.specs.Sheet.{rules, sheet}

@@ -10,7 +10,7 @@ use borrow.Author.Tests.{eqb-true, eqb-false, ltb-true, ltb-false}
 use lib.Dec.{eqb, ltb}
 use lib.ListN.{length}
 use Rattle.lists.specs.declared.Kind.{Kind}
-use Rattle.lists.specs.Table.{Description, describe}
+use Rattle.lists.specs.Table.{ListRule, describe}
 use Rattle.lists.specs.Chain.{Legal, HasChain, NoChain, first, follows}
 use Rattle.lists.specs.Chain.Legal.{ends as lends, goes}
 use Rattle.lists.proofs.Pointers.{Bytes}
@@ -40,7 +40,7 @@ said-no : (b : Bool) → numberFor b ≡ 7 → b ≡ false
 said-no true e = absurd (omega (arith, e))
 said-no false e = refl
 
-module _ (d : Description) (s : List ℕ) where
+module _ (d : ListRule) (s : List ℕ) where
   -- a chain from a pointer that is not 0 has the pointer, which is not below the floor, and goes on
   onward : {pointer : ℕ} {chain : List ℕ} → Legal d s pointer chain → (pointer ≡ 0 → ⊥)
       → (d .floor ≤ pointer) × ((rest : List ℕ) × Legal d s (follows d s pointer) rest × (length chain ≡ suc (length rest)))

@@ -4,7 +4,7 @@ use Prim.Native.Nat.{ℕ, zero, suc}
 use mathlib.Core.Bool.{Bool, true, false, _||_}
 use mathlib.Core.List.{List, [], _∷_}
 use lib.Dec.{eqb, ltb}
-use Rattle.lists.specs.Table.{Description}
+use Rattle.lists.specs.Table.{ListRule}
 use Rattle.lists.specs.Chain.{first, follows}
 
 abbrev pub passed : ℕ → List ℕ → Bool
@@ -12,7 +12,7 @@ passed pointer [] = false
 passed pointer (x ∷ xs) = eqb pointer x || passed pointer xs
 
 -- a chain from this pointer ends within so many headers, after those that were passed
-abbrev pub ends : Description → List ℕ → ℕ → List ℕ → ℕ → Bool
+abbrev pub ends : ListRule → List ℕ → ℕ → List ℕ → ℕ → Bool
 ends d s zero seen pointer = eqb pointer 0
 ends d s (suc n) seen pointer =
     elim (eqb pointer 0) [
@@ -24,5 +24,5 @@ abbrev pub numberFor : Bool → ℕ
 numberFor true = 0
 numberFor false = 7
 
-abbrev pub walkNumber : Description → List ℕ → ℕ
+abbrev pub walkNumber : ListRule → List ℕ → ℕ
 walkNumber d s = numberFor (ends d s (d .maximum) [] (first d s))

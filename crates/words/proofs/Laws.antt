@@ -1,17 +1,18 @@
 -- Laws of the bytes of a space, for the proofs above: what `four`, `word` and `put` come to inside and outside the space, and what stands in a
 -- space after a `put`. Assumes nothing.
 use Prim.Native.Nat.{ℕ, _+_, _-_, _%_, _≤_, _<_}
-use mathlib.Core.Bool.{Bool, true, false, cond}
+use mathlib.Core.Bool.{Bool, true, false, cond, _&&_}
 use mathlib.Core.List.{List, [], _∷_, _++_}
 use mathlib.Core.Path.{_≡_, refl, sym, ap, _∙_, subst}
 use native.Mathlib.Nat.{add-zero}
 use native.Mathlib.Omega.{arith}
-use borrow.Author.Tests.{le-leb, lt-leb, ltb-true, ltb-false}
-use lib.Dec.{leb, ltb}
+use borrow.Author.Tests.{le-leb, lt-leb, ltb-true, ltb-false, leb-true, eqb-true}
+use lib.Dec.{leb, ltb, eqb}
 use lib.Seq.{length-take-le, getD-take, getD-drop, getD-append-add}
 use lib.ListN.{length, length-append, length-take, length-drop, getD, take, drop, List·getD-append}
 use Rattle.words.specs.Bytes.{byte, four, put, fourOrZero, Puts}
 use Rattle.words.specs.Fields.{word, wordOrZero}
+use Rattle.words.specs.Places.{placed}
 
 pub four-inside : (s : List ℕ) (at : ℕ) → at + 4 ≤ length s → fourOrZero s at ≡ four s at
 unfolding fourOrZero
@@ -96,3 +97,21 @@ four-elsewhere s at bytes o h size a b apart = go (ltb o at) refl
     go : (less : Bool) → ltb o at ≡ less → four (put s at bytes) o ≡ four s o
     go true e = each (λ k small. put-before s at bytes h (o + k) (omega (arith, ltb-true o at e)))
     go false e = each (λ k small. put-after s at bytes h (o + k) (omega (arith, ltb-false o at e)))
+
+-- ---- where something may stand
+
+pub record Place (at low high : ℕ) : Type 0 where
+  pub aligned : at % 4 ≡ 0
+  pub above : low ≤ at
+  pub below : at ≤ high
+
+and-both : (a b : Bool) → (a && b) ≡ true → (a ≡ true) × (b ≡ true)
+and-both true b e = (refl, e)
+and-both false b e = let z : _≡_ {A = ℕ} 0 1 = cc in absurd (omega arith)
+
+pub placed-true : (at low high : ℕ) → placed at low high ≡ true → Place at low high
+unfolding placed
+placed-true at low high e =
+    let a = and-both (eqb (at % 4) 0) (leb low at && leb at high) e in
+    let b = and-both (leb low at) (leb at high) (a .1) in
+    record { aligned = eqb-true _ _ (a .0); above = leb-true _ _ (b .0); below = leb-true _ _ (b .1) }

@@ -4,6 +4,7 @@
 ghost use mathlib.Core.Path.{_≡_};
 ghost use Prim.Native.Nat.{_+_, _*_};
 ghost use Rattle.words.specs.Bytes.{fourOrZero, Puts};
+ghost use Rattle.words.specs.Places.{placed};
 ghost use Rattle.words.specs.Fields.{wordOrZero};
 
 // The four bytes at `at`, or four zeros where they do not all lie in `space`.
@@ -32,6 +33,19 @@ pub fn word(space: &[u8], at: usize) -> u32
 {
     let bytes = four(space, at);
     joined(bytes[0], bytes[1], bytes[2], bytes[3])
+}
+
+// Whether an offset is a multiple of 4 from a lowest to a highest one.
+pub fn placed(at: usize, low: usize, high: usize) -> bool
+    ensures { λ r. ⌜ r ≡ placed at low high ⌝ }
+{
+    if at & 3 != 0 {
+        return false;
+    }
+    if at < low {
+        return false;
+    }
+    at <= high
 }
 
 // Stores `bytes` at `at`, and says whether they fitted. Where they do not, nothing is stored.

@@ -8,11 +8,12 @@ use native.Mathlib.Omega.{arith}
 use borrow.Author.Tests.{not-true, not-false, eq-eqb, ne-eqb}
 use Rattle.words.specs.Bytes.{byte}
 use Rattle.words.specs.Fields.{bits, word}
-use Rattle.records.specs.Required.{placed}
+use Rattle.words.specs.Places.{placed}
+use Rattle.words.proofs.Laws.{Place, placed-true}
 use Rattle.records.specs.DualRule.{fitsDual, isDual, oneSet, vectorAt, alternateOf, dualNumber}
 use Rattle.records.proofs.Masks.{word-read}
 use Rattle.records.proofs.OneBit.{one-set, not-one-set}
-use Rattle.records.proofs.Told.{sized-true, sized-false, Place, placed-true, dual-refused, dual-found, dual-number}
+use Rattle.records.proofs.Told.{sized-true, sized-false, dual-refused, dual-found, dual-number}
 use Rattle.records.proofs.dual_bdf.Statement.{statement}
 use Rattle.records.proofs.dual_bdf.Tie as tie
 
@@ -40,11 +41,11 @@ abbrev of-vector : tie.After-vector-of → tie.Else2
 of-vector c = of-rest (c .before)
 
 -- what is known past the test of the place
-is-placed : (c : tie.Else2) → placed 0x040 0x0fc (at c) ≡ true
+is-placed : (c : tie.Else2) → placed (at c) 0x040 0x0fc ≡ true
 is-placed c = sym (c .before .placed .ensures) ∙ not-false _ (c .if2 .left)
 
-place : (c : tie.Else2) → Place 0x040 0x0fc (at c)
-place c = placed-true 0x040 0x0fc _ (is-placed c)
+place : (c : tie.Else2) → Place (at c) 0x040 0x0fc
+place c = placed-true _ 0x040 0x0fc (is-placed c)
 
 -- the second word, and what is tested with it
 second : (c : tie.After-word) → c .word .result ≡ word (space (c .before .before .before)) (at (c .before .before .before) + 4)

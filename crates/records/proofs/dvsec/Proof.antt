@@ -8,10 +8,11 @@ use native.Mathlib.Omega.{arith}
 use borrow.Author.Tests.{not-true, not-false}
 use Rattle.words.specs.Fields.{word}
 use Rattle.records.specs.declared.DvsecHeader.{DvsecHeader}
-use Rattle.records.specs.Required.{placed}
+use Rattle.words.specs.Places.{placed}
+use Rattle.words.proofs.Laws.{Place, placed-true}
 use Rattle.records.specs.DvsecRule.{isDvsec, extends, headerOf, headerAt}
 use Rattle.records.proofs.Masks.{word-read}
-use Rattle.records.proofs.Told.{sized-true, sized-false, Place, placed-true, dvsec-refused, dvsec-found, dvsec-number}
+use Rattle.records.proofs.Told.{sized-true, sized-false, dvsec-refused, dvsec-found, dvsec-number}
 use Rattle.records.proofs.dvsec.Statement.{statement}
 use Rattle.records.proofs.dvsec.Tie as tie
 
@@ -30,11 +31,11 @@ abbrev of-extent : tie.After-extends → tie.Else2
 of-extent c = of-header (c .before .before)
 
 -- what is known past the test of the place
-is-placed : (c : tie.Else2) → placed 0x100 0xffc (at c) ≡ true
+is-placed : (c : tie.Else2) → placed (at c) 0x100 0xffc ≡ true
 is-placed c = sym (c .before .placed .ensures) ∙ not-false _ (c .if2 .left)
 
-place : (c : tie.Else2) → Place 0x100 0xffc (at c)
-place c = placed-true 0x100 0xffc _ (is-placed c)
+place : (c : tie.Else2) → Place (at c) 0x100 0xffc
+place c = placed-true _ 0x100 0xffc (is-placed c)
 
 -- what the code tests is the word that stands there
 tested : (c : tie.After-is-dvsec) → c .is-dvsec .result ≡ isDvsec (word (space (c .before .before)) (at (c .before .before)))

@@ -15,17 +15,17 @@ returns c = search needs
 returns-2 : tie.Need-returns-2
 returns-2 c = rw (sym (c .before .before .before .device-over .ensures) ∙ c .before .before .if1 .left, lt-ltb 7 _ (c .if2 .taken))
 
-is-place-requires : tie.Need-is-place-requires
-is-place-requires c κs = search needs
+placed-requires : tie.Need-placed-requires
+placed-requires c κs = search needs
 
 returns-3 : tie.Need-returns-3
-returns-3 c = rw (sym (c .before .before .before .before .before .device-over .ensures) ∙ c .before .before .before .before .if1 .left, le-ltb 7 _ (c .before .before .if2 .left), sym (c .before .is-place .ensures) ∙ not-true _ (c .if3 .taken))
+returns-3 c = rw (sym (c .before .before .before .before .before .device-over .ensures) ∙ c .before .before .before .before .if1 .left, le-ltb 7 _ (c .before .before .if2 .left), sym (c .before .placed .ensures) ∙ not-true _ (c .if3 .taken))
 
-is-place-requires-2 : tie.Need-is-place-requires-2
-is-place-requires-2 c κs = search needs
+placed-requires-2 : tie.Need-placed-requires-2
+placed-requires-2 c κs = search needs
 
 returns-4 : tie.Need-returns-4
-returns-4 c = rw (sym (c .before .before .before .before .before .before .device-over .ensures) ∙ c .before .before .before .before .before .if1 .left, le-ltb 7 _ (c .before .before .before .if2 .left), sym (c .before .before .is-place .ensures) ∙ not-false _ (c .before .if3 .left), c .is-place2 .ensures, or-false)
+returns-4 c = rw (sym (c .before .before .before .before .before .before .device-over .ensures) ∙ c .before .before .before .before .before .if1 .left, le-ltb 7 _ (c .before .before .before .if2 .left), sym (c .before .before .placed .ensures) ∙ not-false _ (c .before .if3 .left), c .placed2 .ensures, or-false)
 
 pub out-of-range-spec : {M : Type 1} → statement M
 out-of-range-spec =
@@ -34,7 +34,7 @@ out-of-range-spec =
     device-over-requires
     returns
     returns-2
-    is-place-requires
+    placed-requires
     returns-3
-    is-place-requires-2
+    placed-requires-2
     returns-4)

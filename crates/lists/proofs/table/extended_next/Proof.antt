@@ -7,12 +7,12 @@ use native.Mathlib.Omega.{arith}
 use Rattle.words.specs.Fields.{word, wordOrZero}
 use Rattle.words.proofs.Laws.{word-inside}
 use Rattle.lists.specs.Table.{extendedNext}
-use Rattle.lists.specs.Walks.{Space}
+use Rattle.lists.specs.Walks.{WholeSpace}
 use Rattle.lists.specs.Chase.{Raw}
 use Rattle.lists.proofs.table.extended_next.Statement.{statement}
 use Rattle.lists.proofs.table.extended_next.Tie as tie
 
-points : (s : List ℕ) (at n : ℕ) → Space s → at ≤ 0xffc → n < 4294967296 → n ≡ wordOrZero s at → Raw (extendedNext s at) (n / 1048576)
+points : (s : List ℕ) (at n : ℕ) → WholeSpace s → at ≤ 0xffc → n < 4294967296 → n ≡ wordOrZero s at → Raw (extendedNext s at) (n / 1048576)
 unfolding extendedNext
 points s at n size inside fits e = let w : n ≡ word s at = e ∙ word-inside s at (omega arith) in record { is = omega arith; small = omega arith }
 

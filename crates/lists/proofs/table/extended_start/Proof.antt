@@ -9,20 +9,20 @@ use lib.Bits.{bitAnd, and-mask}
 use Rattle.words.specs.Fields.{bits, word, wordOrZero}
 use Rattle.words.proofs.Laws.{word-inside}
 use Rattle.lists.specs.Table.{extendedStart}
-use Rattle.lists.specs.Walks.{Space}
+use Rattle.lists.specs.Walks.{WholeSpace}
 use Rattle.lists.specs.Chase.{Raw}
 use Rattle.lists.proofs.table.extended_start.Statement.{statement}
 use Rattle.lists.proofs.table.extended_start.Tie as tie
 
 -- the ID that the code tests
-id-there : (s : List ℕ) (n : ℕ) → Space s → n ≡ wordOrZero s 0x100 → bitAnd n 0xffff ≡ bits 15 0 (word s 0x100)
+id-there : (s : List ℕ) (n : ℕ) → WholeSpace s → n ≡ wordOrZero s 0x100 → bitAnd n 0xffff ≡ bits 15 0 (word s 0x100)
 id-there s n size e = and-mask n 16 ∙ omega (arith, e ∙ word-inside s 0x100 (omega arith))
 
-empty : (s : List ℕ) (n : ℕ) → Space s → n ≡ wordOrZero s 0x100 → bitAnd n 0xffff ≡ 0 → Raw (extendedStart s) 0
+empty : (s : List ℕ) (n : ℕ) → WholeSpace s → n ≡ wordOrZero s 0x100 → bitAnd n 0xffff ≡ 0 → Raw (extendedStart s) 0
 unfolding extendedStart
 empty s n size e h = record { is = rw (eq-eqb (bits 15 0 (word s 0x100)) 0 (sym (id-there s n size e) ∙ h)); small = omega arith }
 
-starts : (s : List ℕ) (n : ℕ) → Space s → n ≡ wordOrZero s 0x100 → (bitAnd n 0xffff ≡ 0 → ⊥) → Raw (extendedStart s) 0x100
+starts : (s : List ℕ) (n : ℕ) → WholeSpace s → n ≡ wordOrZero s 0x100 → (bitAnd n 0xffff ≡ 0 → ⊥) → Raw (extendedStart s) 0x100
 unfolding extendedStart
 starts s n size e h = record { is = rw (ne-eqb (bits 15 0 (word s 0x100)) 0 (λ z. h (id-there s n size e ∙ z))); small = omega arith }
 

@@ -8,12 +8,12 @@ use lib.Bits.{bitAnd, and-mask, mask-lt}
 use Rattle.words.specs.Fields.{word, wordOrZero}
 use Rattle.words.proofs.Laws.{word-inside}
 use Rattle.lists.specs.Table.{trustedStart}
-use Rattle.lists.specs.Walks.{Space}
+use Rattle.lists.specs.Walks.{WholeSpace}
 use Rattle.lists.specs.Chase.{Raw}
 use Rattle.lists.proofs.table.trusted_start.Statement.{statement}
 use Rattle.lists.proofs.table.trusted_start.Tie as tie
 
-starts : (s : List ℕ) (n : ℕ) → Space s → n ≡ wordOrZero s 0x004 → Raw (trustedStart s) (bitAnd n 0xfff)
+starts : (s : List ℕ) (n : ℕ) → WholeSpace s → n ≡ wordOrZero s 0x004 → Raw (trustedStart s) (bitAnd n 0xfff)
 unfolding trustedStart
 starts s n size e = record { is = and-mask n 12 ∙ omega (arith, e ∙ word-inside s 0x004 (omega arith)); small = mask-lt n 12 }
 
