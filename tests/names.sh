@@ -29,3 +29,9 @@ for edit in $(grep -oE '(must-fail|\|) [a-z0-9_]+/[a-z0-9_-]+(, [a-z0-9_]+/[a-z0
     [ -f "crates/$crate/must-fail/${edit#*/}.edit" ] || { echo "FAILED docs/TRACE.md cites the edit $edit, which is not there"; bad=1; }
 done
 [ "$bad" -eq 0 ] && [ "$seen" -gt 0 ] && echo "ok $seen must-fail edits that docs/TRACE.md cites are there"
+bad=0 seen=0
+for part in $(grep -oE 'bench, [a-z]+' docs/TRACE.md | sed 's/bench, //' | sort -u); do
+    seen=$((seen + 1))
+    [ -f "crates/bench/src/$part.rt" ] || { echo "FAILED docs/TRACE.md cites the bench's $part, and there is no crates/bench/src/$part.rt"; bad=1; }
+done
+[ "$bad" -eq 0 ] && [ "$seen" -gt 0 ] && echo "ok $seen parts of the bench that docs/TRACE.md cites are there"
