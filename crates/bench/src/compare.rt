@@ -67,15 +67,3 @@ pub fn entries(what: What, found: &[u16], wanted: &[u16]) -> Verdict {
     }
     Verdict::Right
 }
-
-// The same byte all over.
-pub fn filled(what: What, found: &[u8], wanted: u8) -> Verdict {
-    let mut at = 0;
-    while at < found.len() {
-        if found[at] != wanted {
-            return part(what, at, found[at], wanted);
-        }
-        at += 1;
-    }
-    Verdict::Right
-}

@@ -1,36 +1,21 @@
-// Runs document 01's bench sheet through the compiled code.
-mod capturing;
+// Runs the bench sheet, which it reads from standard input, through the compiled code. It writes one line for each check, and a last
+// line with the tally. What a sheet says is told at the head of the sheet itself, the file `stdin` of this crate.
+mod boards;
 mod chains;
 mod compare;
-mod correlation;
-mod dual;
-mod dvsec;
-mod enables;
-mod fields;
+mod desk;
 mod headers;
 mod numbers;
-mod packets;
+mod parts;
 mod report;
-mod requests;
-mod scene;
-mod sizes;
-mod space;
-mod starts;
-mod text;
-mod unsupported;
-mod walks;
+mod sheet;
+mod statements;
+mod structures;
 
-use lists::Kind;
-use report::Tally;
+use libc::STDIN_FILENO;
 
 fn main() {
-    let sheet = packets::all(Tally::new());
-    let numbered = sizes::all(numbers::all(sheet));
-    let answered = fields::all(unsupported::all(numbered));
-    let accessed = correlation::all(enables::all(answered));
-    let captured = capturing::all(accessed);
-    let compatible = walks::all(starts::all(captured), Kind::Compatible);
-    let extended = walks::all(compatible, Kind::Extended);
-    let walked = walks::all(extended, Kind::Trusted);
-    dual::all(dvsec::all(walked)).last_line();
+    let mut text = [0u8; 131072];
+    let length = io::read_full(STDIN_FILENO, &mut text);
+    sheet::run(&text[..length]);
 }

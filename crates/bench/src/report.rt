@@ -1,7 +1,6 @@
-// One line on standard output for each check, and the tally of them. A check is a verdict: everything is as wanted, or the first
-// thing that is not, with what was found and what was wanted.
+// One line on standard output for each check, and the tally of them. A check has a verdict: everything is as expected, or the first
+// thing that is not, with what was found and what was expected.
 use libc::STDOUT_FILENO;
-use lists::Kind;
 
 // What a verdict is about.
 pub enum What {
@@ -21,6 +20,7 @@ pub enum What {
     Revision,
     Id,
     BodyByte,
+    Statement,
 }
 
 pub enum Verdict {
@@ -76,30 +76,27 @@ impl Tally {
         }
     }
 
-    pub fn line(self, name: &[u8], verdict: Verdict) -> Tally {
-        begin(verdict);
-        put(name);
-        end(verdict);
-        self.counting(verdict)
-    }
-
-    // A line of a table: its name ends with a number.
-    pub fn numbered(self, name: &[u8], number: u8, verdict: Verdict) -> Tally {
-        begin(verdict);
-        put(name);
-        put(b" ");
-        put_decimal(number as u64);
-        end(verdict);
-        self.counting(verdict)
-    }
-
-    // A line of a list, named before it.
-    pub fn of_list(self, kind: Kind, name: &[u8], verdict: Verdict) -> Tally {
-        begin(verdict);
-        put_kind(kind);
-        put(name);
-        end(verdict);
-        self.counting(verdict)
+    // The line of a check.
+    pub fn line(self, title: &[u8], verdict: Verdict) -> Tally {
+        let checks = std::num::wrapping_add_u64(self.checks, 1);
+        if verdict.is_right() {
+            put(b"ok ");
+            put(title);
+            put(b"\n");
+            return Tally {
+                checks,
+                right: std::num::wrapping_add_u64(self.right, 1),
+            };
+        }
+        put(b"WRONG ");
+        put(title);
+        put(b": ");
+        put_difference(verdict);
+        put(b"\n");
+        Tally {
+            checks,
+            right: self.right,
+        }
     }
 
     pub fn last_line(self) {
@@ -108,46 +105,22 @@ impl Tally {
         put_decimal(self.checks);
         put(b" as expected\n");
     }
-
-    fn counting(self, verdict: Verdict) -> Tally {
-        let checks = std::num::wrapping_add_u64(self.checks, 1);
-        if verdict.is_right() {
-            return Tally {
-                checks,
-                right: std::num::wrapping_add_u64(self.right, 1),
-            };
-        }
-        Tally {
-            checks,
-            right: self.right,
-        }
-    }
 }
 
-fn begin(verdict: Verdict) {
-    if verdict.is_right() {
-        put(b"ok ");
-    } else {
-        put(b"WRONG ");
-    }
-}
-
-// What differed, if anything did. A value is told in decimal; a byte or an offset in hexadecimal, with its place.
-fn end(verdict: Verdict) {
+// A value is told in decimal; a byte or an offset in hexadecimal, with its place.
+fn put_difference(verdict: Verdict) {
     match verdict {
-        Verdict::Right => put(b"\n"),
+        Verdict::Right => {}
         Verdict::Value {
             what,
             found,
             wanted,
         } => {
-            put(b": ");
             put_what(what);
             put(b" ");
             put_decimal(found as u64);
             put(b", expected ");
             put_decimal(wanted as u64);
-            put(b"\n");
         }
         Verdict::Part {
             what,
@@ -155,7 +128,6 @@ fn end(verdict: Verdict) {
             found,
             wanted,
         } => {
-            put(b": ");
             put_what(what);
             put(b" ");
             put_hex(at as u64);
@@ -163,7 +135,6 @@ fn end(verdict: Verdict) {
             put_hex(found as u64);
             put(b", expected ");
             put_hex(wanted as u64);
-            put(b"\n");
         }
     }
 }
@@ -186,14 +157,7 @@ fn put_what(what: What) {
         What::Revision => put(b"revision"),
         What::Id => put(b"ID"),
         What::BodyByte => put(b"body byte"),
-    }
-}
-
-fn put_kind(kind: Kind) {
-    match kind {
-        Kind::Compatible => put(b"compatible list, "),
-        Kind::Extended => put(b"extended list, "),
-        Kind::Trusted => put(b"trusted list, "),
+        What::Statement => put(b"statements understood"),
     }
 }
 

@@ -1,0 +1,48 @@
+-- `bench::numbers::Numbers::bytes` is safe and ends. Assumes nothing.
+use borrow.Author.Needs.{needs}
+use Prim.Native.Nat.{_≤_, _-_}
+use mathlib.Core.Path.{_≡_}
+use lib.ListN.{length}
+use Rattle.bench.proofs.numbers.Numbers.bytes.Statement.{statement}
+use Rattle.bench.proofs.numbers.Numbers.bytes.Tie as tie
+
+abbrev Inv-loop : tie.InvT-loop
+Inv-loop self bytes₀ place₀ bytes place = (place ≤ 24) × (length bytes ≡ 24)
+
+abbrev μ-loop : tie.MeasureT-loop
+μ-loop self bytes₀ place₀ bytes place = 24 - place
+
+loop-holds : tie.Need-loop-holds Inv-loop μ-loop
+loop-holds c = search needs
+
+byte-requires : tie.Need-byte-requires Inv-loop μ-loop
+byte-requires c κs = search needs
+
+array-write-bytes : tie.Need-array-write-bytes Inv-loop μ-loop
+array-write-bytes c = search needs
+
+add-place : tie.Need-add-place Inv-loop μ-loop
+add-place c = search needs
+
+loop-less : tie.Need-loop-less Inv-loop μ-loop
+loop-less c = search needs
+
+loop-again : tie.Need-loop-again Inv-loop μ-loop
+loop-again c = search needs
+
+returns : tie.Need-returns Inv-loop μ-loop
+returns c = search needs
+
+pub bytes-spec : {M : Type 1} → statement M
+bytes-spec =
+    tie.close
+    (tie.spec
+    Inv-loop
+    μ-loop
+    loop-holds
+    byte-requires
+    array-write-bytes
+    add-place
+    loop-less
+    loop-again
+    returns)
