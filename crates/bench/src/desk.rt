@@ -95,7 +95,7 @@ impl Desk {
     }
 
     // The line of the check that ends, if there is one. A check that asks nothing is none.
-    pub fn concluded(self, sheet: &[u8]) -> Desk {
+    fn concluded(self, sheet: &[u8]) -> Desk {
         let mut next = self;
         let check = self.check;
         let verdict = check.verdict;
@@ -111,7 +111,7 @@ impl Desk {
     }
 
     // A check begins, with its title at a place of the sheet.
-    pub fn titled(self, from: usize, to: usize) -> Desk {
+    fn titled(self, from: usize, to: usize) -> Desk {
         let mut next = self;
         let check = Check {
             from,
@@ -123,8 +123,17 @@ impl Desk {
         next
     }
 
+    // A check ends and the next begins, or something is asked.
+    pub fn turned(self, sheet: &[u8], statement: Statement, from: usize, to: usize) -> Desk {
+        let word = statement.word;
+        match word {
+            Word::Title | Word::End => self.concluded(sheet).titled(from, to),
+            _ => self.asking(statement),
+        }
+    }
+
     // Something is asked, and judged once its expectations are told.
-    pub fn asking(self, asked: Statement) -> Desk {
+    fn asking(self, asked: Statement) -> Desk {
         let mut next = self;
         let numbers = asked.numbers;
         let right = numbers.right;

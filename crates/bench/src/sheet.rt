@@ -84,36 +84,8 @@ fn line(
     space: &mut [u8; LONG],
 ) -> Desk {
     let statement = statements::statement_of(parts::between(sheet, from, to));
-    let word = statement.word;
-    match word {
-        Word::Nothing => desk,
-        Word::Title | Word::End => {
-            judge(
-                    desk,
-                    ordinary,
-                    rules,
-                    trusted,
-                    limits,
-                    wanted_ordinary,
-                    wanted_trusted,
-                    space,
-                )
-                .concluded(sheet)
-                .titled(from, to)
-        }
-        Word::Packet | Word::Reset | Word::Merge | Word::Walk | Word::Dvsec | Word::Dual => {
-            judge(
-                desk,
-                ordinary,
-                rules,
-                trusted,
-                limits,
-                wanted_ordinary,
-                wanted_trusted,
-                space,
-            ).asking(statement)
-        }
-        _ => set(
+    if !statement.turns() {
+        return set(
             desk,
             statement,
             ordinary,
@@ -123,8 +95,18 @@ fn line(
             wanted_ordinary,
             wanted_trusted,
             space,
-        ),
+        );
     }
+    judge(
+        desk,
+        ordinary,
+        rules,
+        trusted,
+        limits,
+        wanted_ordinary,
+        wanted_trusted,
+        space,
+    ).turned(sheet, statement, from, to)
 }
 
 // What was asked is done, and judged.
@@ -175,7 +157,7 @@ fn set(
     let word = statement.word;
     let idle = desk.is_idle();
     match word {
-        Word::Fresh => {
+        Word::Fresh | Word::Open => {
             boards::fill(
                 ordinary,
                 rules,
@@ -183,19 +165,7 @@ fn set(
                 limits,
                 wanted_ordinary,
                 wanted_trusted,
-                0x00,
-            );
-            desk.fresh()
-        }
-        Word::Open => {
-            boards::fill(
-                ordinary,
-                rules,
-                trusted,
-                limits,
-                wanted_ordinary,
-                wanted_trusted,
-                0xff,
+                statement.rule(),
             );
             desk.fresh()
         }
@@ -207,6 +177,20 @@ fn set(
             boards::put_both(trusted, wanted_trusted, idle, numbers);
             desk
         }
+        _ => set_rules(desk, statement, rules, limits, space),
+    }
+}
+
+fn set_rules(
+    desk: Desk,
+    statement: Statement,
+    rules: &mut [u8; LONG],
+    limits: &mut [u8; LONG],
+    space: &mut [u8; LONG],
+) -> Desk {
+    let numbers = statement.numbers;
+    let word = statement.word;
+    match word {
         Word::Rules => {
             boards::put(rules, numbers);
             desk
@@ -223,6 +207,7 @@ fn set_space(desk: Desk, statement: Statement, space: &mut [u8; LONG]) -> Desk {
     let numbers = statement.numbers;
     let word = statement.word;
     match word {
+        Word::Nothing => desk,
         Word::Space => {
             *space = [0; LONG];
             desk

@@ -50,6 +50,23 @@ impl Statement {
             numbers: Numbers::none(),
         }
     }
+
+    // What was asked before it is judged first.
+    pub fn turns(self) -> bool {
+        let word = self.word;
+        match word {
+            Word::Title | Word::End => true,
+            Word::Packet | Word::Reset | Word::Merge | Word::Walk | Word::Dvsec | Word::Dual =>
+                true,
+            _ => false,
+        }
+    }
+
+    // The rules of the board that it begins.
+    pub fn rule(self) -> u8 {
+        let word = self.word;
+        if let Word::Open = word { 0xff } else { 0x00 }
+    }
 }
 
 pub fn statement_of(line: &[u8]) -> Statement {

@@ -13,7 +13,7 @@ use Rattle.lists.specs.declared.Kind.{Kind}
 use Rattle.lists.specs.declared.Kind.the-variants.{Compatible, Extended, Trusted}
 use Rattle.lists.specs.Table.{ListRule, describe, compatibleStart, extendedStart, trustedStart, compatibleNext, extendedNext, unlessEmpty}
 use Rattle.lists.specs.Chain.{dropped, first, follows}
-use Rattle.lists.specs.Chase.{Raw, Offset}
+use Rattle.lists.specs.Chase.{Raw, Word, Header, pointerIn}
 
 -- every element of a lent space is a byte
 abbrev pub Bytes : List ℕ → Type 0
@@ -58,11 +58,26 @@ unfolding follows
 follows-within kind s at b = dropped-within kind (describe kind .next s at) (next-below kind s at b)
 
 -- the code's pointer, its bottom two bits dropped, is the one that the definitions drop them from
-pub first-offset : (d : ListRule) (s : List ℕ) {raw r : ℕ} → Raw (d .start s) raw → Offset (dropped raw) r → Offset (first d s) r
+pub first-word : (d : ListRule) (s : List ℕ) {raw number : ℕ} → Raw (d .start s) raw → Word (dropped raw) number → Word (first d s) number
 unfolding first
-first-offset d s p o = record { is = rw (← p .is) (o .is); inside = o .inside }
+first-word d s p o = record { is = rw (← p .is) (o .is); inside = o .inside }
 
-pub follows-offset : (d : ListRule) (s : List ℕ) (at : ℕ) {raw r : ℕ} → Raw (d .next s at) raw → Offset (dropped raw) r
-    → Offset (follows d s at) r
+top-bits : (w header : ℕ) → header ≡ w → header < 4294967296 → header / 1048576 ≡ bits 31 20 w
+top-bits w header e h = omega arith
+
+-- the pointer that the code takes from a header is the one that the table says, and has at most twelve bits
+pub pointer-small : (kind : Kind) (header : ℕ) → header < 4294967296 → pointerIn kind header < 0x1000
+pointer-small Compatible header h = omega arith
+pointer-small Extended header h = omega arith
+pointer-small Trusted header h = omega arith
+
+pointer-there : (kind : Kind) (s : List ℕ) (at header : ℕ) → Header s at header → pointerIn kind header ≡ describe kind .next s at
+unfolding compatibleNext extendedNext
+pointer-there Compatible s at header h = h .second
+pointer-there Extended s at header h = top-bits (word s at) header (h .is) (h .small)
+pointer-there Trusted s at header h = top-bits (word s at) header (h .is) (h .small)
+
+pub follows-word : (kind : Kind) (s : List ℕ) (at : ℕ) {header pointer number : ℕ} → Header s at header → pointer ≡ pointerIn kind header
+    → Word (dropped pointer) number → Word (follows (describe kind) s at) number
 unfolding follows
-follows-offset d s at p o = record { is = rw (← p .is) (o .is); inside = o .inside }
+follows-word kind s at {header} h p o = record { is = rw (← pointer-there kind s at header h, ← p) (o .is); inside = o .inside }

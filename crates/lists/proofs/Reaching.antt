@@ -1,6 +1,6 @@
 -- Laws of a chase underway: what it means for the list's chains that some offsets have been passed and a pointer is reached.
 -- Assumes nothing.
-use Prim.Native.Nat.{ℕ, _+_, _≤_, _<_}
+use Prim.Native.Nat.{ℕ, _+_, _*_, _≤_, _<_}
 use mathlib.Core.List.{List, [], _∷_, _++_, append-assoc, append-nil}
 use mathlib.Core.Path.{_≡_, refl, ap, subst, _∙_}
 use native.Mathlib.Numerals.{add-one}
@@ -12,7 +12,7 @@ use Rattle.lists.specs.Chain.{Legal, Legal.ends, Legal.goes, HasChain, N
 use Rattle.lists.specs.declared.Kind.{Kind}
 use Rattle.lists.specs.declared.chase.Step.the-variants.{Next, End, Fault}
 use Rattle.lists.specs.declared.chase.Chased.the-variants.{Ended, Broken, Full}
-use Rattle.lists.specs.Chase.{Reached, Underway, Leads, Chases, Offset}
+use Rattle.lists.specs.Chase.{Reached, Underway, Leads, Chases, Word}
 
 module _ {d : ListRule} {s : List ℕ} where
   pub reached-start : Reached d s [] (first d s)
@@ -60,11 +60,11 @@ module _ {kind : Kind} {s log : List ℕ} {count pointer : ℕ} (u : Underway ki
     pub next-inside : at ≤ 0xffc
     next-inside = omega (arith, u .inside, l .0)
 
-    pub chase-full : count ≡ length log → Chases kind s (Full at) log
-    chase-full e = rw (l .0, ← e) (l .1, u)
+    pub chase-full : (number : ℕ) → 4 * number ≡ pointer → count ≡ length log → Chases kind s (Full number) log
+    chase-full number n e = rw (n, ← e) (l .1, u)
 
-    pub chase-goes : (count ≡ length log → ⊥) → {p : ℕ} → Offset (follows (describe kind) s at) p
-        → Underway kind s (set log count at) (count + 1) p
+    pub chase-goes : (count ≡ length log → ⊥) → {number : ℕ} → Word (follows (describe kind) s pointer) number
+        → Underway kind s (set log count at) (count + 1) (4 * number)
     chase-goes short o = record {
       space = u .space;
       fits = simp length-set (omega (arith, u .fits));

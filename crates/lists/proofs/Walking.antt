@@ -1,5 +1,5 @@
 -- Laws of the walk's answers: what each way out of it promises, from what the chase told. Assumes nothing.
-use Prim.Native.Nat.{ℕ, _≤_}
+use Prim.Native.Nat.{ℕ, _*_, _≤_}
 use mathlib.Core.List.{List, [], _∷_, _++_}
 use mathlib.Core.Path.{_≡_, refl, sym, ap, subst}
 use native.Mathlib.Omega.{arith}
@@ -20,7 +20,7 @@ use Rattle.lists.specs.declared.chase.Chased.the-variants.{Ended, Broken
 use Rattle.lists.specs.Table.{describe}
 use Rattle.lists.specs.Chain.{NoChain, first}
 use Rattle.lists.specs.Walks.{WholeSpace, Roomy, Refuses, Walks, Walks.listed, Walks.broken}
-use Rattle.lists.specs.Chase.{Offset, Underway, Chases, Logged, Answers}
+use Rattle.lists.specs.Chase.{Word, Underway, Chases, Logged, Answers}
 use Rattle.lists.proofs.chase.Chased.{the-type}
 use Rattle.lists.proofs.Pointers.{Bytes}
 use Rattle.lists.proofs.Maxima.{chain-maximum}
@@ -42,7 +42,7 @@ pub answered-broken : (chased : Chased) (log room : List ℕ) {r : Walked} → O
     → RefusedAs BrokenChain r → Answers chased log room r room
 answered-broken (Ended count) log room k p = absurd (miss (1 ∷ 2 ∷ []) 0 tt k)
 answered-broken Broken log room k p = refuses room p
-answered-broken (Full pointer) log room k p = refuses room p
+answered-broken (Full number) log room k p = refuses room p
 
 pub answered-ended : (log : List ℕ) {room after : List ℕ} (count : ℕ) → count ≤ length log → after ≡ take count log ++ drop count room
     → Answers (Ended count) log room (record { answer = Done; count = count }) after
@@ -52,8 +52,8 @@ answered-ended log count h e = record { given = refl; counted = sym (length-take
 pub chases-logged : (kind : Kind) (s log : List ℕ) (chased : Chased) → Chases kind s chased log → Logged chased log
 chases-logged kind s log chased h count e = (subst (λ (x : Chased). Chases kind s x log) e h) .0
 
-pub underway-start : {kind : Kind} {s log : List ℕ} {start : ℕ} → WholeSpace s → Offset (first (describe kind) s) start
-    → Underway kind s log 0 start
+pub underway-start : {kind : Kind} {s log : List ℕ} {start : ℕ} → WholeSpace s → Word (first (describe kind) s) start
+    → Underway kind s log 0 (4 * start)
 underway-start size o = record { space = size; fits = omega arith; inside = o .inside; reached = rw (o .is) reached-start }
 
 -- a chase goes on in a longer log that begins with its own
@@ -75,14 +75,14 @@ underway-longer {kind} {s} {short} {log} {pointer} count most rest u size e h k 
 
 module _ (kind : Kind) (s log : List ℕ) (bytes : Bytes s) where
   -- a log of the list's maximum that is full with a header still to read: the chain is longer than any
-  full-broken : {pointer : ℕ} → Chases kind s (Full pointer) log → describe kind .maximum ≤ length log → NoChain (describe kind) s
-  full-broken h most chain l =
+  full-broken : (number : ℕ) → Chases kind s (Full number) log → describe kind .maximum ≤ length log → NoChain (describe kind) s
+  full-broken number h most chain l =
       let longer = reached-full (h .1 .reached) (h .0) chain l in
       omega (arith, chain-maximum kind s bytes chain l, longer, ap length (take-length log))
 
   pub walks-answered : {room after : List ℕ} {r : Walked} → WholeSpace s → Roomy kind room → (chased : Chased) → Chases kind s chased log
-      → ((pointer : ℕ) → chased ≡ Full pointer → describe kind .maximum ≤ length log) → Answers chased log room r after
+      → ((number : ℕ) → chased ≡ Full number → describe kind .maximum ≤ length log) → Answers chased log room r after
       → Walks kind s room r after
   walks-answered size roomy (Ended count) h most a = listed size roomy (take count log) (h .1) a
   walks-answered size roomy Broken h most a = broken size roomy h a
-  walks-answered size roomy (Full pointer) h most a = broken size roomy (full-broken h (most pointer refl)) a
+  walks-answered size roomy (Full number) h most a = broken size roomy (full-broken number h (most number refl)) a

@@ -5,7 +5,7 @@ use answers::Answer;
 use answers::Refusal;
 use chase::Chased;
 ghost use mathlib.Core.Path.{_≡_};
-ghost use Prim.Native.Nat.{_≤_, _<_};
+ghost use Prim.Native.Nat.{_*_, _≤_, _<_};
 ghost use lib.ListN.{length};
 ghost use Rattle.lists.specs.Table.{describe};
 ghost use Rattle.lists.specs.Walks.{Walks, WholeSpace, Roomy};
@@ -46,7 +46,12 @@ pub fn walk(kind: Kind, space: &[u8], room: &mut [u16]) -> Walked
     if room.len() < table::maximum(kind) {
         return refused(Refusal::NoRoom);
     }
-    walk_short(kind, space, room)
+    // A call for each list, so that each walk is compiled for its own.
+    match kind {
+        Kind::Compatible => walk_short(Kind::Compatible, space, room),
+        Kind::Extended => walk_short(Kind::Extended, space, room),
+        Kind::Trusted => walk_short(Kind::Trusted, space, room),
+    }
 }
 
 fn refused(refusal: Refusal) -> Walked
@@ -66,24 +71,24 @@ fn walk_short(kind: Kind, space: &[u8], room: &mut [u16]) -> Walked
     let mut log = [0u16; SHORT];
     let start = table::first(kind, space);
     let chased = chase::chase(kind, space, &mut log, 0, start);
-    let Chased::Full(pointer) = chased else {
+    let Chased::Full(number) = chased else {
         return answered(chased, &log, room);
     };
     if table::maximum(kind) <= SHORT {
         return refused(Refusal::BrokenChain);
     }
-    walk_long(kind, space, &log, pointer, room)
+    walk_long(kind, space, &log, number, room)
 }
 
 // The walk from where a short log was full: to the list's maximum.
-fn walk_long(kind: Kind, space: &[u8], short: &[u16], pointer: usize, room: &mut [u16]) -> Walked
-    requires { ⌜ Underway kind (now space) (now short) (length (now short)) pointer × Roomy kind (now room) × (length (now short) ≡ 48) × (48 < describe kind .maximum) ⌝ }
+fn walk_long(kind: Kind, space: &[u8], short: &[u16], number: u32, room: &mut [u16]) -> Walked
+    requires { ⌜ Underway kind (now space) (now short) (length (now short)) (4 * number) × Roomy kind (now room) × (length (now short) ≡ 48) × (48 < describe kind .maximum) ⌝ }
     ensures { λ r. ⌜ Walks kind (now (space .entry)) (now (room .entry)) r (now (room .exit)) ⌝ }
 {
     let mut log = [0u16; LONG];
     let most = table::maximum(kind);
     logs::copy(short, SHORT, &mut log);
-    let chased = chase::chase(kind, space, &mut log[..most], SHORT, pointer);
+    let chased = chase::chase(kind, space, &mut log[..most], SHORT, number);
     answered(chased, &log[..most], room)
 }
 

@@ -1,11 +1,11 @@
 // Document 01's table of the three lists: the start, the header's pointer, the floor and the maximum of each.
 use crate::Kind;
 ghost use mathlib.Core.Path.{_≡_};
-ghost use Prim.Native.Nat.{_≤_, _<_};
-ghost use Rattle.lists.specs.Table.{describe, compatibleStart, extendedStart, trustedStart, compatibleNext, extendedNext};
+ghost use Prim.Native.Nat.{_*_, _≤_, _<_};
+ghost use Rattle.lists.specs.Table.{describe, compatibleStart, extendedStart, trustedStart};
 ghost use Rattle.lists.specs.Chain.{dropped, first, follows};
 ghost use Rattle.lists.specs.Walks.{WholeSpace};
-ghost use Rattle.lists.specs.Chase.{Raw, Offset};
+ghost use Rattle.lists.specs.Chase.{Raw, Word, Header, pointerIn};
 
 // The compatible list: a bit of the status byte says that there is one, and a byte points to its first header.
 const STATUS: usize = 0x06;
@@ -14,25 +14,25 @@ const CAPABILITIES: u8 = 4;
 
 const COMPATIBLE_START: usize = 0x34;
 
-const COMPATIBLE_FLOOR: usize = 0x040;
+const COMPATIBLE_FLOOR: u32 = 0x040;
 
 pub(crate) const COMPATIBLE_MAXIMUM: usize = 48;
 
 // The extended list: its first header has a fixed place, and an ID of 0 says that there is none.
 const EXTENDED_START: usize = 0x100;
 
-const EXTENDED_FLOOR: usize = 0x100;
+const EXTENDED_FLOOR: u32 = 0x100;
 
 const EXTENDED_MAXIMUM: usize = 960;
 
 // The trusted list: a word points to its first header.
 const TRUSTED_START: usize = 0x004;
 
-const TRUSTED_FLOOR: usize = 0x008;
+const TRUSTED_FLOOR: u32 = 0x008;
 
 pub(crate) const TRUSTED_MAXIMUM: usize = 1022;
 
-pub(crate) fn floor(kind: Kind) -> usize
+pub(crate) fn floor(kind: Kind) -> u32
     ensures { λ r. ⌜ r ≡ describe kind .floor ⌝ }
 {
     match kind {
@@ -52,31 +52,41 @@ pub(crate) fn maximum(kind: Kind) -> usize
     }
 }
 
-// The offset of the list's first header, or 0.
-pub(crate) fn first(kind: Kind, space: &[u8]) -> usize
+// The word of the list's first header, or 0.
+pub(crate) fn first(kind: Kind, space: &[u8]) -> u32
     requires { ⌜ WholeSpace (now space) ⌝ }
-    ensures { λ r. ⌜ Offset (first (describe kind) (now (space .entry))) r ⌝ }
+    ensures { λ r. ⌜ Word (first (describe kind) (now (space .entry))) r ⌝ }
 {
-    aligned(start(kind, space))
+    numbered(start(kind, space))
 }
 
-// The offset that the header at an offset points to, or 0.
-pub(crate) fn follow(kind: Kind, space: &[u8], at: usize) -> usize
-    requires { ⌜ WholeSpace (now space) × (at ≤ 0xffc) ⌝ }
-    ensures { λ r. ⌜ Offset (follows (describe kind) (now (space .entry)) at) r ⌝ }
+// The word that the header in a word points to, or 0.
+pub(crate) fn follow(kind: Kind, space: &[u8], number: u32) -> u32
+    requires { ⌜ WholeSpace (now space) × (4 * number ≤ 0xffc) ⌝ }
+    ensures { λ r. ⌜ Word (follows (describe kind) (now (space .entry)) (4 * number)) r ⌝ }
 {
-    aligned(next(kind, space, at))
+    let header = word_of(space, number);
+    numbered(next(kind, header))
 }
 
-// A pointer without its bottom two bits.
-fn aligned(pointer: usize) -> usize
+// The word of the space with a number.
+fn word_of(space: &[u8], number: u32) -> u32
+    requires { ⌜ WholeSpace (now space) × (4 * number ≤ 0xffc) ⌝ }
+    ensures { λ r. ⌜ Header (now (space .entry)) (4 * number) r ⌝ }
+{
+    let at = 4 * (number as usize);
+    words::joined(space[at], space[at + 1], space[at + 2], space[at + 3])
+}
+
+// The word that a pointer without its bottom two bits leads to, by its number in the space.
+fn numbered(pointer: u32) -> u32
     requires { ⌜ pointer < 0x1000 ⌝ }
-    ensures { λ r. ⌜ Offset (dropped pointer) r ⌝ }
+    ensures { λ r. ⌜ Word (dropped pointer) r ⌝ }
 {
-    pointer & 0xffc
+    pointer >> 2
 }
 
-fn start(kind: Kind, space: &[u8]) -> usize
+fn start(kind: Kind, space: &[u8]) -> u32
     requires { ⌜ WholeSpace (now space) ⌝ }
     ensures { λ r. ⌜ Raw (describe kind .start (now (space .entry))) r ⌝ }
 {
@@ -87,54 +97,40 @@ fn start(kind: Kind, space: &[u8]) -> usize
     }
 }
 
-fn compatible_start(space: &[u8]) -> usize
+fn compatible_start(space: &[u8]) -> u32
     requires { ⌜ WholeSpace (now space) ⌝ }
     ensures { λ r. ⌜ Raw (compatibleStart (now (space .entry))) r ⌝ }
 {
     if (space[STATUS] >> CAPABILITIES) & 1 == 0 {
         return 0;
     }
-    space[COMPATIBLE_START] as usize
+    space[COMPATIBLE_START] as u32
 }
 
-fn extended_start(space: &[u8]) -> usize
+fn extended_start(space: &[u8]) -> u32
     requires { ⌜ WholeSpace (now space) ⌝ }
     ensures { λ r. ⌜ Raw (extendedStart (now (space .entry))) r ⌝ }
 {
     if words::word(space, EXTENDED_START) & 0xffff == 0 {
         return 0;
     }
-    EXTENDED_START
+    EXTENDED_START as u32
 }
 
-fn trusted_start(space: &[u8]) -> usize
+fn trusted_start(space: &[u8]) -> u32
     requires { ⌜ WholeSpace (now space) ⌝ }
     ensures { λ r. ⌜ Raw (trustedStart (now (space .entry))) r ⌝ }
 {
-    (words::word(space, TRUSTED_START) & 0xfff) as usize
+    words::word(space, TRUSTED_START) & 0xfff
 }
 
-fn next(kind: Kind, space: &[u8], at: usize) -> usize
-    requires { ⌜ WholeSpace (now space) × (at ≤ 0xffc) ⌝ }
-    ensures { λ r. ⌜ Raw (describe kind .next (now (space .entry)) at) r ⌝ }
+// The pointer in a header.
+fn next(kind: Kind, header: u32) -> u32
+    ensures { λ r. ⌜ r ≡ pointerIn kind header ⌝ }
 {
     match kind {
-        Kind::Compatible => compatible_next(space, at),
-        Kind::Extended => extended_next(space, at),
-        Kind::Trusted => extended_next(space, at),
+        Kind::Compatible => (header >> 8) & 0xff,
+        Kind::Extended => header >> 20,
+        Kind::Trusted => header >> 20,
     }
-}
-
-fn compatible_next(space: &[u8], at: usize) -> usize
-    requires { ⌜ WholeSpace (now space) × (at ≤ 0xffc) ⌝ }
-    ensures { λ r. ⌜ Raw (compatibleNext (now (space .entry)) at) r ⌝ }
-{
-    space[at + 1] as usize
-}
-
-fn extended_next(space: &[u8], at: usize) -> usize
-    requires { ⌜ WholeSpace (now space) × (at ≤ 0xffc) ⌝ }
-    ensures { λ r. ⌜ Raw (extendedNext (now (space .entry)) at) r ⌝ }
-{
-    (words::word(space, at) >> 20) as usize
 }

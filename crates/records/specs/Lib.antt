@@ -1,3 +1,4 @@
 pub mod Required
 pub mod DvsecRule
 pub mod DualRule
+pub mod Inner

@@ -4,7 +4,8 @@ ghost use mathlib.Core.Path.{_≡_};
 ghost use mathlib.Core.Bool.{true};
 ghost use Prim.Native.Nat.{_≤_, _<_};
 ghost use Rattle.words.specs.Fields.{bits};
-ghost use Rattle.records.specs.DualRule.{fitsDual, knownPair, isDual, oneSet, alternateOf};
+ghost use Rattle.records.specs.DualRule.{fitsDual, isDual, oneSet, alternateOf};
+ghost use Rattle.records.specs.Inner.{Pairs};
 
 pub(crate) const VENDOR_SPECIFIC: u8 = 0x09;
 
@@ -34,17 +35,17 @@ pub(crate) fn is_dual(second: u32, third: u32) -> bool
     if (second >> 16) & 0xf != 0 {
         return false;
     }
-    known_pair(second & 0xffff, third & 0xffff)
+    third & 0xffff == id_of(second & 0xffff)
 }
 
-// The vendors that write such a record, each with its ID.
-fn known_pair(vendor: u32, id: u32) -> bool
-    ensures { λ r. ⌜ r ≡ knownPair vendor id ⌝ }
+// The ID with which a vendor writes such a record; for a vendor that writes none, a number that no ID is.
+fn id_of(vendor: u32) -> u32
+    ensures { λ r. ⌜ Pairs vendor r ⌝ }
 {
     match vendor {
-        0x8086 => id == 0x0009,
-        0x1ec0 => id == 0x0002,
-        _ => false,
+        0x8086 => 0x0009,
+        0x1ec0 => 0x0002,
+        _ => 0x10000,
     }
 }
 

@@ -40,6 +40,9 @@ const DVSEC_LOWEST: usize = 0x100;
 
 const DVSEC_HIGHEST: usize = 0xffc;
 
+// The last of these places with 0Ah bytes left.
+const DVSEC_LAST: usize = 0xff4;
+
 const DUAL_LOWEST: usize = 0x040;
 
 const DUAL_HIGHEST: usize = 0x0fc;
@@ -59,6 +62,9 @@ pub fn dvsec(space: &[u8], at: usize) -> DvsecRead
     }
     if !vendor::is_dvsec(words::word(space, at)) {
         return DvsecRead::Refused(Refusal::OtherStructure);
+    }
+    if DVSEC_LAST < at {
+        return DvsecRead::Refused(Refusal::WrongExtent);
     }
     let header = vendor::header_of(words::word(space, at + 4), words::word(space, at + 8));
     let length = header.length as usize;

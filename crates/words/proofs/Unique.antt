@@ -5,10 +5,13 @@ use mathlib.Core.List.{List}
 use mathlib.Core.Path.{_≡_, sym, _∙_}
 use Rattle.words.specs.Places.{placed}
 use Rattle.words.specs.Bytes.{fourOrZero, Puts}
-use Rattle.words.specs.Fields.{wordOrZero}
+use Rattle.words.specs.Fields.{joined, wordOrZero}
 
 pub four-unique : (s : List ℕ) (at : ℕ) (r q : List ℕ) → r ≡ fourOrZero s at → q ≡ fourOrZero s at → r ≡ q
 four-unique s at r q e f = e ∙ sym f
+
+pub joined-unique : (first second third fourth r q : ℕ) → r ≡ joined first second third fourth → q ≡ joined first second third fourth → r ≡ q
+joined-unique first second third fourth r q e f = e ∙ sym f
 
 pub word-unique : (s : List ℕ) (at : ℕ) (r q : ℕ) → r ≡ wordOrZero s at → q ≡ wordOrZero s at → r ≡ q
 word-unique s at r q e f = e ∙ sym f

@@ -14,9 +14,13 @@ bits high low n = (n / 2 ^ low) % 2 ^ (suc high - low)
 abbrev pub bit : ℕ → ℕ → ℕ
 bit k n = (n / 2 ^ k) % 2
 
--- "Words are little-endian": the 32 bits at an offset
+-- "Words are little-endian": the word of four bytes, the lowest address first
+abbrev pub joined : ℕ → ℕ → ℕ → ℕ → ℕ
+joined first second third fourth = first + 256 * second + 65536 * third + 16777216 * fourth
+
+-- the word at an offset
 abbrev pub word : List ℕ → ℕ → ℕ
-word s at = byte s at + 256 * byte s (at + 1) + 65536 * byte s (at + 2) + 16777216 * byte s (at + 3)
+word s at = joined (byte s at) (byte s (at + 1)) (byte s (at + 2)) (byte s (at + 3))
 
 -- what `words::word` answers for any offset
 unfoldable pub wordOrZero : List ℕ → ℕ → ℕ

@@ -2,10 +2,9 @@
 // Every function answers for every offset and length: four bytes that do not all lie in the space read as four zeros, and bytes that do
 // not all lie in it are not stored.
 ghost use mathlib.Core.Path.{_≡_};
-ghost use Prim.Native.Nat.{_+_, _*_};
 ghost use Rattle.words.specs.Bytes.{fourOrZero, Puts};
 ghost use Rattle.words.specs.Places.{placed};
-ghost use Rattle.words.specs.Fields.{wordOrZero};
+ghost use Rattle.words.specs.Fields.{joined, wordOrZero};
 
 // The four bytes at `at`, or four zeros where they do not all lie in `space`.
 pub fn four(space: &[u8], at: usize) -> [u8; 4]
@@ -20,9 +19,9 @@ pub fn four(space: &[u8], at: usize) -> [u8; 4]
     [space[at], space[at + 1], space[at + 2], space[at + 3]]
 }
 
-// The word that four bytes make, the lowest address first.
-fn joined(first: u8, second: u8, third: u8, fourth: u8) -> u32
-    ensures { λ r. ⌜ r ≡ first + 256 * second + 65536 * third + 16777216 * fourth ⌝ }
+// The little-endian word that four bytes make, the lowest address first.
+pub fn joined(first: u8, second: u8, third: u8, fourth: u8) -> u32
+    ensures { λ r. ⌜ r ≡ joined first second third fourth ⌝ }
 {
     (fourth as u32) << 24 | (third as u32) << 16 | (second as u32) << 8 | first as u32
 }

@@ -1,11 +1,11 @@
 -- `records::dvsec` meets its contract: each way out gives the number of the first fact that is missing. Assumes nothing.
 use borrow.Author.Needs.{needs}
-use Prim.Native.Nat.{ℕ, _+_, _%_}
-use mathlib.Core.Bool.{true}
+use Prim.Native.Nat.{ℕ, _+_, _%_, _<_}
+use mathlib.Core.Bool.{true, false}
 use mathlib.Core.List.{List}
 use mathlib.Core.Path.{_≡_, refl, sym, ap, ap₂, _∙_}
 use native.Mathlib.Omega.{arith}
-use borrow.Author.Tests.{not-true, not-false}
+use borrow.Author.Tests.{not-true, not-false, lt-leb}
 use Rattle.words.specs.Fields.{word}
 use Rattle.records.specs.declared.DvsecHeader.{DvsecHeader}
 use Rattle.words.specs.Places.{placed}
@@ -25,7 +25,7 @@ at c = c .before .before .before .before .args .at
 
 -- the same place, from further on
 abbrev of-header : tie.After-header-of → tie.Else2
-of-header c = c .before .before .before .before .before .before
+of-header c = c .before .before .before .before .before .before .before
 
 abbrev of-extent : tie.After-extends → tie.Else2
 of-extent c = of-header (c .before .before)
@@ -44,7 +44,7 @@ tested c = c .is-dvsec .ensures ∙ ap isDvsec (word-read _ _ (c .before .before
 header-is : (c : tie.After-header-of) → c .header-of .result ≡ headerAt (space (of-header c)) (at (of-header c))
 header-is c =
     let here = place (of-header c) in
-    let size = c .before .before .before .before .before .before .before .before .if1 .left in
+    let size = c .before .before .before .before .before .before .before .before .before .if1 .left in
     let four : (at (of-header c) + 4) % 4 ≡ 0 = omega (arith, here) in
     let eight : (at (of-header c) + 8) % 4 ≡ 0 = omega (arith, here) in
     c .header-of .ensures ∙ ap₂ headerOf (word-read _ _ size four (c .before .before .word2 .ensures)) (word-read _ _ size eight (c .before .word3 .ensures))
@@ -56,6 +56,11 @@ is-one c = sym (tested (c .before)) ∙ not-false _ (c .if3 .left)
 -- what the code tests is the length that stands there
 extent : (c : tie.After-extends) → c .extends .result ≡ extends (at (of-extent c)) (headerAt (space (of-extent c)) (at (of-extent c)) .length)
 extent c = c .extends .ensures ∙ ap (λ (h : DvsecHeader). extends (at (of-extent c)) (h .length)) (header-is (c .before .before))
+
+-- past the last place with 0Ah bytes left, no length extends
+none-left : (at length : ℕ) → 0xff4 < at → at % 4 ≡ 0 → extends at length ≡ false
+unfolding extends
+none-left at length h a = rw (lt-leb (at + 0x0a) 0x1000 (omega arith))
 
 returns : tie.Need-returns
 returns c = dvsec-refused _ _ 1 refl (dvsec-number _ _ (sized-false _ (c .if1 .taken)) refl refl refl)
@@ -78,14 +83,21 @@ returns-3 c =
     let p = c .before .before .before in
     dvsec-refused _ _ 8 refl (dvsec-number _ _ (sized-true _ (p .before .before .if1 .left)) (is-placed p) (sym (tested (c .before)) ∙ not-true _ (c .if3 .taken)) refl)
 
+returns-4 : tie.Need-returns-4
+returns-4 c =
+    let q = c .before in
+    let p = q .before .before .before in
+    dvsec-refused _ _ 9 refl
+    (dvsec-number _ _ (sized-true _ (p .before .before .if1 .left)) (is-placed p) (is-one q) (none-left _ _ (c .if4 .taken) (place p .aligned)))
+
 add-word : tie.Need-add-word
-add-word c = omega (arith, place (c .before .before .before))
+add-word c = omega (arith, place (c .before .before .before .before))
 
 word-requires-2 : tie.Need-word-requires-2
 word-requires-2 c κs = search needs
 
 add-word-2 : tie.Need-add-word-2
-add-word-2 c = omega (arith, place (c .before .before .before .before))
+add-word-2 c = omega (arith, place (c .before .before .before .before .before))
 
 word-requires-3 : tie.Need-word-requires-3
 word-requires-3 c κs = search needs
@@ -98,23 +110,23 @@ cast-length c = search needs
 
 extends-requires : tie.Need-extends-requires
 extends-requires c κs =
-    let here = place (c .before .before .before .before .before .before .before) in
+    let here = place (c .before .before .before .before .before .before .before .before) in
     (here .below, omega (arith, ap (λ (h : DvsecHeader). h .length) (header-is (c .before))))
-
-returns-4 : tie.Need-returns-4
-returns-4 c =
-    let q = c .before .before .before .before .before .before in
-    let p = q .before .before .before in
-    dvsec-refused _ _ 9 refl
-    (dvsec-number _ _ (sized-true _ (p .before .before .if1 .left)) (is-placed p) (is-one q) (sym (extent (c .before)) ∙ not-true _ (c .if4 .taken)))
 
 returns-5 : tie.Need-returns-5
 returns-5 c =
-    let q = c .before .before .before .before .before .before in
+    let q = c .before .before .before .before .before .before .before in
+    let p = q .before .before .before in
+    dvsec-refused _ _ 9 refl
+    (dvsec-number _ _ (sized-true _ (p .before .before .if1 .left)) (is-placed p) (is-one q) (sym (extent (c .before)) ∙ not-true _ (c .if5 .taken)))
+
+returns-6 : tie.Need-returns-6
+returns-6 c =
+    let q = c .before .before .before .before .before .before .before in
     let p = q .before .before .before in
     rw (header-is (c .before .before .before))
     (dvsec-found _ _
-    (dvsec-number _ _ (sized-true _ (p .before .before .if1 .left)) (is-placed p) (is-one q) (sym (extent (c .before)) ∙ not-false _ (c .if4 .left))))
+    (dvsec-number _ _ (sized-true _ (p .before .before .if1 .left)) (is-placed p) (is-one q) (sym (extent (c .before)) ∙ not-false _ (c .if5 .left))))
 
 pub dvsec-spec : {M : Type 1} → statement M
 dvsec-spec =
@@ -126,6 +138,7 @@ dvsec-spec =
     word-requires
     is-dvsec-requires
     returns-3
+    returns-4
     add-word
     word-requires-2
     add-word-2
@@ -133,5 +146,5 @@ dvsec-spec =
     header-of-requires
     cast-length
     extends-requires
-    returns-4
-    returns-5)
+    returns-5
+    returns-6)

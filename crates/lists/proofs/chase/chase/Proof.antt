@@ -1,6 +1,6 @@
--- `lists::chase::chase` meets its contract. The loop's invariant: the chase is underway, with `count` offsets in the log and `pointer` reached.
+-- `lists::chase::chase` meets its contract. The loop's invariant: the chase is underway, with `count` offsets in the log and the word `number` reached.
 -- Assumes nothing.
-use Prim.Native.Nat.{_-_}
+use Prim.Native.Nat.{_*_, _-_}
 use mathlib.Core.List.{[], _∷_}
 use mathlib.Core.Path.{_≡_, refl, subst}
 use native.Mathlib.Omega.{arith}
@@ -24,14 +24,14 @@ fault-only End p q = absurd (miss (0 ∷ 2 ∷ []) 1 tt p)
 fault-only Fault p q = refl
 
 abbrev Inv-loop : tie.InvT-loop
-Inv-loop kind space log₀ passed from count₀ pointer₀ log count pointer = Underway kind space log count pointer × (length log ≡ length log₀)
+Inv-loop kind space log₀ passed from count₀ number₀ log count number = Underway kind space log count (4 * number) × (length log ≡ length log₀)
 
 abbrev μ-loop : tie.MeasureT-loop
-μ-loop kind space log₀ passed from count₀ pointer₀ log count pointer = length log - count
+μ-loop kind space log₀ passed from count₀ number₀ log count number = length log - count
 
 -- the step that led to an offset
 leads-next : (c : tie.After-known-told Inv-loop μ-loop)
-    → Leads (describe (c .before .before .before .before .before .before .before .args .kind)) (c .before .before .before .before .loop .pointer)
+    → Leads (describe (c .before .before .before .before .before .before .before .args .kind)) (4 * c .before .before .before .before .loop .number)
     (Next (c .before .taken .given .0 .0))
 leads-next c = subst (Leads _ _) (c .before .taken .given .1) (c .before .before .before .step-to .ensures)
 
@@ -39,7 +39,7 @@ loop-holds : tie.Need-loop-holds Inv-loop μ-loop
 loop-holds c = (c .before .before .pre, refl)
 
 step-to-requires : tie.Need-step-to-requires Inv-loop μ-loop
-step-to-requires c κs = search needs
+step-to-requires c κs = c .loop .inv .0 .inside
 
 enum-known-taken : tie.Need-enum-known-taken Inv-loop μ-loop
 enum-known-taken c = search needs
@@ -67,7 +67,7 @@ same-length-3 c = search needs
 
 returns-3 : tie.Need-returns-3 Inv-loop μ-loop
 returns-3 c =
-    chase-full (c .before .before .before .before .before .loop .inv .0) (leads-next (c .before)) (c .if1 .taken)
+    chase-full (c .before .before .before .before .before .loop .inv .0) (leads-next (c .before)) (c .before .before .before .before .before .loop .number) refl (c .if1 .taken)
 
 cast-log : tie.Need-cast-log Inv-loop μ-loop
 cast-log c = omega (arith, next-inside (c .before .before .before .before .before .loop .inv .0) (leads-next (c .before)))
@@ -84,7 +84,7 @@ add-count c = search needs
 follow-requires : tie.Need-follow-requires Inv-loop μ-loop
 follow-requires c κs =
     let u = c .before .before .before .before .before .loop .inv .0 in
-    (u .space, next-inside u (leads-next (c .before)))
+    (u .space, u .inside)
 
 loop-less : tie.Need-loop-less Inv-loop μ-loop
 loop-less c = simp length-set (omega arith)

@@ -34,10 +34,13 @@ returns c =
     let a = c .before .before .before in
     empty (a .args .space .now) (c .before .word .result) (a .pre) (c .before .word .ensures) (c .if1 .taken)
 
+cast-result : tie.Need-cast-result
+cast-result c = search needs
+
 returns-2 : tie.Need-returns-2
 returns-2 c =
     let a = c .before .before .before in
     starts (a .args .space .now) (c .before .word .result) (a .pre) (c .before .word .ensures) (c .if1 .left)
 
 pub extended-start-spec : {M : Type 1} → statement M
-extended-start-spec = tie.close (tie.spec word-requires returns returns-2)
+extended-start-spec = tie.close (tie.spec word-requires returns cast-result returns-2)

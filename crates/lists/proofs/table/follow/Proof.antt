@@ -1,20 +1,24 @@
 -- `lists::table::follow` meets its contract. Assumes nothing.
 use borrow.Author.Needs.{needs}
-use Rattle.lists.specs.Table.{describe}
-use Rattle.lists.proofs.Pointers.{follows-offset}
+use Prim.Native.Nat.{_*_, _<_}
+use mathlib.Core.Path.{sym}
+use Rattle.lists.proofs.Pointers.{pointer-small, follows-word}
 use Rattle.lists.proofs.table.follow.Statement.{statement}
 use Rattle.lists.proofs.table.follow.Tie as tie
+
+word-of-requires : tie.Need-word-of-requires
+word-of-requires c κs = search needs
 
 next-requires : tie.Need-next-requires
 next-requires c κs = search needs
 
-aligned-requires : tie.Need-aligned-requires
-aligned-requires c κs = search needs
+numbered-requires : tie.Need-numbered-requires
+numbered-requires c κs = rw (c .next .ensures) (pointer-small (c .before .before .before .args .kind) (c .before .word-of .result) (c .before .word-of .ensures .small))
 
 returns : tie.Need-returns
 returns c =
-    let a = c .before .before .before .args in
-    follows-offset (describe (a .kind)) (a .space .now) (a .at) (c .before .next .ensures) (c .aligned .ensures)
+    let a = c .before .before .before .before .args in
+    follows-word (a .kind) (a .space .now) (4 * a .number) (c .before .before .word-of .ensures) (c .before .next .ensures) (c .numbered .ensures)
 
 pub follow-spec : {M : Type 1} → statement M
-follow-spec = tie.close (tie.spec next-requires aligned-requires returns)
+follow-spec = tie.close (tie.spec word-of-requires next-requires numbered-requires returns)

@@ -1,45 +1,27 @@
 -- `lists::table::next` meets its contract: by the kind of the list. Assumes nothing.
 use borrow.Author.Needs.{needs}
+use Prim.Native.Nat.{_/_}
+use lib.Bits.{and-mask}
 use Rattle.lists.proofs.table.next.Statement.{statement}
 use Rattle.lists.proofs.table.next.Tie as tie
 
 enum-told : tie.Need-enum-told
 enum-told c = search needs
 
-compatible-next-requires : tie.Need-compatible-next-requires
-compatible-next-requires c κs = search needs
-
 enum-told-2 : tie.Need-enum-told-2
 enum-told-2 c = search needs
-
-extended-next-requires : tie.Need-extended-next-requires
-extended-next-requires c κs = search needs
 
 enum-told-3 : tie.Need-enum-told-3
 enum-told-3 c = search needs
 
-extended-next-requires-2 : tie.Need-extended-next-requires-2
-extended-next-requires-2 c κs = search needs
-
 returns : tie.Need-returns
-returns c = rw (c .before .enum-told .given .1) (c .compatible-next .ensures)
+returns c = rw (c .enum-told .given .1) (and-mask (c .before .before .args .header / 256) 8)
 
 returns-2 : tie.Need-returns-2
-returns-2 c = rw (c .before .enum-told2 .given .1) (c .extended-next .ensures)
+returns-2 c = rw (c .enum-told2 .given .1)
 
 returns-3 : tie.Need-returns-3
-returns-3 c = rw (c .before .enum-told3 .given .1) (c .extended-next2 .ensures)
+returns-3 c = rw (c .enum-told3 .given .1)
 
 pub next-spec : {M : Type 1} → statement M
-next-spec =
-    tie.close
-    (tie.spec
-    enum-told
-    compatible-next-requires
-    enum-told-2
-    extended-next-requires
-    enum-told-3
-    extended-next-requires-2
-    returns
-    returns-2
-    returns-3)
+next-spec = tie.close (tie.spec enum-told enum-told-2 enum-told-3 returns returns-2 returns-3)

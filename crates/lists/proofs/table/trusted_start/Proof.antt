@@ -20,11 +20,8 @@ starts s n size e = record { is = and-mask n 12 ∙ omega (arith, e ∙ word-ins
 word-requires : tie.Need-word-requires
 word-requires c κs = search needs
 
-cast-result : tie.Need-cast-result
-cast-result c = omega (arith, mask-lt (c .word .result) 12)
-
 returns : tie.Need-returns
 returns c = starts (c .before .before .args .space .now) (c .word .result) (c .before .before .pre) (c .word .ensures)
 
 pub trusted-start-spec : {M : Type 1} → statement M
-trusted-start-spec = tie.close (tie.spec word-requires cast-result returns)
+trusted-start-spec = tie.close (tie.spec word-requires returns)

@@ -1,0 +1,3 @@
+pub mod Told
+pub mod Bodies
+pub mod Unique

@@ -1,0 +1,21 @@
+//! Classes of calls: what a run must have met, worked out from the inputs and the model's answer.
+//!
+//! Only plain noise is counted by what the generator meant, since any input at all may be noise.
+
+mod access;
+mod alone;
+mod causes;
+mod dual_bdf;
+mod dvsec;
+mod group;
+mod names;
+mod serve;
+mod tally;
+mod walk;
+
+pub use dual_bdf::count_dual;
+pub use dvsec::{Question, count_dvsec};
+pub use group::Group;
+pub use serve::{History, ServeView, count as count_serve, count_reset};
+pub use tally::Tally;
+pub use walk::{count as count_walk, pointers};

@@ -1,0 +1,215 @@
+//! The classes of an accepted packet: its form, its causes of Unsupported Request, or what its success reached.
+
+use super::alone::only;
+use super::group::Group;
+use super::names::{Captures, Correlation};
+use super::serve::{History, ServeView};
+use super::tally::Tally;
+use crate::twin::word;
+
+/// The enabled bytes' bits.
+const fn enabled(enables: u8) -> u32 {
+    let spread =
+        (enables & 1) as u32 | (enables as u32 & 2) << 7 | (enables as u32 & 4) << 14 | (enables as u32 & 8) << 21;
+    spread * 0xFF
+}
+
+/// A packet of number 0, taken apart.
+struct Parts {
+    code: u8,
+    trusted: bool,
+    writes: bool,
+    poisoned: bool,
+    enables: u8,
+    bus: u8,
+    device: u8,
+    function: u8,
+    offset: usize,
+    data: u32,
+}
+
+impl Parts {
+    fn of(bytes: &[u8; 24]) -> Self {
+        let code = bytes[0] & 0x7F;
+        Self {
+            code,
+            trusted: code & 0x3F == 0x1B,
+            writes: code & 0x40 != 0,
+            poisoned: bytes[2] & 0x40 != 0,
+            enables: bytes[7] & 0x0F,
+            bus: bytes[8],
+            device: bytes[9] >> 3,
+            function: bytes[9] & 7,
+            offset: 256 * (usize::from(bytes[10]) % 16) + 4 * (usize::from(bytes[11]) / 4),
+            data: word(bytes, 12),
+        }
+    }
+
+    /// The place of the access among ordinary read, ordinary write, trusted read, trusted write.
+    const fn access(&self) -> usize {
+        2 * self.trusted as usize + self.writes as usize
+    }
+}
+
+/// Counts a call of number 0, and takes it into the board's history.
+pub fn count_accepted(view: &ServeView<'_>, history: &mut History, tally: &mut Tally) {
+    let bytes = &view.case.packet.bytes;
+    let parts = Parts::of(bytes);
+    let codes = [0x04, 0x44, 0x05, 0x45, 0x1B, 0x5B];
+    let code = codes
+        .iter()
+        .position(|&code| code == parts.code)
+        .expect("number 0 has one of the six type codes");
+    let form = usize::from(bytes[0] >> 7) | usize::from(bytes[2] >> 6) << 1;
+    tally.add(Group::TypeForms, 8 * code + form);
+    if view.reply[6] == 0x20 {
+        count_unsupported(view, &parts, tally);
+    } else {
+        count_reserved(bytes, tally);
+        count_success(view, &parts, tally);
+        count_correlation(view, &parts, history, tally);
+        count_capture(view, &parts, tally);
+    }
+}
+
+/// Counts a call whose request has one cause of Unsupported Request and no other.
+fn count_unsupported(view: &ServeView<'_>, parts: &Parts, tally: &mut Tally) {
+    let kept = view.case.kept;
+    let type1 = parts.code & 0x3F == 0x05;
+    let captured = kept.captured != 0;
+    let other_function = parts.function != view.case.description.function;
+    let poisoned = parts.poisoned && parts.writes;
+    let compared = parts.trusted && captured;
+    let causes = [
+        type1,
+        !type1 && !parts.trusted && other_function,
+        parts.trusted && !captured,
+        compared && parts.bus != kept.bus,
+        compared && parts.device != kept.device,
+        parts.trusted && other_function,
+        poisoned,
+    ];
+    if let Some(cause) = only(&causes) {
+        let second = if poisoned { parts.trusted } else { parts.writes };
+        tally.add(Group::Unsupported, 2 * cause + usize::from(second));
+    }
+}
+
+/// Reserved bits: byte 0 bit 7; byte 1 bits 7 and 3:0; byte 2 bits 3:2; byte 10 bits 7:4; byte 11 bits 1:0.
+fn count_reserved(bytes: &[u8; 24], tally: &mut Tally) {
+    let reserved = [(0, 0x80), (1, 0x8F), (2, 0x0C), (10, 0xF0), (11, 0x03)];
+    let mut class = 0;
+    let mut all = true;
+    for (place, mask) in reserved {
+        for bit in (0..8).filter(|bit| mask >> bit & 1 == 1) {
+            tally.add_if(bytes[place] >> bit & 1 == 1, Group::ReservedBits, class);
+            class += 1;
+        }
+        all &= bytes[place] & mask == mask;
+    }
+    tally.add_if(all, Group::ReservedBits, class);
+}
+
+fn count_success(view: &ServeView<'_>, parts: &Parts, tally: &mut Tally) {
+    tally.add(Group::Enables, 16 * parts.access() + usize::from(parts.enables));
+    tally.add(Group::Functions, 8 * parts.access() + usize::from(parts.function));
+    let place = parts.offset / 4;
+    match parts.access() {
+        0 => tally.add(Group::OrdinaryReads, place),
+        1 => count_write(view, parts, Group::OrdinaryWrites, tally),
+        2 => tally.add(Group::TrustedReads, place),
+        _ => count_write(view, parts, Group::TrustedWrites, tally),
+    }
+    tally.add_if(parts.poisoned, Group::PoisonedReads, parts.trusted.into());
+}
+
+/// Counts a successful write by the rules of its enabled bytes, and by its word where that was changed.
+fn count_write(view: &ServeView<'_>, parts: &Parts, words: Group, tally: &mut Tally) {
+    let spaces = if parts.trusted {
+        [view.trusted_before, view.trusted_after, view.trusted_rules]
+    } else {
+        [view.ordinary_before, view.ordinary_after, view.ordinary_rules]
+    };
+    let [old, new, rule] = spaces.map(|bytes| word(bytes, parts.offset));
+    let mask = enabled(parts.enables);
+    let at_a = !parts.trusted && parts.offset == view.case.description.a as usize;
+    if mask != 0 && !at_a {
+        let first = 4 * usize::from(parts.trusted);
+        let sort = match rule & mask {
+            0 => 0,
+            all if all == mask => 1,
+            _ => 2,
+        };
+        tally.add(Group::Rules, first + sort);
+        let neither = (new ^ old) & mask != 0 && (new ^ parts.data) & mask != 0;
+        tally.add_if(neither, Group::Rules, first + 3);
+    }
+    tally.add_if(new != old, words, parts.offset / 4);
+}
+
+fn count_correlation(view: &ServeView<'_>, parts: &Parts, history: &mut History, tally: &mut Tally) {
+    let (a, b) = (view.case.description.a as usize, view.case.description.b as usize);
+    let class = match (parts.access(), parts.offset == a, parts.offset == b) {
+        (0, true, _) => return count_read_at_a(view, parts, history, tally),
+        (1, true, _) => Correlation::OrdinaryWriteAtA,
+        (2, _, true) => Correlation::TrustedReadAtB,
+        (3, _, true) => Correlation::TrustedWriteAtB,
+        (0, _, true) => Correlation::OrdinaryReadAtOffsetB,
+        (1, _, true) => Correlation::OrdinaryWriteAtOffsetB,
+        (2, true, _) => Correlation::TrustedReadAtOffsetA,
+        (3, true, _) => Correlation::TrustedWriteAtOffsetA,
+        _ => return,
+    };
+    tally.add(Group::Correlation, class as usize);
+    match class {
+        Correlation::TrustedReadAtB => history.b_read = true,
+        Correlation::TrustedWriteAtB => history.b_changed |= word(view.trusted_before, b) ^ word(view.trusted_after, b),
+        _ => {}
+    }
+}
+
+fn count_read_at_a(view: &ServeView<'_>, parts: &Parts, history: &mut History, tally: &mut Tally) {
+    let (a, b) = (view.case.description.a as usize, view.case.description.b as usize);
+    let mask = enabled(parts.enables);
+    let stale = (word(view.ordinary_before, a) ^ word(view.trusted_before, b)) & mask != 0;
+    let mut add_if = |condition, class| tally.add_if(condition, Group::Correlation, class as usize);
+    add_if(true, Correlation::OrdinaryReadAtA);
+    add_if(history.b_read && mask != 0, Correlation::TrustedReadThenShown);
+    add_if(history.b_changed & mask != 0, Correlation::TrustedWriteThenShown);
+    add_if(stale, Correlation::StaleBytesAtA);
+    add_if(a == b, Correlation::AIsB);
+    add_if(a == 0x104, Correlation::AIsLowest);
+    add_if(a == 0xFFC, Correlation::AIsHighest);
+    add_if(b == 0x00C, Correlation::BIsLowest);
+    add_if(b == 0xFFC, Correlation::BIsHighest);
+    history.b_read = false;
+    history.b_changed &= !mask;
+}
+
+fn count_capture(view: &ServeView<'_>, parts: &Parts, tally: &mut Tally) {
+    let kept = view.case.kept;
+    let target = (parts.bus, parts.device);
+    let captures = parts.access() == 1;
+    if captures {
+        tally.add(Group::CapturedBuses, parts.bus.into());
+        tally.add(Group::CapturedDevices, parts.device.into());
+    }
+    let mut add_if = |condition, class| tally.add_if(condition, Group::Captures, class as usize);
+    add_if(parts.access() == 3, Captures::TrustedWriteLeavesIt);
+    add_if(parts.trusted && target == (0, 0), Captures::TrustedForTheLeast);
+    add_if(captures && target == (0, 0), Captures::OfTheLeast);
+    add_if(captures && target == (255, 31), Captures::OfTheMost);
+    add_if(captures && parts.enables == 0, Captures::NoByteEnabled);
+    add_if(
+        captures && parts.offset == view.case.description.a as usize,
+        Captures::ByAWriteAtA,
+    );
+    let change = match (kept.captured != 0, parts.bus != kept.bus, parts.device != kept.device) {
+        (false, _, _) => Captures::FromNothing,
+        (true, true, false) => Captures::AnotherBus,
+        (true, false, true) => Captures::AnotherDevice,
+        (true, true, true) => Captures::AnotherBusAndDevice,
+        (true, false, false) => Captures::TheSame,
+    };
+    add_if(captures, change);
+}

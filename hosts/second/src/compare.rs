@@ -1,0 +1,15 @@
+//! The comparison: each call is made to the model and to a subject on like buffers, and all they leave is compared.
+
+mod difference;
+mod packets;
+mod records;
+mod reference;
+mod run;
+mod subject;
+mod walks;
+
+pub use crate::classes::Tally;
+pub use difference::Difference;
+pub use reference::{Reference, meaning, plain};
+pub use run::{Failure, run};
+pub use subject::{Library, ServeCall, Subject};

@@ -1,0 +1,111 @@
+//! A difference between the model and a subject, told so that a reader can see it without running it again.
+
+use std::fmt::{self, Debug, LowerHex, Write};
+
+use crate::twin::{Twin, word};
+
+/// The most words of a space that are shown.
+const MOST_WORDS: usize = 16;
+
+/// A call whose two outcomes are not alike.
+#[derive(Debug)]
+pub struct Difference {
+    pub entry: &'static str,
+    /// One line for each input.
+    pub inputs: Vec<String>,
+    /// What the model answered.
+    pub ours: String,
+    /// What the subject answered.
+    pub theirs: String,
+    /// The first cell of a buffer that differs.
+    pub first: String,
+}
+
+impl Difference {
+    pub fn new(entry: &'static str, ours: impl Debug, theirs: impl Debug) -> Self {
+        let first = String::from("no cell of a buffer differs");
+        Self {
+            entry,
+            inputs: Vec::new(),
+            ours: format!("{ours:x?}"),
+            theirs: format!("{theirs:x?}"),
+            first,
+        }
+    }
+
+    /// Adds an input.
+    pub fn input(mut self, name: &str, value: impl Debug) -> Self {
+        self.inputs.push(format!("{name}: {value:x?}"));
+        self
+    }
+
+    /// Adds a lent buffer's bytes from before the call.
+    pub fn bytes(mut self, name: &str, bytes: &[u8]) -> Self {
+        let mut text = format!("{name}: {} bytes:", bytes.len());
+        for byte in bytes {
+            let _ = write!(text, " {byte:02x}");
+        }
+        self.inputs.push(text);
+        self
+    }
+
+    /// Adds a space: its length, and the first of its nonzero words from before the call.
+    pub fn space(mut self, name: &str, bytes: &[u8]) -> Self {
+        let offsets = (0..bytes.len() / 4).map(|place| 4 * place);
+        let nonzero: Vec<usize> = offsets.filter(|&offset| word(bytes, offset) != 0).collect();
+        let mut text = format!("{name}: {} bytes, {} nonzero words:", bytes.len(), nonzero.len());
+        for &offset in nonzero.iter().take(MOST_WORDS) {
+            let _ = write!(text, " {offset:03x}={:08x}", word(bytes, offset));
+        }
+        if nonzero.len() > MOST_WORDS {
+            text.push_str(" ...");
+        }
+        self.inputs.push(text);
+        self
+    }
+
+    /// Adds single words of a space, by their offsets, as far as the space has them.
+    pub fn words(mut self, name: &str, bytes: &[u8], offsets: &[usize]) -> Self {
+        let mut text = format!("{name}:");
+        for &offset in offsets
+            .iter()
+            .filter(|&&offset| offset < 0x1000 && offset + 4 <= bytes.len())
+        {
+            let _ = write!(text, " {offset:03x}={:08x}", word(bytes, offset));
+        }
+        self.inputs.push(text);
+        self
+    }
+
+    /// Looks for a cell that differs in a buffer, if none was found before.
+    pub fn look<Cell: Copy + PartialEq + Default + LowerHex>(mut self, name: &str, buffer: &Twin<Cell>) -> Self {
+        let Some((place, ours, theirs)) = buffer.first_difference() else {
+            return self;
+        };
+        let lent = buffer.ours().len() as isize;
+        let outside = if (0..lent).contains(&place) {
+            ""
+        } else {
+            ", outside what was lent"
+        };
+        let text = format!("{name}, place {place} ({place:#x}){outside}: model {ours:02x}, subject {theirs:02x}");
+        if self.first.starts_with("no cell") {
+            self.first = text;
+        } else {
+            let _ = write!(self.first, "; also {text}");
+        }
+        self
+    }
+}
+
+impl fmt::Display for Difference {
+    fn fmt(&self, formatter: &mut fmt::Formatter<'_>) -> fmt::Result {
+        writeln!(formatter, "entry: {} (numbers in hexadecimal)", self.entry)?;
+        for input in &self.inputs {
+            writeln!(formatter, "  {input}")?;
+        }
+        writeln!(formatter, "model:   {}", self.ours)?;
+        writeln!(formatter, "subject: {}", self.theirs)?;
+        write!(formatter, "first difference: {}", self.first)
+    }
+}

@@ -1,0 +1,115 @@
+//! The model behind the library's entries and types: what every subject is compared with.
+//!
+//! A capture is nothing where `captured` is 0, whatever the other two bytes hold. A refusal hands back the capture byte
+//! for byte; number 0 hands back 0, 0, 0 while nothing is captured, else 1 with the bus and the device.
+
+use thawribbon::raw::{Alternate, Capture, Dvsec, Part, Served, Walked};
+
+use super::subject::{ServeCall, Subject};
+use crate::model::{self, List};
+
+/// The model as a subject.
+pub struct Reference;
+
+/// What a capture of the library's means.
+pub fn meaning(capture: Capture) -> Option<(u8, u8)> {
+    (capture.captured != 0).then_some((capture.bus, capture.device))
+}
+
+/// A capture as the library hands it back with number 0.
+pub fn plain(capture: Option<(u8, u8)>) -> Capture {
+    capture.map_or(Capture::default(), |(bus, device)| Capture {
+        captured: 1,
+        bus,
+        device,
+    })
+}
+
+fn walk(list: List, space: &[u8], room: &mut [u16]) -> Walked {
+    let walked = model::walk(list, space, room);
+    Walked {
+        count: walked.count,
+        number: walked.number,
+    }
+}
+
+impl Subject for Reference {
+    fn serve(&mut self, call: ServeCall<'_>) -> Served {
+        let given = call.description;
+        let served = model::serve(
+            model::Description {
+                function: given.function,
+                a: given.a,
+                b: given.b,
+            },
+            meaning(call.kept),
+            call.ordinary,
+            call.ordinary_rules,
+            call.trusted,
+            call.trusted_rules,
+            call.packet,
+            call.reply,
+        );
+        let capture = if served.number == 0 {
+            plain(served.capture)
+        } else {
+            call.kept
+        };
+        Served {
+            length: served.length,
+            number: served.number,
+            capture,
+        }
+    }
+
+    fn reset(&mut self, _: Capture) -> Capture {
+        plain(None)
+    }
+
+    fn walk_compatible(&mut self, space: &[u8], room: &mut [u16]) -> Walked {
+        walk(List::Compatible, space, room)
+    }
+
+    fn walk_extended(&mut self, space: &[u8], room: &mut [u16]) -> Walked {
+        walk(List::Extended, space, room)
+    }
+
+    fn walk_trusted(&mut self, space: &[u8], room: &mut [u16]) -> Walked {
+        walk(List::Trusted, space, room)
+    }
+
+    fn dvsec(&mut self, space: &[u8], at: usize) -> Dvsec {
+        let record = model::dvsec(space, at);
+        Dvsec {
+            number: record.number,
+            revision: record.revision,
+            vendor: record.vendor,
+            id: record.id,
+            length: record.length,
+        }
+    }
+
+    /// The place is told from where the model's slice begins.
+    fn dvsec_body(&mut self, space: &[u8], at: usize) -> Part {
+        let body = model::dvsec_body(space, at);
+        if model::dvsec(space, at).number != 0 {
+            return Part {
+                start: 0,
+                length: body.len(),
+            };
+        }
+        Part {
+            start: body.as_ptr().addr() - space.as_ptr().addr(),
+            length: body.len(),
+        }
+    }
+
+    fn dual_bdf(&mut self, space: &[u8], at: usize) -> Alternate {
+        let record = model::dual_bdf(space, at);
+        Alternate {
+            number: record.number,
+            function: record.function,
+            device: record.device,
+        }
+    }
+}

@@ -1,0 +1,52 @@
+//! A run: so many calls by a seed, until the first difference. The same seed gives the same run.
+
+use std::fmt;
+
+use super::difference::Difference;
+use super::packets::Packets;
+use super::records::Records;
+use super::subject::Subject;
+use super::walks::Walks;
+use crate::classes::Tally;
+use crate::generate::{Random, SHAPES};
+
+/// How often each entry is called: serve, reset, the three walks, dvsec, dvsec_body, dual_bdf.
+const WEIGHTS: [usize; 8] = [70, 3, 4, 6, 6, 4, 3, 4];
+
+/// Where a run met a difference.
+#[derive(Debug)]
+pub struct Failure {
+    pub seed: u64,
+    /// The call, counted from 0.
+    pub case: u64,
+    pub difference: Box<Difference>,
+}
+
+impl fmt::Display for Failure {
+    fn fmt(&self, formatter: &mut fmt::Formatter<'_>) -> fmt::Result {
+        writeln!(formatter, "DIFFERENCE: seed {}, case {}", self.seed, self.case)?;
+        write!(formatter, "{}", self.difference)
+    }
+}
+
+/// Makes so many calls to the model and to a subject, and counts them. Stops at the first difference.
+pub fn run(subject: &mut impl Subject, seed: u64, cases: u64) -> Result<Tally, Failure> {
+    let mut random = Random::new(seed);
+    let mut packets = Packets::new();
+    let mut walks = SHAPES.map(Walks::new);
+    let mut records = Records::new();
+    let mut tally = Tally::new();
+    for case in 0..cases {
+        tally.call();
+        let compared = match random.weighted(&WEIGHTS) {
+            0 => packets.serve(subject, &mut random, &mut tally),
+            1 => packets.reset(subject, &mut random, &mut tally),
+            list @ 2..=4 => walks[list - 2].walk(subject, &mut random, &mut tally),
+            5 => records.dvsec(subject, &mut random, &mut tally),
+            6 => records.dvsec_body(subject, &mut random, &mut tally),
+            _ => records.dual_bdf(subject, &mut random, &mut tally),
+        };
+        compared.map_err(|difference| Failure { seed, case, difference })?;
+    }
+    Ok(tally)
+}

@@ -1,0 +1,73 @@
+//! What is compared with the model: anything with the library's entries, and the linked library itself.
+
+use thawribbon::raw::{self, Alternate, Capture, Description, Dvsec, Part, Served, Walked};
+
+/// All that a call of `serve` is given.
+pub struct ServeCall<'lent> {
+    pub description: Description,
+    pub kept: Capture,
+    pub ordinary: &'lent mut [u8],
+    pub ordinary_rules: &'lent [u8],
+    pub trusted: &'lent mut [u8],
+    pub trusted_rules: &'lent [u8],
+    pub packet: &'lent [u8],
+    pub reply: &'lent mut [u8],
+}
+
+/// The entries that are compared. None has a standing answer here, so that no entry of a subject is left out unseen.
+pub trait Subject {
+    fn serve(&mut self, call: ServeCall<'_>) -> Served;
+    fn reset(&mut self, kept: Capture) -> Capture;
+    fn walk_compatible(&mut self, space: &[u8], room: &mut [u16]) -> Walked;
+    fn walk_extended(&mut self, space: &[u8], room: &mut [u16]) -> Walked;
+    fn walk_trusted(&mut self, space: &[u8], room: &mut [u16]) -> Walked;
+    fn dvsec(&mut self, space: &[u8], at: usize) -> Dvsec;
+    fn dvsec_body(&mut self, space: &[u8], at: usize) -> Part;
+    fn dual_bdf(&mut self, space: &[u8], at: usize) -> Alternate;
+}
+
+/// The linked library.
+pub struct Library;
+
+impl Subject for Library {
+    fn serve(&mut self, call: ServeCall<'_>) -> Served {
+        raw::serve(
+            call.description,
+            call.kept,
+            call.ordinary,
+            call.ordinary_rules,
+            call.trusted,
+            call.trusted_rules,
+            call.packet,
+            call.reply,
+        )
+    }
+
+    fn reset(&mut self, kept: Capture) -> Capture {
+        raw::reset(kept)
+    }
+
+    fn walk_compatible(&mut self, space: &[u8], room: &mut [u16]) -> Walked {
+        raw::walk_compatible(space, room)
+    }
+
+    fn walk_extended(&mut self, space: &[u8], room: &mut [u16]) -> Walked {
+        raw::walk_extended(space, room)
+    }
+
+    fn walk_trusted(&mut self, space: &[u8], room: &mut [u16]) -> Walked {
+        raw::walk_trusted(space, room)
+    }
+
+    fn dvsec(&mut self, space: &[u8], at: usize) -> Dvsec {
+        raw::dvsec(space, at)
+    }
+
+    fn dvsec_body(&mut self, space: &[u8], at: usize) -> Part {
+        raw::dvsec_body(space, at)
+    }
+
+    fn dual_bdf(&mut self, space: &[u8], at: usize) -> Alternate {
+        raw::dual_bdf(space, at)
+    }
+}

@@ -1,0 +1,29 @@
+//! Makes the calls: random, but steered so that every rule of document 01 is reached, and its edges often.
+//!
+//! What a call is counted as is decided afterwards, from its inputs and the model's answer.
+
+mod board;
+mod case;
+mod cursor;
+mod dual_bdf;
+mod dvsec;
+mod fault;
+mod lengths;
+mod packet;
+mod packet_fault;
+mod random;
+mod record;
+mod scene;
+mod shape;
+
+pub use board::{Board, SPACE_BYTES};
+pub use case::{LONGEST_REPLY, ServeCase};
+pub use dual_bdf::DualMaker;
+pub use dvsec::DvsecMaker;
+pub use fault::FaultMaker;
+pub use lengths::{NAMED_LENGTHS, WrongLengths, named_length_place};
+pub use packet::{LONGEST_PACKET, PacketMaker};
+pub use random::Random;
+pub use record::RecordScene;
+pub use scene::Scene;
+pub use shape::{SHAPES, Shape};

@@ -1,0 +1,132 @@
+//! Faults for a call of `serve`: each of the causes for the numbers 1 to 6, put into a call that has none of them.
+
+use thawribbon::raw::Capture;
+
+use super::case::ServeCase;
+use super::cursor::Cursor;
+use super::lengths::WrongLengths;
+use super::packet_fault::{PacketFault, PacketFaultMaker};
+use super::random::Random;
+
+/// A cause for one of the numbers 1 to 6.
+#[derive(Clone, Copy)]
+enum Fault {
+    /// The length of one of the four spaces.
+    Space(usize),
+    Device,
+    Function,
+    A(Way),
+    B(Way),
+    Reply,
+    Packet(PacketFault),
+}
+
+/// How an offset is outside its range.
+#[derive(Clone, Copy)]
+enum Way {
+    Below,
+    Above,
+    Unaligned,
+}
+
+/// The faults, each with how often it is taken where it comes alone: those with many values more often.
+const FAULTS: [(Fault, usize); 20] = [
+    (Fault::Space(0), 4),
+    (Fault::Space(1), 4),
+    (Fault::Space(2), 4),
+    (Fault::Space(3), 4),
+    (Fault::Device, 3),
+    (Fault::Function, 3),
+    (Fault::A(Way::Below), 3),
+    (Fault::A(Way::Above), 3),
+    (Fault::A(Way::Unaligned), 3),
+    (Fault::B(Way::Below), 3),
+    (Fault::B(Way::Above), 3),
+    (Fault::B(Way::Unaligned), 3),
+    (Fault::Reply, 4),
+    (Fault::Packet(PacketFault::Short), 5),
+    (Fault::Packet(PacketFault::TypeCode), 8),
+    (Fault::Packet(PacketFault::PacketLength), 6),
+    (Fault::Packet(PacketFault::TrafficClass), 4),
+    (Fault::Packet(PacketFault::Attributes), 4),
+    (Fault::Packet(PacketFault::LastEnables), 4),
+    (Fault::Packet(PacketFault::LengthField), 22),
+];
+
+/// Puts faults into calls.
+pub struct FaultMaker {
+    space_lengths: [WrongLengths; 4],
+    replies: Cursor,
+    packets: PacketFaultMaker,
+}
+
+impl FaultMaker {
+    pub fn new() -> Self {
+        Self {
+            space_lengths: [const { WrongLengths::new() }; 4],
+            replies: Cursor::new(16),
+            packets: PacketFaultMaker::new(),
+        }
+    }
+
+    /// Puts so many faults into a call.
+    pub fn put_some(&mut self, number: usize, case: &mut ServeCase, random: &mut Random) {
+        if number == 1 {
+            let place = random.weighted(&FAULTS.map(|(_, weight)| weight));
+            return self.put(FAULTS[place].0, true, case, random);
+        }
+        for _ in 0..number {
+            self.put(random.pick(&FAULTS).0, false, case, random);
+        }
+    }
+
+    fn put(&mut self, fault: Fault, in_turn: bool, case: &mut ServeCase, random: &mut Random) {
+        let description = &mut case.description;
+        match fault {
+            Fault::Space(space) => case.lengths[space] = self.space_lengths[space].draw(random),
+            Fault::Device => case.kept = with_wrong_device(case.kept, random),
+            Fault::Function => description.function = wrong_function(description.function, random),
+            Fault::A(way) => description.a = wrong_offset(way, description.a, 0x104, random),
+            Fault::B(way) => description.b = wrong_offset(way, description.b, 0x00C, random),
+            Fault::Reply => case.reply_length = self.replies.draw(in_turn, random),
+            Fault::Packet(fault) => self.packets.put(fault, in_turn, &mut case.packet, random),
+        }
+    }
+}
+
+/// A capture with a device over 31: just over, at the top, or one that is right in its low bits.
+fn with_wrong_device(kept: Capture, random: &mut Random) -> Capture {
+    let high = (random.within(1, 7) as u8) << 5;
+    let any = random.within(32, 255) as u8;
+    let device = random.pick(&[32, 255, high | kept.device & 31, any]);
+    let captured = kept.captured.max(1);
+    Capture {
+        captured,
+        device,
+        ..kept
+    }
+}
+
+/// A function over 7: just over, at the top, or one that is right in its low bits.
+fn wrong_function(right: u8, random: &mut Random) -> u8 {
+    let high = (random.within(1, 31) as u8) << 3;
+    let any = random.within(8, 255) as u8;
+    random.pick(&[8, 255, high | right & 7, any])
+}
+
+/// An offset for A or B that is outside its range in one way. One that is above may be right in its low 12 bits.
+fn wrong_offset(way: Way, right: u32, lowest: u32, random: &mut Random) -> u32 {
+    let low = right & 0xFFC;
+    match way {
+        Way::Below => {
+            let any = 4 * random.below(lowest as usize / 4) as u32;
+            random.pick(&[0, lowest - 4, lowest - 8, any])
+        }
+        Way::Above => {
+            let high = (random.within(1, 0xF_FFFF) as u32) << 12;
+            let (top, bit_16) = (0x8000_0000 | low, 0x1_0000 | low);
+            random.pick(&[0x1000, 0x1004, 0xFFFF_FFFC, top, bit_16, high | low])
+        }
+        Way::Unaligned => low.clamp(lowest, 0xFF8) + random.within(1, 3) as u32,
+    }
+}

@@ -1,0 +1,223 @@
+//! Spaces for walks: one long random chain, and for each call a few edits that are undone after it.
+
+use super::board::{LONGEST_SPACE, SPACE_BYTES};
+use super::cursor::Cursor;
+use super::random::Random;
+use super::shape::Shape;
+use crate::model::List;
+use crate::twin::Twin;
+
+/// The most calls that a scene lives for.
+const LONGEST_LIFE: usize = 200;
+
+/// A space in which all of a list's offsets are chained in a random order, or one of random bytes.
+pub struct Scene {
+    pub shape: Shape,
+    pub space: Twin<u8>,
+    /// Whether the bytes are random throughout.
+    pub noise: bool,
+    order: Vec<u16>,
+    /// The words that the present call changed, with what they held.
+    edits: Vec<(usize, u32)>,
+    chain_lengths: Cursor,
+    calls_left: usize,
+}
+
+impl Scene {
+    /// A scene whose life is over, to be renewed.
+    pub fn spent(shape: Shape) -> Self {
+        let order = (0..shape.maximum)
+            .map(|place| (shape.floor + 4 * place) as u16)
+            .collect();
+        Self {
+            shape,
+            space: Twin::new(LONGEST_SPACE),
+            noise: false,
+            order,
+            edits: Vec::new(),
+            chain_lengths: Cursor::new(shape.maximum + 1),
+            calls_left: 0,
+        }
+    }
+
+    /// Makes the space of one call. Where its sizes are right, the lengths of chains have their turn.
+    pub fn prepare(&mut self, in_turn: bool, random: &mut Random) {
+        self.space.lend(SPACE_BYTES);
+        if self.calls_left == 0 {
+            self.renew(random);
+        }
+        self.calls_left -= 1;
+        if self.noise {
+            return;
+        }
+        match random.weighted(&[45, 27, 20, 8]) {
+            0 => self.chain_of_some_length(in_turn, random),
+            1 => self.make_loop(random),
+            2 => self.go_below(random),
+            _ => self.declare_empty(random),
+        }
+    }
+
+    /// Puts the space back as it was before the last call.
+    pub fn undo(&mut self) {
+        self.space.lend(SPACE_BYTES);
+        while let Some((offset, old)) = self.edits.pop() {
+            self.space.set_word(offset, old);
+        }
+    }
+
+    fn renew(&mut self, random: &mut Random) {
+        self.calls_left = random.within(1, LONGEST_LIFE);
+        self.noise = random.percent(10);
+        self.space.shift(random.below(8));
+        let zero = !self.noise && random.percent(10);
+        self.space
+            .refill(|bytes| if zero { bytes.fill(0) } else { random.fill(bytes) });
+        if self.noise {
+            return;
+        }
+        let movable = usize::from(self.shape.list == List::Extended);
+        random.shuffle(&mut self.order[movable..]);
+        for place in 0..self.order.len() {
+            let next = self.order.get(place + 1).copied().unwrap_or(0);
+            if random.percent(12) {
+                self.edit(usize::from(self.order[place]), 0xFFFF, 0);
+            }
+            self.point(place, next, random);
+        }
+        self.declare_present(random);
+        self.edits.clear();
+    }
+
+    /// A list that the table does not call empty.
+    fn declare_present(&mut self, random: &mut Random) {
+        match self.shape.list {
+            List::Compatible => self.edit(0x004, 1 << 20, 1 << 20),
+            List::Extended => self.edit(0x100, 0xFFFF, random.within(1, 0xFFFF) as u32),
+            List::Trusted => {}
+        }
+        let first = self.order[0];
+        self.point_start(first, random);
+    }
+
+    /// A legal chain: its length is the next in turn, a short one, or one of the edges.
+    fn chain_of_some_length(&mut self, in_turn: bool, random: &mut Random) {
+        let maximum = self.shape.maximum;
+        let length = match random.weighted(&[60, 28, 12]) {
+            0 => self.chain_lengths.draw(in_turn, random),
+            1 => random.below(24),
+            _ => random.pick(&[0, 1, maximum - 1, maximum]),
+        };
+        self.chain(length, random);
+    }
+
+    /// A legal chain: a part of the long one.
+    fn chain(&mut self, length: usize, random: &mut Random) {
+        if length == 0 {
+            match self.shape.list {
+                List::Extended => self.edit(0x100, 0xFFFF, 0),
+                _ => self.point_start(0, random),
+            }
+            return;
+        }
+        let last = self.begin(length, random) + length - 1;
+        if last + 1 < self.order.len() {
+            self.point(last, 0, random);
+        }
+    }
+
+    /// A chain that comes back to itself: after a tail, so many offsets over and over.
+    fn make_loop(&mut self, random: &mut Random) {
+        let maximum = self.shape.maximum;
+        let length = match random.below(8) {
+            0 | 1 => random.within(1, 3),
+            2 => maximum,
+            3 => random.within(1, maximum),
+            _ => random.within(1, 45),
+        };
+        let room = maximum - length;
+        let tail = match random.below(6) {
+            0 | 1 => 0,
+            2 => room.min(1),
+            3 => random.within(0, room),
+            4 => room,
+            _ => random.within(0, room.min(20)),
+        };
+        let first = self.begin(tail + length, random);
+        self.point(first + tail + length - 1, self.order[first + tail], random);
+    }
+
+    /// A chain that leads below the floor, at once or after some steps.
+    fn go_below(&mut self, random: &mut Random) {
+        let (floor, maximum) = (self.shape.floor, self.shape.maximum);
+        let below = if random.percent(50) {
+            floor - 4
+        } else {
+            4 * random.within(1, floor / 4 - 1)
+        } as u16;
+        let steps = match random.below(6) {
+            0 => 0,
+            1 => 1,
+            2 | 3 => random.within(2, 9),
+            4 => random.within(10, 40),
+            _ => random.within(1, maximum),
+        };
+        if steps == 0 && self.shape.list != List::Extended {
+            self.point_start(below, random);
+        } else {
+            let first = self.begin(steps.max(1), random);
+            self.point(first + steps.max(1) - 1, below, random);
+        }
+    }
+
+    /// A list that the table calls empty while its pointers hold a chain or a loop. The trusted list has no such mark.
+    fn declare_empty(&mut self, random: &mut Random) {
+        if random.percent(50) {
+            self.make_loop(random);
+        } else {
+            self.chain(random.within(2, 40), random);
+        }
+        match self.shape.list {
+            List::Compatible => self.edit(0x004, 1 << 20, 0),
+            List::Extended => self.edit(0x100, 0xFFFF, 0),
+            List::Trusted => {}
+        }
+    }
+
+    /// Starts the list at a place of the order from which so many offsets follow, and answers that place.
+    fn begin(&mut self, needed: usize, random: &mut Random) -> usize {
+        if self.shape.list == List::Extended {
+            return 0;
+        }
+        let first = random.within(0, self.order.len() - needed);
+        self.point_start(self.order[first], random);
+        first
+    }
+
+    /// Sets the start pointer, with random bottom bits. The extended list has none.
+    fn point_start(&mut self, to: u16, random: &mut Random) {
+        let pointer = u32::from(to) | random.below(4) as u32;
+        match self.shape.list {
+            List::Compatible => self.edit(0x034, 0xFF, pointer),
+            List::Extended => {}
+            List::Trusted => self.edit(0x004, 0xFFF, pointer),
+        }
+    }
+
+    /// Sets the next pointer of the header at a place of the order, with random bottom bits.
+    fn point(&mut self, place: usize, to: u16, random: &mut Random) {
+        let pointer = u32::from(to) | random.below(4) as u32;
+        let header = usize::from(self.order[place]);
+        match self.shape.list {
+            List::Compatible => self.edit(header, 0xFF << 8, pointer << 8),
+            _ => self.edit(header, 0xFFF << 20, pointer << 20),
+        }
+    }
+
+    /// Changes some bits of a word, and notes what it held.
+    fn edit(&mut self, offset: usize, mask: u32, value: u32) {
+        let old = self.space.word(offset);
+        self.edits.push((offset, old));
+        self.space.set_word(offset, old & !mask | value & mask);
+    }
+}

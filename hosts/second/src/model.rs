@@ -1,0 +1,23 @@
+//! Document 01's rules, one module for each of its sections: packets, lists and records.
+//!
+//! Every function answers every input. A number other than 0 leaves all that was lent as it was.
+
+mod completion;
+mod description;
+mod dual_bdf;
+mod dvsec;
+mod merge;
+mod refusal;
+mod request;
+mod serve;
+mod space;
+mod walk;
+
+#[cfg(test)]
+mod bench_sheet;
+
+pub use description::Description;
+pub use dual_bdf::{Alternate, dual_bdf};
+pub use dvsec::{Dvsec, dvsec, dvsec_body};
+pub use serve::{Served, serve};
+pub use walk::{List, Walked, walk};

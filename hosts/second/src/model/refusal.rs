@@ -1,0 +1,35 @@
+//! The answer numbers 1 to 10, each with document 01's cause. Number 0 is the absence of a refusal.
+
+/// Why a call is refused. The lowest number that applies is given.
+#[derive(Clone, Copy, Debug, PartialEq, Eq)]
+#[repr(u8)]
+pub(super) enum Refusal {
+    /// "a space or rule space isn't 4,096 bytes, a captured device is over 31, or a function number or offset is
+    /// outside its range"
+    Outside = 1,
+    /// "the reply is under 16 bytes, or the list room is under the list's maximum"
+    Room = 2,
+    /// "the packet has fewer than 12 bytes"
+    Short = 3,
+    /// "the type code isn't one of the six"
+    TypeCode = 4,
+    /// "the packet length doesn't fit its type and digest bit"
+    PacketLength = 5,
+    /// "a fixed header field has another value"
+    FixedField = 6,
+    /// "broken chain"
+    Broken = 7,
+    /// "not the structure asked for"
+    Structure = 8,
+    /// "a wrong length, or the structure runs out of its space"
+    StructureLength = 9,
+    /// "function vector without exactly one bit"
+    Vector = 10,
+}
+
+impl Refusal {
+    /// The number that document 01 fixes for this cause.
+    pub(super) const fn number(self) -> u8 {
+        self as u8
+    }
+}

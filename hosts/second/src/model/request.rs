@@ -1,0 +1,90 @@
+//! A configuration packet taken apart by document 01's section "The packet", or refused with 3, 4, 5 or 6.
+
+use super::refusal::Refusal;
+
+/// The bytes of every packet before its data and its digest.
+const HEADER_BYTES: usize = 12;
+/// The bytes of a write's data, and also those of a digest.
+const TAIL_BYTES: usize = 4;
+
+/// What is asked of the word.
+#[derive(Clone, Copy, Debug, PartialEq, Eq)]
+pub(super) enum Access {
+    Read,
+    /// A write with its four data bytes as a little-endian word.
+    Write(u32),
+}
+
+/// Which way the request goes.
+#[derive(Clone, Copy, Debug, PartialEq, Eq)]
+pub(super) enum Route {
+    Type0,
+    Type1,
+    Trusted,
+}
+
+/// A packet that is none of the refusals 3 to 6.
+#[derive(Clone, Copy, Debug, PartialEq, Eq)]
+pub(super) struct Request {
+    pub route: Route,
+    pub access: Access,
+    pub poisoned: bool,
+    pub requester: [u8; 2],
+    pub tag: u8,
+    pub first_enables: u8,
+    pub bus: u8,
+    pub device: u8,
+    pub function: u8,
+    pub offset: usize,
+}
+
+impl Request {
+    /// Reads a packet. The tests stand in the order of their numbers, so that the lowest is given.
+    #[inline]
+    pub(super) fn read(packet: &[u8]) -> Result<Self, Refusal> {
+        let (header, tail) = packet.split_first_chunk::<HEADER_BYTES>().ok_or(Refusal::Short)?;
+        let (route, writes) = type_code(header[0])?;
+        let digest = header[2] & 0x80 != 0;
+        if tail.len() != TAIL_BYTES * (usize::from(writes) + usize::from(digest)) {
+            return Err(Refusal::PacketLength);
+        }
+        if !fixed_fields_hold(header) {
+            return Err(Refusal::FixedField);
+        }
+        let access = match tail.first_chunk() {
+            Some(data) if writes => Access::Write(u32::from_le_bytes(*data)),
+            _ => Access::Read,
+        };
+        Ok(Self {
+            route,
+            access,
+            poisoned: header[2] & 0x40 != 0,
+            requester: [header[4], header[5]],
+            tag: header[6],
+            first_enables: header[7] & 0x0F,
+            bus: header[8],
+            device: header[9] >> 3,
+            function: header[9] & 0x07,
+            offset: usize::from(header[10] & 0x0F) << 8 | usize::from(header[11] & 0xFC),
+        })
+    }
+}
+
+/// "Six type codes are served: 04h and 44h (read, write, Type 0), 05h and 45h (read, write, Type 1), 1Bh and 5Bh
+/// (trusted read, write)." Bit 7 of the byte is "reserved and ignored". Answers the route, and whether it is a write.
+fn type_code(first: u8) -> Result<(Route, bool), Refusal> {
+    match first & 0x7F {
+        0x04 => Ok((Route::Type0, false)),
+        0x44 => Ok((Route::Type0, true)),
+        0x05 => Ok((Route::Type1, false)),
+        0x45 => Ok((Route::Type1, true)),
+        0x1B => Ok((Route::Trusted, false)),
+        0x5B => Ok((Route::Trusted, true)),
+        _ => Err(Refusal::TypeCode),
+    }
+}
+
+/// "TC, Attr and last enables must be 0 and Length must be 1". All other bits may be anything.
+fn fixed_fields_hold(header: &[u8; HEADER_BYTES]) -> bool {
+    header[1] & 0x70 == 0 && header[2] & 0x33 == 0 && header[3] == 1 && header[7] & 0xF0 == 0
+}

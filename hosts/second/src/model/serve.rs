@@ -1,0 +1,148 @@
+//! One packet served: tested, done to the spaces, and answered by a completion.
+
+use super::completion::{self, LONGEST_COMPLETION, Outcome};
+use super::description::Description;
+use super::merge::{merged, shown};
+use super::refusal::Refusal;
+use super::request::{Access, Request, Route};
+use super::space::{Space, store_word, whole, whole_mut, word};
+
+/// The answer to a packet: its number, how many bytes of the reply are written, and the capture to keep.
+#[derive(Clone, Copy, Debug, PartialEq, Eq)]
+pub struct Served {
+    pub number: u8,
+    pub length: usize,
+    /// The captured bus and device, or nothing.
+    pub capture: Option<(u8, u8)>,
+}
+
+/// Answers one packet. "Every number but 0 leaves spaces, capture, reply and list room unchanged, and reports length
+/// or count 0".
+#[allow(clippy::too_many_arguments)]
+pub fn serve(
+    description: Description,
+    kept: Option<(u8, u8)>,
+    ordinary: &mut [u8],
+    ordinary_rules: &[u8],
+    trusted: &mut [u8],
+    trusted_rules: &[u8],
+    packet: &[u8],
+    reply: &mut [u8],
+) -> Served {
+    Board::new(description, kept, ordinary, ordinary_rules, trusted, trusted_rules)
+        .and_then(|board| board.serve(packet, reply))
+        .unwrap_or_else(|refusal| Served {
+            number: refusal.number(),
+            length: 0,
+            capture: kept,
+        })
+}
+
+/// A board whose description, capture and spaces are all within their bounds.
+struct Board<'lent> {
+    function: u8,
+    a: usize,
+    b: usize,
+    capture: Option<(u8, u8)>,
+    ordinary: &'lent mut Space,
+    ordinary_rules: &'lent Space,
+    trusted: &'lent mut Space,
+    trusted_rules: &'lent Space,
+}
+
+impl<'lent> Board<'lent> {
+    /// Refused with 1 where a part is outside its bounds.
+    fn new(
+        description: Description,
+        kept: Option<(u8, u8)>,
+        ordinary: &'lent mut [u8],
+        ordinary_rules: &'lent [u8],
+        trusted: &'lent mut [u8],
+        trusted_rules: &'lent [u8],
+    ) -> Result<Self, Refusal> {
+        description.check(kept)?;
+        Ok(Self {
+            function: description.function,
+            a: description.a as usize,
+            b: description.b as usize,
+            capture: kept,
+            ordinary: whole_mut(ordinary)?,
+            ordinary_rules: whole(ordinary_rules)?,
+            trusted: whole_mut(trusted)?,
+            trusted_rules: whole(trusted_rules)?,
+        })
+    }
+
+    /// Refused with 2 to 6 before anything is changed; otherwise the access is done and the reply is written.
+    fn serve(mut self, packet: &[u8], reply: &mut [u8]) -> Result<Served, Refusal> {
+        let reply = reply.first_chunk_mut::<LONGEST_COMPLETION>().ok_or(Refusal::Room)?;
+        let request = Request::read(packet)?;
+        let outcome = self.access(&request);
+        let length = completion::write(reply, &request, self.capture, self.function, outcome);
+        Ok(Served {
+            number: 0,
+            length,
+            capture: self.capture,
+        })
+    }
+
+    /// Does what the request asks, or nothing where Unsupported Request is given.
+    fn access(&mut self, request: &Request) -> Outcome {
+        let poisoned_write = request.poisoned && request.access != Access::Read;
+        if poisoned_write || !self.is_for_this_board(request) {
+            return Outcome::Unsupported;
+        }
+        match request.route {
+            Route::Trusted => self.trusted_access(request),
+            _ => self.ordinary_access(request),
+        }
+    }
+
+    /// UR is given for "a Type 1 request; a Type 0 request for another function; a trusted request while nothing is
+    /// captured (004, 2.2.9); a trusted request whose bus, device and function aren't the captured two and the board's
+    /// own".
+    fn is_for_this_board(&self, request: &Request) -> bool {
+        let own_function = request.function == self.function;
+        match request.route {
+            Route::Type0 => own_function,
+            Route::Type1 => false,
+            Route::Trusted => own_function && self.capture == Some((request.bus, request.device)),
+        }
+    }
+
+    /// "The ordinary word at A reads as the four trusted bytes at B, under the same enables. An ordinary write there
+    /// succeeds, captures, and changes no byte." "A successful Type 0 write captures its bus and device number before
+    /// the reply is written, also with no byte enabled."
+    fn ordinary_access(&mut self, request: &Request) -> Outcome {
+        let at_correlation = request.offset == self.a;
+        match request.access {
+            Access::Read if at_correlation => Outcome::Read(shown(word(self.trusted, self.b), request.first_enables)),
+            Access::Read => Outcome::Read(shown(word(self.ordinary, request.offset), request.first_enables)),
+            Access::Write(data) => {
+                self.capture = Some((request.bus, request.device));
+                if !at_correlation {
+                    write(self.ordinary, self.ordinary_rules, request, data);
+                }
+                Outcome::Written
+            }
+        }
+    }
+
+    /// "No trusted request captures."
+    fn trusted_access(&mut self, request: &Request) -> Outcome {
+        match request.access {
+            Access::Read => Outcome::Read(shown(word(self.trusted, request.offset), request.first_enables)),
+            Access::Write(data) => {
+                write(self.trusted, self.trusted_rules, request, data);
+                Outcome::Written
+            }
+        }
+    }
+}
+
+/// Merges a write's data into the word of a space under its rule word and the first enables.
+fn write(space: &mut Space, rules: &Space, request: &Request, data: u32) {
+    let old = word(space, request.offset);
+    let rule = word(rules, request.offset);
+    store_word(space, request.offset, merged(old, rule, data, request.first_enables));
+}

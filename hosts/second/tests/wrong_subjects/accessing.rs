@@ -1,0 +1,123 @@
+//! Wrong ways to read and write the two spaces.
+
+use second::compare::{Reference, ServeCall, Subject};
+
+use crate::harness::{Wrong, expect_caught, word};
+use crate::serving::{again, code, offset, rehearsed, succeeds, with_accepted_packet, with_packet};
+
+#[test]
+fn extended_register_bits_dropped() {
+    let dropped = |mut call: ServeCall<'_>| with_accepted_packet(&mut call, |packet| packet[10] &= 0xF0);
+    expect_caught(Wrong::serve(dropped), "serve");
+}
+
+#[test]
+fn reserved_bits_of_the_offset_taken() {
+    let taken = |mut call: ServeCall<'_>| {
+        with_accepted_packet(&mut call, |packet| packet[11] = packet[11].wrapping_add(packet[11] & 3))
+    };
+    expect_caught(Wrong::serve(taken), "serve");
+}
+
+#[test]
+fn stale_bytes_at_a() {
+    let stale = |mut call: ServeCall<'_>| {
+        let served = Reference.serve(again(&mut call));
+        let a = call.description.a as usize;
+        if served.length == 16 && code(&call) == 0x04 && offset(call.packet) == a {
+            for byte in (0..4).filter(|byte| call.packet[7] >> byte & 1 == 1) {
+                call.reply[12 + byte] = call.ordinary[a + byte];
+            }
+        }
+        served
+    };
+    expect_caught(Wrong::serve(stale), "serve");
+}
+
+#[test]
+fn a_write_at_a_stores_in_the_ordinary_space() {
+    let stores = |mut call: ServeCall<'_>| {
+        let a = call.description.a as usize;
+        if succeeds(&mut call) && code(&call) == 0x44 && offset(call.packet) == a {
+            call.ordinary[a..a + 4].copy_from_slice(&call.packet[12..16]);
+        }
+        Reference.serve(call)
+    };
+    expect_caught(Wrong::serve(stores), "serve");
+}
+
+#[test]
+fn a_write_at_a_stores_in_the_trusted_space() {
+    let stores = |mut call: ServeCall<'_>| {
+        let (a, b) = (call.description.a as usize, call.description.b as usize);
+        if succeeds(&mut call) && code(&call) == 0x44 && offset(call.packet) == a {
+            call.trusted[b..b + 4].copy_from_slice(&call.packet[12..16]);
+        }
+        Reference.serve(call)
+    };
+    expect_caught(Wrong::serve(stores), "serve");
+}
+
+#[test]
+fn a_trusted_write_at_b_also_stores_at_a() {
+    let stores = |mut call: ServeCall<'_>| {
+        let served = Reference.serve(again(&mut call));
+        let (a, b) = (call.description.a as usize, call.description.b as usize);
+        if served.number == 0 && code(&call) == 0x5B && offset(call.packet) == b {
+            let stored = word(call.trusted, b);
+            call.ordinary[a..a + 4].copy_from_slice(&stored.to_le_bytes());
+        }
+        served
+    };
+    expect_caught(Wrong::serve(stores), "serve");
+}
+
+#[test]
+fn disabled_bytes_of_a_read_shown() {
+    let shown = |mut call: ServeCall<'_>| {
+        let (served, _) = rehearsed(&mut call);
+        if served.length == 16 {
+            with_packet(&mut call, |packet| packet[7] |= 0x0F)
+        } else {
+            Reference.serve(call)
+        }
+    };
+    expect_caught(Wrong::serve(shown), "serve");
+}
+
+#[test]
+fn rule_ignored_in_a_write() {
+    let ignored = |mut call: ServeCall<'_>| {
+        let (ordinary_rules, trusted_rules) = (
+            vec![0xFF; call.ordinary_rules.len()],
+            vec![0xFF; call.trusted_rules.len()],
+        );
+        Reference.serve(ServeCall {
+            ordinary_rules: &ordinary_rules,
+            trusted_rules: &trusted_rules,
+            ..again(&mut call)
+        })
+    };
+    expect_caught(Wrong::serve(ignored), "serve");
+}
+
+#[test]
+fn a_write_takes_whole_bytes_where_the_rule_has_any_bit() {
+    let whole = |mut call: ServeCall<'_>| {
+        let widen = |rules: &[u8]| -> Vec<u8> { rules.iter().map(|&rule| if rule == 0 { 0 } else { 0xFF }).collect() };
+        let (ordinary_rules, trusted_rules) = (widen(call.ordinary_rules), widen(call.trusted_rules));
+        Reference.serve(ServeCall {
+            ordinary_rules: &ordinary_rules,
+            trusted_rules: &trusted_rules,
+            ..again(&mut call)
+        })
+    };
+    expect_caught(Wrong::serve(whole), "serve");
+}
+
+#[test]
+fn enables_taken_from_the_other_end() {
+    let turned =
+        |mut call: ServeCall<'_>| with_accepted_packet(&mut call, |packet| packet[7] = packet[7].reverse_bits() >> 4);
+    expect_caught(Wrong::serve(turned), "serve");
+}

@@ -1,0 +1,147 @@
+//! A subject whose entries are the model's but for those that a test puts in their place.
+
+use second::compare::{Failure, Reference, ServeCall, Subject, Tally, run};
+use second::model::List;
+use thawribbon::raw::{Alternate, Capture, Dvsec, Part, Served, Walked};
+
+/// The seed of every run here.
+const SEED: u64 = 20_050_701;
+/// The calls within which a wrong subject must be caught, and a right one must not.
+const CALLS: u64 = 60_000;
+
+type ServeEntry = Box<dyn FnMut(ServeCall<'_>) -> Served>;
+type ResetEntry = Box<dyn FnMut(Capture) -> Capture>;
+type WalkEntry = Box<dyn FnMut(List, &[u8], &mut [u16]) -> Walked>;
+type DvsecEntry = Box<dyn FnMut(&[u8], usize) -> Dvsec>;
+type BodyEntry = Box<dyn FnMut(&[u8], usize) -> Part>;
+type DualEntry = Box<dyn FnMut(&[u8], usize) -> Alternate>;
+
+/// The model, with entries that may be wrong.
+pub struct Wrong {
+    serve: ServeEntry,
+    reset: ResetEntry,
+    walk: WalkEntry,
+    dvsec: DvsecEntry,
+    body: BodyEntry,
+    dual: DualEntry,
+}
+
+impl Wrong {
+    /// All entries are right.
+    pub fn nothing() -> Self {
+        Self {
+            serve: Box::new(|call| Reference.serve(call)),
+            reset: Box::new(|kept| Reference.reset(kept)),
+            walk: Box::new(right_walk),
+            dvsec: Box::new(|space, at| Reference.dvsec(space, at)),
+            body: Box::new(|space, at| Reference.dvsec_body(space, at)),
+            dual: Box::new(|space, at| Reference.dual_bdf(space, at)),
+        }
+    }
+
+    pub fn serve(entry: impl FnMut(ServeCall<'_>) -> Served + 'static) -> Self {
+        Self {
+            serve: Box::new(entry),
+            ..Self::nothing()
+        }
+    }
+
+    pub fn reset(entry: impl FnMut(Capture) -> Capture + 'static) -> Self {
+        Self {
+            reset: Box::new(entry),
+            ..Self::nothing()
+        }
+    }
+
+    pub fn walk(entry: impl FnMut(List, &[u8], &mut [u16]) -> Walked + 'static) -> Self {
+        Self {
+            walk: Box::new(entry),
+            ..Self::nothing()
+        }
+    }
+
+    pub fn dvsec(entry: impl FnMut(&[u8], usize) -> Dvsec + 'static) -> Self {
+        Self {
+            dvsec: Box::new(entry),
+            ..Self::nothing()
+        }
+    }
+
+    pub fn body(entry: impl FnMut(&[u8], usize) -> Part + 'static) -> Self {
+        Self {
+            body: Box::new(entry),
+            ..Self::nothing()
+        }
+    }
+
+    pub fn dual(entry: impl FnMut(&[u8], usize) -> Alternate + 'static) -> Self {
+        Self {
+            dual: Box::new(entry),
+            ..Self::nothing()
+        }
+    }
+}
+
+impl Subject for Wrong {
+    fn serve(&mut self, call: ServeCall<'_>) -> Served {
+        (self.serve)(call)
+    }
+
+    fn reset(&mut self, kept: Capture) -> Capture {
+        (self.reset)(kept)
+    }
+
+    fn walk_compatible(&mut self, space: &[u8], room: &mut [u16]) -> Walked {
+        (self.walk)(List::Compatible, space, room)
+    }
+
+    fn walk_extended(&mut self, space: &[u8], room: &mut [u16]) -> Walked {
+        (self.walk)(List::Extended, space, room)
+    }
+
+    fn walk_trusted(&mut self, space: &[u8], room: &mut [u16]) -> Walked {
+        (self.walk)(List::Trusted, space, room)
+    }
+
+    fn dvsec(&mut self, space: &[u8], at: usize) -> Dvsec {
+        (self.dvsec)(space, at)
+    }
+
+    fn dvsec_body(&mut self, space: &[u8], at: usize) -> Part {
+        (self.body)(space, at)
+    }
+
+    fn dual_bdf(&mut self, space: &[u8], at: usize) -> Alternate {
+        (self.dual)(space, at)
+    }
+}
+
+/// The little-endian word at an offset.
+pub fn word(bytes: &[u8], offset: usize) -> u32 {
+    u32::from_le_bytes([bytes[offset], bytes[offset + 1], bytes[offset + 2], bytes[offset + 3]])
+}
+
+/// The model's walk of any list.
+pub fn right_walk(list: List, space: &[u8], room: &mut [u16]) -> Walked {
+    match list {
+        List::Compatible => Reference.walk_compatible(space, room),
+        List::Extended => Reference.walk_extended(space, room),
+        List::Trusted => Reference.walk_trusted(space, room),
+    }
+}
+
+/// The run that every subject here goes through.
+pub fn run_fixed(subject: &mut impl Subject) -> Result<Tally, Failure> {
+    run(subject, SEED, CALLS)
+}
+
+/// Fails unless a subject is caught by a call of the given entry.
+pub fn expect_caught(mut subject: Wrong, entry: &str) -> Failure {
+    match run_fixed(&mut subject) {
+        Ok(_) => panic!("{CALLS} calls did not catch it"),
+        Err(failure) => {
+            assert_eq!(failure.difference.entry, entry, "{failure}");
+            failure
+        }
+    }
+}

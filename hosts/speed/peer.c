@@ -1,0 +1,97 @@
+/*
+ * A configuration packet served the way emulators do it: a loop over mask bytes, one byte at a time.
+ *
+ * It tests the type code and the fixed header fields, gives Unsupported Request in the cases of document 01, captures,
+ * reads and writes under the enables, and writes the completion. It answers the completion's length, or 0 for a packet
+ * with another type code or another fixed field.
+ *
+ * It does less than the library, for it leaves to its caller: the sizes of the spaces, of the packet and of the reply
+ * (refusals 1, 2, 3 and 5), the ranges of the function number, of the captured device and of both offsets (refusal 1),
+ * and which number a refused packet gets.
+ */
+#include <stddef.h>
+#include <stdint.h>
+
+struct masks_board {
+    uint32_t a;
+    uint32_t b;
+    uint8_t function;
+    uint8_t captured;
+    uint8_t bus;
+    uint8_t device;
+};
+
+static uint32_t read_bytes(const uint8_t *config, unsigned enables)
+{
+    uint32_t value = 0;
+    for (int i = 0; i < 4; i++)
+        if (enables >> i & 1)
+            value |= (uint32_t)config[i] << (8 * i);
+    return value;
+}
+
+static void write_bytes(uint8_t *config, const uint8_t *wmask, unsigned enables, uint32_t value)
+{
+    for (int i = 0; i < 4; i++, value >>= 8)
+        if (enables >> i & 1)
+            config[i] = (config[i] & ~wmask[i]) | (value & wmask[i]);
+}
+
+static size_t complete(const struct masks_board *board, const uint8_t *packet, uint8_t *reply, int reads,
+                       uint8_t status)
+{
+    reply[0] = reads ? 0x4A : 0x0A;
+    reply[1] = 0;
+    reply[2] = 0;
+    reply[3] = reads ? 1 : 0;
+    reply[4] = board->captured ? board->bus : 0;
+    reply[5] = (board->captured ? board->device << 3 : 0) | board->function;
+    reply[6] = status;
+    reply[7] = 4;
+    reply[8] = packet[4];
+    reply[9] = packet[5];
+    reply[10] = packet[6];
+    reply[11] = 0;
+    return reads ? 16 : 12;
+}
+
+size_t masks_serve(struct masks_board *board, uint8_t *config, const uint8_t *wmask, uint8_t *trusted,
+                   const uint8_t *trusted_wmask, const uint8_t *packet, uint8_t *reply)
+{
+    unsigned code = packet[0] & 0x7F;
+    if (code != 0x04 && code != 0x44 && code != 0x05 && code != 0x45 && code != 0x1B && code != 0x5B)
+        return 0;
+    if ((packet[1] & 0x70) || (packet[2] & 0x33) || packet[3] != 1 || (packet[7] & 0xF0))
+        return 0;
+
+    int writes = (code & 0x40) != 0;
+    unsigned bus = packet[8], device = packet[9] >> 3, function = packet[9] & 7;
+    int is_trusted = (code & 0x1F) == 0x1B;
+    int supported = (code & 0x1F) != 0x05 && function == board->function && !(writes && (packet[2] & 0x40));
+    if (is_trusted)
+        supported = supported && board->captured && bus == board->bus && device == board->device;
+    if (!supported)
+        return complete(board, packet, reply, 0, 0x20);
+
+    unsigned offset = (packet[10] & 15u) << 8 | (packet[11] & 0xFCu);
+    unsigned enables = packet[7];
+    if (writes) {
+        uint32_t value = packet[12] | packet[13] << 8 | packet[14] << 16 | (uint32_t)packet[15] << 24;
+        if (is_trusted) {
+            write_bytes(trusted + offset, trusted_wmask + offset, enables, value);
+        } else {
+            board->captured = 1;
+            board->bus = bus;
+            board->device = device;
+            if (offset != board->a)
+                write_bytes(config + offset, wmask + offset, enables, value);
+        }
+        return complete(board, packet, reply, 0, 0x00);
+    }
+
+    const uint8_t *source = is_trusted ? trusted + offset : offset == board->a ? trusted + board->b : config + offset;
+    uint32_t value = read_bytes(source, enables);
+    for (int i = 0; i < 4; i++, value >>= 8)
+        reply[12 + i] = value;
+    return complete(board, packet, reply, 1, 0x00);
+}

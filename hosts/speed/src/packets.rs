@@ -1,0 +1,59 @@
+//! The rows of packets: one kind of packet each, with many packets that differ in all that the kind leaves open.
+
+mod board;
+mod check;
+mod draft;
+mod kind;
+mod masks;
+mod reset;
+mod setting;
+pub mod variants;
+
+use crate::measure::Pass;
+use crate::order;
+use crate::random::Random;
+use crate::row::{Peer, Row};
+use board::{Answer, Board, Library, SafeRust};
+use kind::{KINDS, Kind};
+use masks::Masks;
+use setting::Setting;
+use std::hint::black_box;
+use std::rc::Rc;
+
+/// How many packets of its kind a row has, and how many are sent in a pass.
+const PACKETS: usize = 64;
+const CALLS: usize = 256;
+
+/// The packets of a row.
+type Packets = Rc<[Box<[u8]>]>;
+
+/// The rows of all kinds and of the reset, after all sides gave equal answers to all their packets.
+pub fn rows() -> Result<Vec<Row>, String> {
+    let kinds = KINDS.iter().zip(1..).map(|(kind, seed)| row(kind, seed));
+    kinds.chain([reset::row()]).collect()
+}
+
+fn row(kind: &Kind, seed: u64) -> Result<Row, String> {
+    let mut random = Random::seeded(seed);
+    let mut setting = Setting::drawn(&mut random);
+    (kind.setting)(&mut setting);
+    let packets: Packets = (0..PACKETS)
+        .map(|_| (kind.draw)(&mut random, &setting).into_bytes())
+        .collect();
+    let has_masks = kind.status.is_some();
+    check::equal_answers(kind.what, &setting, &packets, has_masks, kind.answer, kind.status)?;
+    let mut peers = vec![(Peer::SafeRust, pass::<SafeRust>(&setting, &packets))];
+    if has_masks {
+        peers.push((Peer::Masks, pass::<Masks>(&setting, &packets)));
+    }
+    Ok(Row::new(kind.what, CALLS, pass::<Library>(&setting, &packets), peers))
+}
+
+/// Packets, one after the other, to a board of a side.
+fn pass<Side: Board + 'static>(setting: &Setting, packets: &Packets) -> Pass {
+    let mut board = Side::new(setting);
+    let serve: fn(&mut Side, &[u8]) -> Answer = black_box(Side::serve);
+    order::pass(packets, CALLS, move |packet| {
+        black_box(serve(black_box(&mut board), black_box(packet)));
+    })
+}

@@ -1,0 +1,98 @@
+//! The board of the C loop over mask bytes in peer.c, which says what it does not check.
+
+use super::board::{Answer, Board};
+use super::setting::{Lent, Setting};
+
+/// The struct of peer.c.
+#[repr(C)]
+struct Kept {
+    a: u32,
+    b: u32,
+    function: u8,
+    captured: u8,
+    bus: u8,
+    device: u8,
+}
+
+unsafe extern "C" {
+    fn masks_serve(
+        board: &mut Kept,
+        config: *mut u8,
+        wmask: *const u8,
+        trusted: *mut u8,
+        trusted_wmask: *const u8,
+        packet: *const u8,
+        reply: *mut u8,
+    ) -> usize;
+}
+
+/// The C loop's board.
+pub struct Masks {
+    kept: Kept,
+    lent: Lent,
+}
+
+impl Board for Masks {
+    const NAME: &'static str = "C masks";
+
+    /// Stops where a size is not what the C code takes for granted.
+    fn new(setting: &Setting) -> Self {
+        let Setting {
+            function,
+            a,
+            b,
+            capture,
+            ref lent,
+        } = *setting;
+        let spaces = [&lent.ordinary, &lent.ordinary_rules, &lent.trusted, &lent.trusted_rules];
+        assert!(spaces.iter().all(|space| space.len() == 4096) && lent.reply.len() >= 16 && a <= 0xFFC && b <= 0xFFC);
+        let (bus, device) = capture.unwrap_or_default();
+        let kept = Kept {
+            a: a.into(),
+            b: b.into(),
+            function,
+            captured: capture.is_some().into(),
+            bus,
+            device,
+        };
+        Self {
+            kept,
+            lent: lent.clone(),
+        }
+    }
+
+    /// Only for packets that safe Rust serves: their lengths fit their types.
+    #[inline(never)]
+    fn serve(&mut self, packet: &[u8]) -> Answer {
+        let Lent {
+            ordinary,
+            ordinary_rules,
+            trusted,
+            trusted_rules,
+            reply,
+        } = &mut self.lent;
+        debug_assert!(packet.len() >= if packet[0] & 0x40 == 0 { 12 } else { 16 });
+        // SAFETY: `new` has tested the sizes of all that is lent, every offset in a packet is a multiple of 4 below
+        // 4,096, and safe Rust was found to serve the packet before this side got it, so its length fits its type.
+        let length = unsafe {
+            masks_serve(
+                &mut self.kept,
+                ordinary.as_mut_ptr(),
+                ordinary_rules.as_ptr(),
+                trusted.as_mut_ptr(),
+                trusted_rules.as_ptr(),
+                packet.as_ptr(),
+                reply.as_mut_ptr(),
+            )
+        };
+        Answer { number: 0, length }
+    }
+
+    fn capture(&self) -> Option<(u8, u8)> {
+        (self.kept.captured != 0).then_some((self.kept.bus, self.kept.device))
+    }
+
+    fn lent(&self) -> &Lent {
+        &self.lent
+    }
+}

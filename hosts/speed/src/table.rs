@@ -1,0 +1,99 @@
+//! Prints the measured figures in Markdown.
+
+use crate::packets::variants::Variants;
+use crate::row::{Peer, Row};
+
+/// What the peers leave out, and what every figure holds.
+const NOTES: &str = "\
+- C masks tests no sizes and no ranges (peer.c says what it leaves out), and branches on every enable: its branches are
+  predicted only where the enables are the same in all packets.
+- Bare chase follows and counts the pointers, tests nothing and lists nothing; in a loop it stops at the maximum.
+- Every figure holds the calls and the loop around them; the row `reset` is hardly more than that.
+- In rows of a few ns, where the linker happens to put a function makes a difference of a cycle or two.
+";
+
+/// Prints one line for every row: the library, then each peer with its ratio.
+pub fn print_rows(rows: &[Row]) {
+    println!("| what | library ns | safe Rust ns | ratio | C masks ns | ratio | bare chase ns | ratio |");
+    println!("|---|---:|---:|---|---:|---|---:|---|");
+    for row in rows {
+        let peers = [Peer::SafeRust, Peer::Masks, Peer::Chase]
+            .map(|peer| peer_cells(row, peer))
+            .join(" | ");
+        println!("| {} | {} | {peers} |", row.what, nanoseconds(row.contest.median(0)));
+    }
+    println!("\n{NOTES}");
+}
+
+/// A peer's time and ratio, or two empty cells.
+fn peer_cells(row: &Row, peer: Peer) -> String {
+    let (Some(side), Some(ratio)) = (row.side(peer), row.ratio(peer)) else {
+        return " | ".to_string();
+    };
+    let spread = row.contest.ratios(side);
+    let median = nanoseconds(row.contest.median(side));
+    format!("{median} | {ratio:.2} ({:.2} to {:.2})", spread.lower, spread.upper)
+}
+
+fn nanoseconds(time: f64) -> String {
+    if time < 100.0 {
+        format!("{time:.2}")
+    } else {
+        format!("{time:.0}")
+    }
+}
+
+/// Prints how far apart the variants of one kind of packet are on each side.
+pub fn print_variants(all: &[Variants]) {
+    println!(
+        "A served packet's time by its contents: offset low or high; enables 0, 1 or 15; rules 00h or FFh; data 00h"
+    );
+    println!("or FFh. The control times the same packets on as many boards: its spread is noise.\n");
+    println!("| packets | side | variants | fastest ns | slowest ns | spread |");
+    println!("|---|---|---:|---|---|---:|");
+    for variants in all {
+        let contest = &variants.contest;
+        let mut times: Vec<(f64, &String)> = variants
+            .names
+            .iter()
+            .enumerate()
+            .map(|(side, name)| (contest.median(side), name))
+            .collect();
+        times.sort_by(|left, right| left.0.total_cmp(&right.0));
+        let (Some((fastest, fastest_name)), Some((slowest, slowest_name))) = (times.first(), times.last()) else {
+            continue;
+        };
+        println!(
+            "| {} | {} | {} | {fastest:.2} ({fastest_name}) | {slowest:.2} ({slowest_name}) | {:.1} % |",
+            variants.packets,
+            variants.side,
+            times.len(),
+            100.0 * (slowest / fastest - 1.0)
+        );
+    }
+    println!();
+}
+
+/// Prints the rows in which the library is not ahead of safe Rust, and the full extended walk beside the bare chase.
+pub fn print_summary(rows: &[Row]) {
+    let ratios: Vec<(&str, f64)> = rows
+        .iter()
+        .filter_map(|row| Some((row.what.as_str(), row.ratio(Peer::SafeRust)?)))
+        .collect();
+    let (behind, ahead): (Vec<_>, Vec<_>) = ratios.iter().partition(|(_, ratio)| *ratio >= 1.0);
+    println!(
+        "The library is ahead of safe Rust in {} of {} rows.",
+        ahead.len(),
+        ratios.len()
+    );
+    if !behind.is_empty() {
+        let named: Vec<String> = behind
+            .iter()
+            .map(|(what, ratio)| format!("{what} ({ratio:.3})"))
+            .collect();
+        println!("Not ahead: {}.", named.join("; "));
+    }
+    let full = rows.iter().filter(|row| row.what.starts_with("walk, extended, 960"));
+    let ratio = full.filter_map(|row| row.ratio(Peer::Chase)).fold(0.0, f64::max);
+    println!("An extended walk of 960 headers takes at most {ratio:.2} times the bare chase.");
+}

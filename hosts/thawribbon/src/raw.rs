@@ -1,0 +1,301 @@
+//! The library's functions as they are, one for each, with numbers in the place of enums: what thawribbon.h says of
+//! each holds here.
+//!
+//! Every function is safe to call: a slice has the pointer and the length that C passes by hand, and the functions take
+//! any length. This is the one module with `unsafe` in it. The structs are laid out as C lays them out, and are held to
+//! thawribbon.h by the sizes and offsets at the end of this file and by those of hosts/c/first_day.c.
+
+/// A board's function number, and the places of the Device Correlation word in the ordinary space (`a`) and in the
+/// trusted space (`b`).
+#[repr(C)]
+#[derive(Clone, Copy, Debug, Default, PartialEq, Eq)]
+pub struct Description {
+    /// The function number, 0 to 7.
+    pub function: u8,
+    /// The ordinary place: a multiple of 4 from 104h to FFCh.
+    pub a: u32,
+    /// The trusted place: a multiple of 4 from 00Ch to FFCh.
+    pub b: u32,
+}
+
+/// What a board has captured: nothing where `captured` is 0, else the bus and the device number.
+#[repr(C)]
+#[derive(Clone, Copy, Debug, Default, PartialEq, Eq)]
+pub struct Capture {
+    /// 0: nothing is captured, and the other two are not looked at. Any other value: they are captured.
+    pub captured: u8,
+    /// The bus number.
+    pub bus: u8,
+    /// The device number, 0 to 31.
+    pub device: u8,
+}
+
+/// The answer to a packet: the number, how many bytes of the reply are written, and the capture to keep for the next
+/// packet.
+#[repr(C)]
+#[derive(Clone, Copy, Debug, Default, PartialEq, Eq)]
+pub struct Served {
+    /// How many bytes of the reply are written: 12 or 16, or 0 where refused.
+    pub length: usize,
+    /// 0 to 6.
+    pub number: u8,
+    /// The capture as given, where refused; else `captured` is 0 or 1, and bus and device are 0 where it is 0.
+    pub capture: Capture,
+}
+
+/// The answer of a walk: the number, and how many offsets are listed.
+#[repr(C)]
+#[derive(Clone, Copy, Debug, Default, PartialEq, Eq)]
+pub struct Walked {
+    /// How many offsets are listed: 0 where refused.
+    pub count: usize,
+    /// 0, 1, 2 or 7.
+    pub number: u8,
+}
+
+/// The number, and the fields of a DVSEC record; they are 0 where refused.
+#[repr(C)]
+#[derive(Clone, Copy, Debug, Default, PartialEq, Eq)]
+pub struct Dvsec {
+    /// 0, 1, 8 or 9.
+    pub number: u8,
+    /// The revision, bits 19:16 of header 1.
+    pub revision: u8,
+    /// The vendor, bits 15:0 of header 1.
+    pub vendor: u16,
+    /// The ID, the 16 bits at +8.
+    pub id: u16,
+    /// DVSEC Length, bits 31:20 of header 1.
+    pub length: u16,
+}
+
+/// A part of a space: so many bytes from an offset on. Both are 0 where refused.
+#[repr(C)]
+#[derive(Clone, Copy, Debug, Default, PartialEq, Eq)]
+pub struct Part {
+    /// The offset of the first byte.
+    pub start: usize,
+    /// How many bytes.
+    pub length: usize,
+}
+
+/// The number, and the alternate function and the device of a Dual-BDF record; they are 0 where refused.
+#[repr(C)]
+#[derive(Clone, Copy, Debug, Default, PartialEq, Eq)]
+pub struct Alternate {
+    /// 0, 1, 8, 9 or 10.
+    pub number: u8,
+    /// The alternate function, 0 to 7.
+    pub function: u8,
+    /// The device, 0 to 31.
+    pub device: u8,
+}
+
+mod linked {
+    use super::{Alternate, Capture, Description, Dvsec, Part, Served, Walked};
+
+    unsafe extern "C" {
+        pub(super) fn thawribbon_serve(
+            description: Description,
+            kept: Capture,
+            ordinary: *mut u8,
+            ordinary_length: usize,
+            ordinary_rules: *const u8,
+            ordinary_rules_length: usize,
+            trusted: *mut u8,
+            trusted_length: usize,
+            trusted_rules: *const u8,
+            trusted_rules_length: usize,
+            packet: *const u8,
+            packet_length: usize,
+            reply: *mut u8,
+            reply_length: usize,
+        ) -> Served;
+        pub(super) safe fn thawribbon_reset(kept: Capture) -> Capture;
+        pub(super) fn thawribbon_walk_compatible(
+            space: *const u8,
+            space_length: usize,
+            room: *mut u16,
+            room_length: usize,
+        ) -> Walked;
+        pub(super) fn thawribbon_walk_extended(
+            space: *const u8,
+            space_length: usize,
+            room: *mut u16,
+            room_length: usize,
+        ) -> Walked;
+        pub(super) fn thawribbon_walk_trusted(
+            space: *const u8,
+            space_length: usize,
+            room: *mut u16,
+            room_length: usize,
+        ) -> Walked;
+        pub(super) fn thawribbon_dvsec(space: *const u8, space_length: usize, at: usize) -> Dvsec;
+        pub(super) fn thawribbon_dvsec_body(space: *const u8, space_length: usize, at: usize) -> Part;
+        pub(super) fn thawribbon_dual_bdf(space: *const u8, space_length: usize, at: usize) -> Alternate;
+    }
+}
+
+/// Answers a packet.
+///
+/// ```
+/// use thawribbon::raw::{Capture, Description, Served, serve};
+///
+/// let (mut ordinary, mut trusted, rules, mut reply) = ([0; 4096], [0; 4096], [0xFF; 4096], [0; 16]);
+/// let description = Description { function: 0, a: 0x104, b: 0x00C };
+/// let fresh = Capture::default();
+///
+/// // P2's packet.
+/// let packet = [0x44, 0x00, 0x00, 0x01, 0x01, 0x00, 0x07, 0x0F, 0x05, 0x18, 0x00, 0x04, 0x11, 0x22, 0x33, 0x44];
+/// let served = serve(description, fresh, &mut ordinary, &rules, &mut trusted, &rules, &packet, &mut reply);
+/// assert_eq!(served, Served { length: 12, number: 0, capture: Capture { captured: 1, bus: 0x05, device: 3 } });
+/// ```
+#[allow(clippy::too_many_arguments)]
+#[inline]
+pub fn serve(
+    description: Description,
+    kept: Capture,
+    ordinary: &mut [u8],
+    ordinary_rules: &[u8],
+    trusted: &mut [u8],
+    trusted_rules: &[u8],
+    packet: &[u8],
+    reply: &mut [u8],
+) -> Served {
+    // SAFETY: each pointer goes with its slice's length, and Rust lends no slice that is written twice.
+    unsafe {
+        linked::thawribbon_serve(
+            description,
+            kept,
+            ordinary.as_mut_ptr(),
+            ordinary.len(),
+            ordinary_rules.as_ptr(),
+            ordinary_rules.len(),
+            trusted.as_mut_ptr(),
+            trusted.len(),
+            trusted_rules.as_ptr(),
+            trusted_rules.len(),
+            packet.as_ptr(),
+            packet.len(),
+            reply.as_mut_ptr(),
+            reply.len(),
+        )
+    }
+}
+
+/// Forgets what a board has captured.
+///
+/// ```
+/// use thawribbon::raw::{Capture, reset};
+///
+/// assert_eq!(reset(Capture { captured: 1, bus: 0x05, device: 3 }), Capture { captured: 0, bus: 0, device: 0 });
+/// ```
+#[inline]
+pub fn reset(kept: Capture) -> Capture {
+    linked::thawribbon_reset(kept)
+}
+
+/// Lists the offsets of the compatible list.
+///
+/// ```
+/// use thawribbon::raw::{Walked, walk_compatible};
+///
+/// let (mut space, mut room) = ([0; 4096], [0; 48]);
+/// (space[0x06], space[0x34]) = (0x10, 0x40);
+/// assert_eq!(walk_compatible(&space, &mut room), Walked { count: 1, number: 0 });
+/// assert_eq!(room[0], 0x40);
+/// ```
+#[inline]
+pub fn walk_compatible(space: &[u8], room: &mut [u16]) -> Walked {
+    // SAFETY: each pointer goes with its slice's length, and the room is lent once.
+    unsafe { linked::thawribbon_walk_compatible(space.as_ptr(), space.len(), room.as_mut_ptr(), room.len()) }
+}
+
+/// Lists the offsets of the extended list.
+///
+/// ```
+/// use thawribbon::raw::{Walked, walk_extended};
+///
+/// let (mut space, mut room) = ([0; 4096], [0; 960]);
+/// space[0x100..0x104].copy_from_slice(&[0x23, 0x00, 0x01, 0x10]); // P12: it points to itself
+/// assert_eq!(walk_extended(&space, &mut room), Walked { count: 0, number: 7 });
+/// ```
+#[inline]
+pub fn walk_extended(space: &[u8], room: &mut [u16]) -> Walked {
+    // SAFETY: each pointer goes with its slice's length, and the room is lent once.
+    unsafe { linked::thawribbon_walk_extended(space.as_ptr(), space.len(), room.as_mut_ptr(), room.len()) }
+}
+
+/// Lists the offsets of the trusted list.
+///
+/// ```
+/// use thawribbon::raw::{Walked, walk_trusted};
+///
+/// let (mut space, mut room) = ([0; 4096], [0; 1022]);
+/// space[0x004] = 0x08;
+/// assert_eq!(walk_trusted(&space, &mut room), Walked { count: 1, number: 0 });
+/// assert_eq!(room[0], 0x008);
+/// ```
+#[inline]
+pub fn walk_trusted(space: &[u8], room: &mut [u16]) -> Walked {
+    // SAFETY: each pointer goes with its slice's length, and the room is lent once.
+    unsafe { linked::thawribbon_walk_trusted(space.as_ptr(), space.len(), room.as_mut_ptr(), room.len()) }
+}
+
+/// Reads the header of the DVSEC record at an offset.
+///
+/// ```
+/// use thawribbon::raw::{Dvsec, dvsec};
+///
+/// assert_eq!(dvsec(&[0; 4096], 0x100), Dvsec { number: 8, revision: 0, vendor: 0, id: 0, length: 0 });
+/// ```
+#[inline]
+pub fn dvsec(space: &[u8], at: usize) -> Dvsec {
+    // SAFETY: the pointer goes with its slice's length, and nothing is written.
+    unsafe { linked::thawribbon_dvsec(space.as_ptr(), space.len(), at) }
+}
+
+/// Tells where the register body of the DVSEC record at an offset lies in the space.
+///
+/// ```
+/// use thawribbon::raw::{Part, dvsec_body};
+///
+/// let mut space = [0; 4096]; // with P11's record
+/// space[0x100..0x10A].copy_from_slice(&[0x23, 0x00, 0x01, 0x00, 0xC0, 0x1E, 0x00, 0x01, 0x02, 0x00]);
+/// assert_eq!(dvsec_body(&space, 0x100), Part { start: 0x10A, length: 6 });
+/// assert_eq!(dvsec_body(&space, 0x104), Part { start: 0, length: 0 });
+/// ```
+#[inline]
+pub fn dvsec_body(space: &[u8], at: usize) -> Part {
+    // SAFETY: the pointer goes with its slice's length, and nothing is written.
+    unsafe { linked::thawribbon_dvsec_body(space.as_ptr(), space.len(), at) }
+}
+
+/// Reads the Dual-BDF record at an offset.
+///
+/// ```
+/// use thawribbon::raw::{Alternate, dual_bdf};
+///
+/// let mut space = [0; 4096]; // with P9's record
+/// space[0x040..0x04C].copy_from_slice(&[0x09, 0x00, 0x0C, 0x00, 0xC0, 0x1E, 0xC0, 0x00, 0x02, 0x00, 0x02, 0x03]);
+/// assert_eq!(dual_bdf(&space, 0x040), Alternate { number: 0, function: 1, device: 3 });
+/// ```
+#[inline]
+pub fn dual_bdf(space: &[u8], at: usize) -> Alternate {
+    // SAFETY: the pointer goes with its slice's length, and nothing is written.
+    unsafe { linked::thawribbon_dual_bdf(space.as_ptr(), space.len(), at) }
+}
+
+// What crosses to the linked functions: the same sizes and offsets as in hosts/c/first_day.c. A wrong one ends the
+// build here.
+const _: () = {
+    use std::mem::{offset_of, size_of};
+    assert!(size_of::<Description>() == 12 && offset_of!(Description, a) == 4 && offset_of!(Description, b) == 8);
+    assert!(size_of::<Capture>() == 3 && offset_of!(Capture, bus) == 1 && offset_of!(Capture, device) == 2);
+    assert!(size_of::<Served>() == 16 && offset_of!(Served, number) == 8 && offset_of!(Served, capture) == 9);
+    assert!(size_of::<Walked>() == 16 && offset_of!(Walked, number) == 8);
+    assert!(size_of::<Dvsec>() == 8 && offset_of!(Dvsec, vendor) == 2);
+    assert!(offset_of!(Dvsec, id) == 4 && offset_of!(Dvsec, length) == 6);
+    assert!(size_of::<Part>() == 16 && offset_of!(Part, length) == 8);
+    assert!(size_of::<Alternate>() == 3 && offset_of!(Alternate, function) == 1 && offset_of!(Alternate, device) == 2);
+};
