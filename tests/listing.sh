@@ -16,6 +16,8 @@ listing() { timeout 20 ./run listing; }
 same() {
     if [ "$3" -eq 124 ]; then
         echo "FAILED $1: it did not end"
+    elif [ "$3" -ne 0 ]; then
+        echo "FAILED $1: it ended with status $3"
     elif cmp -s "$work/out" "$2"; then
         echo "ok $1"
     else
@@ -23,8 +25,16 @@ same() {
     fi
 }
 
-# ended NAME STATUS: the program ended by itself
-ended() { if [ "$2" -eq 124 ]; then echo "FAILED $1: it did not end"; else echo "ok $1"; fi; }
+# ended NAME STATUS: the program ended by itself, and not by a signal, except that of a pipe that nobody reads
+ended() {
+    if [ "$2" -eq 124 ]; then
+        echo "FAILED $1: it did not end"
+    elif [ "$2" -ge 128 ] && [ "$2" -ne 141 ]; then
+        echo "FAILED $1: it ended with status $2"
+    else
+        echo "ok $1"
+    fi
+}
 
 # A build first, so that no time limit below counts one.
 if ! ./run listing <samples/document01.space >"$work/out" 2>"$work/errors"; then

@@ -14,6 +14,10 @@ while IFS= read -r row; do
         bad=1
     fi
 done < <(grep -noE '`[a-z_]+/(specs|proofs)(/[A-Za-z_]+)+: [^`]+`' docs/*.md README.md | sed -E 's/^([^:]*):[0-9]*:`/\1:/; s/`$//')
+for file in $(grep -ohE '[a-z_]+/(specs|proofs)(/[A-Za-z_]+)+\.antt' docs/*.md README.md | sort -u); do
+    [ -f "crates/$file" ] || { echo "FAILED docs/ cites $file, which is not there" && bad=1; }
+done
+if grep -nE '@[A-Z]+@' docs/*.md README.md; then echo 'FAILED docs/ has a figure to fill in' && bad=1; fi
 [ "$bad" -eq 0 ] && echo "ok $seen definitions and theorems that docs/ cites stand where it says"
 [ "$seen" -gt 0 ] || echo "FAILED docs/ cites nothing"
 bad=0

@@ -58,6 +58,10 @@ enum thawribbon_number {
 #define THAWRIBBON_SPACE 4096
 /* The bytes that a reply must have; 12 or 16 of them are written. */
 #define THAWRIBBON_REPLY 16
+/* Byte 6 of a completion, its status byte: the access was done, or it is an Unsupported Request and was not. */
+#define THAWRIBBON_STATUS 6
+#define THAWRIBBON_SUCCESS 0x00
+#define THAWRIBBON_UNSUPPORTED 0x20
 /* The most offsets that each list can have, so the numbers that its room must have. */
 #define THAWRIBBON_COMPATIBLE_MAXIMUM 48
 #define THAWRIBBON_EXTENDED_MAXIMUM 960
@@ -120,7 +124,8 @@ typedef struct thawribbon_alternate {
  *
  * Takes the board's description, what it has captured (kept), its two spaces, which an access may change, their rules, the packet, and
  * the reply to write into. The lowest number that applies is given:
- *   0  served. `length` bytes of the reply are the completion, and those past them stay as lent. The spaces are as document 01 says,
+ *   0  served. `length` bytes of the reply are the completion, and those past them stay as lent. Its byte 6 is 00h where the access was
+ *      done, and 20h where it is an Unsupported Request: then nothing but the reply has changed. The spaces are as document 01 says,
  *      and `capture` is to be kept for the next packet: {0, 0, 0} while nothing is captured, else {1, bus, device}.
  *   1  the ordinary or trusted space or one of the rule spaces isn't 4,096 bytes, the captured device is over 31, the function number is
  *      over 7, or a or b is outside its range.

@@ -52,7 +52,7 @@ pub(crate) fn maximum(kind: Kind) -> usize
     }
 }
 
-// The word of the list's first header, or 0.
+// The number of the word that holds the list's first header, or 0.
 pub(crate) fn first(kind: Kind, space: &[u8]) -> u32
     requires { ⌜ WholeSpace (now space) ⌝ }
     ensures { λ r. ⌜ Word (first (describe kind) (now (space .entry))) r ⌝ }
@@ -60,7 +60,7 @@ pub(crate) fn first(kind: Kind, space: &[u8]) -> u32
     numbered(start(kind, space))
 }
 
-// The word that the header in a word points to, or 0.
+// The number of the word that the header in a word points to, or 0.
 pub(crate) fn follow(kind: Kind, space: &[u8], number: u32) -> u32
     requires { ⌜ WholeSpace (now space) × (4 * number ≤ 0xffc) ⌝ }
     ensures { λ r. ⌜ Word (follows (describe kind) (now (space .entry)) (4 * number)) r ⌝ }

@@ -63,6 +63,7 @@ pub fn dvsec(space: &[u8], at: usize) -> DvsecRead
     if !vendor::is_dvsec(words::word(space, at)) {
         return DvsecRead::Refused(Refusal::OtherStructure);
     }
+    // Asked before the two words are read, which are then known to be there; `extends` has the rule.
     if DVSEC_LAST < at {
         return DvsecRead::Refused(Refusal::WrongExtent);
     }

@@ -10,7 +10,7 @@ use Rattle.capture.specs.declared.Capture.the-variants.{Nothing, Number}
 use Rattle.board.specs.declared.Description.{Description}
 use Rattle.board.specs.Description.{Board}
 use Rattle.board.specs.Serving.{serve}
-use Rattle.board.specs.Promise.{Seen, shows}
+use Rattle.board.specs.Promise.{Seen, lent, shows}
 use Rattle.thawribbon.specs.declared.HostDescription.{HostDescription}
 use Rattle.thawribbon.specs.declared.HostCapture.{HostCapture}
 use Rattle.thawribbon.specs.declared.HostServed.{HostServed}
@@ -57,7 +57,15 @@ hostShows kept s =
       reply = s .reply;
     }
 
--- the promise of `thawribbon_serve`: the board, capture, packet and reply as lent, the result, and the three buffers at its end
-abbrev pub HostServes : Board → HostCapture → List ℕ → List ℕ → HostServed → List ℕ → List ℕ → List ℕ → Type 0
-HostServes d kept p reply r ordinary trusted after =
-    hostSeen r ordinary trusted after ≡ hostShows kept (shows (serve d p (lib.ListN.length reply)) reply)
+-- the board that a host lends: its description and capture, the ordinary bytes and rules, the trusted bytes and rules
+abbrev pub hostBoard : HostDescription → HostCapture → List ℕ → List ℕ → List ℕ → List ℕ → Board
+hostBoard d kept ordinary ordinaryRules trusted trustedRules =
+    lent (described d) (keptBy kept) ordinary ordinaryRules trusted trustedRules
+
+-- the promise of `thawribbon_serve`: what it is lent (description, capture, the four buffers of the board, packet, reply), the result, and
+-- the three buffers at its end
+abbrev pub HostServes : HostDescription → HostCapture → List ℕ → List ℕ → List ℕ → List ℕ → List ℕ → List ℕ → HostServed → List ℕ → List ℕ
+    → List ℕ → Type 0
+HostServes d kept ordinary ordinaryRules trusted trustedRules p reply r ordinaryAfter trustedAfter replyAfter =
+    hostSeen r ordinaryAfter trustedAfter replyAfter
+    ≡ hostShows kept (shows (serve (hostBoard d kept ordinary ordinaryRules trusted trustedRules) p (lib.ListN.length reply)) reply)

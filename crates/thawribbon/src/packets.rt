@@ -1,7 +1,6 @@
 // A packet served on a board that a host lends, and a reset. The capture is the host's to keep between packets.
 ghost use mathlib.Core.Path.{_≡_};
 ghost use Rattle.capture.specs.Kept.{forgotten};
-ghost use Rattle.board.specs.Promise.{lent};
 ghost use Rattle.thawribbon.specs.Packets.{described, keptBy, toldCapture, HostServes};
 ghost use Rattle.thawribbon.specs.Inner.{toldServed};
 use super::HostCapture;
@@ -80,7 +79,7 @@ pub extern "C" fn thawribbon_serve(
     packet: &[u8],
     reply: &mut [u8],
 ) -> HostServed
-    ensures { λ r. ⌜ HostServes (lent (described description) (keptBy kept) (now (ordinary .entry)) (now («ordinary_rules» .entry)) (now (trusted .entry)) (now («trusted_rules» .entry))) kept (now (packet .entry)) (now (reply .entry)) r (now (ordinary .exit)) (now (trusted .exit)) (now (reply .exit)) ⌝ }
+    ensures { λ r. ⌜ HostServes description kept (now (ordinary .entry)) (now («ordinary_rules» .entry)) (now (trusted .entry)) (now («trusted_rules» .entry)) (now (packet .entry)) (now (reply .entry)) r (now (ordinary .exit)) (now (trusted .exit)) (now (reply .exit)) ⌝ }
 {
     let served = board::serve(
         description_of(description),

@@ -14,7 +14,7 @@ static SEQUENCE: LazyLock<Vec<u8>> = LazyLock::new(|| Random::seeded(0).bytes(PI
 
 /// A pass that gives a side so many of its inputs, of which there are 2, 4, 8 or so on up to 256.
 pub fn pass<Input: 'static>(inputs: &Rc<[Input]>, calls: usize, mut call: impl FnMut(&Input) + 'static) -> Pass {
-    assert!(inputs.len().is_power_of_two() && inputs.len() <= 256 && PICKS.is_multiple_of(calls));
+    assert!(inputs.len().is_power_of_two() && inputs.len() <= 256 && PICKS % calls == 0);
     let inputs = inputs.clone();
     let sequence: &'static [u8] = &SEQUENCE;
     let mut parts = sequence.chunks_exact(calls).cycle();

@@ -77,7 +77,8 @@ impl<'a> Board<'a> {
 
     /// Answers a packet: does the access, writes the completion into the reply, and gives the written bytes, 12 or 16.
     ///
-    /// The completion may still say Unsupported Request. Reply bytes past the written ones stay as lent.
+    /// Byte 6 of the completion is 00h where the access was done, and 20h where it is an Unsupported Request: then
+    /// nothing but the reply has changed. Reply bytes past the written ones stay as lent.
     ///
     /// ```
     /// use thawribbon::{Board, Capture, Description, Refusal};

@@ -162,7 +162,7 @@ pub fn serve(
     packet: &[u8],
     reply: &mut [u8],
 ) -> Served {
-    // SAFETY: each pointer goes with its slice's length, and Rust lends no slice that is written twice.
+    // SAFETY: each pointer goes with its slice's length, and a slice that is written is lent only once.
     unsafe {
         linked::thawribbon_serve(
             description,

@@ -155,34 +155,33 @@ fn nothing_but_empty_slices() {
         device: 3,
     };
     let served = raw::serve(description, kept, &mut [], &[], &mut [], &[], &[], &mut []);
-    assert_eq!(
-        served,
-        raw::Served {
-            length: 0,
-            number: 1,
-            capture: kept
-        }
-    );
+    let refused = raw::Served {
+        length: 0,
+        number: 1,
+        capture: kept,
+    };
+    assert_eq!(served, refused);
     for walk in [raw::walk_compatible, raw::walk_extended, raw::walk_trusted] {
         assert_eq!(walk(&[], &mut []), raw::Walked { count: 0, number: 1 });
         assert_eq!(walk(&[0; SPACE], &mut []), raw::Walked { count: 0, number: 2 });
     }
-    assert_eq!(
-        raw::dvsec(&[], 0x100),
-        raw::Dvsec {
-            number: 1,
-            ..raw::Dvsec::default()
-        }
-    );
-    assert_eq!(raw::dvsec_body(&[], 0x100), raw::Part::default());
-    assert_eq!(
-        raw::dual_bdf(&[], 0x040),
-        raw::Alternate {
-            number: 1,
-            ..raw::Alternate::default()
-        }
-    );
-    assert_eq!(dvsec_body(&[], 0x100), []);
+    tells_nothing_but_1(&[]);
+}
+
+/// Both records are refused with 1, and nothing else is told of them.
+fn tells_nothing_but_1(space: &[u8]) {
+    let header = raw::Dvsec {
+        number: 1,
+        ..raw::Dvsec::default()
+    };
+    let alternate = raw::Alternate {
+        number: 1,
+        ..raw::Alternate::default()
+    };
+    assert_eq!(raw::dvsec(space, 0x100), header);
+    assert_eq!(raw::dvsec_body(space, 0x100), raw::Part::default());
+    assert_eq!(raw::dual_bdf(space, 0x040), alternate);
+    assert_eq!(dvsec_body(space, 0x100), []);
 }
 
 #[test]
@@ -255,21 +254,7 @@ fn space_of_each_record() {
             assert_eq!(header, Err(Refusal::BadDescription));
             assert_eq!(alternate, Err(Refusal::BadDescription));
             assert_eq!(body, []);
-            assert_eq!(
-                raw::dvsec(space.part(), 0x100),
-                raw::Dvsec {
-                    number: 1,
-                    ..raw::Dvsec::default()
-                }
-            );
-            assert_eq!(raw::dvsec_body(space.part(), 0x100), raw::Part::default());
-            assert_eq!(
-                raw::dual_bdf(space.part(), 0x040),
-                raw::Alternate {
-                    number: 1,
-                    ..raw::Alternate::default()
-                }
-            );
+            tells_nothing_but_1(space.part());
         }
         space.check("the space");
     }

@@ -64,53 +64,58 @@ fn a_dual_bdf_is_asked_for_at_multiples_of_4_from_040h_to_0fch() {
     }
 }
 
+/// A space that holds nothing but 5Ah and a DVSEC record of a length at an offset, as far as the space goes.
+fn with_dvsec(at: usize, length: usize) -> Vec<u8> {
+    let mut space = vec![0x5A; SPACE];
+    let header_1 = 0x1EC0 | 0x7 << 16 | (length as u32) << 20;
+    let record = [
+        0x0001_0023_u32.to_le_bytes(),
+        header_1.to_le_bytes(),
+        [0x02, 0x00, 0x5A, 0x5A],
+    ]
+    .concat();
+    let fits = record.len().min(SPACE - at);
+    space[at..at + fits].copy_from_slice(&record[..fits]);
+    space
+}
+
+/// The record is found, with its body in the space.
+fn found(space: &[u8], at: usize, length: usize) {
+    let header = Dvsec {
+        vendor: 0x1EC0,
+        revision: 7,
+        id: 0x0002,
+        length: length as u16,
+    };
+    assert_eq!(dvsec(space, at), Ok(header), "{length:X}h bytes at {at:X}h");
+    let body = &space[at + 0x00A..at + length];
+    assert_eq!(dvsec_body(space, at).as_ptr_range(), body.as_ptr_range());
+}
+
+/// The record is refused with 9, and nothing else is told.
+fn refused(space: &[u8], at: usize, length: usize) {
+    let why = format!("{length:X}h bytes at {at:X}h");
+    assert_eq!(dvsec(space, at), Err(Refusal::WrongExtent), "{why}");
+    assert_eq!(dvsec_body(space, at), []);
+    let nothing_else = raw::Dvsec {
+        number: 9,
+        ..raw::Dvsec::default()
+    };
+    assert_eq!(raw::dvsec(space, at), nothing_else);
+    assert_eq!(raw::dvsec_body(space, at), raw::Part::default());
+}
+
 #[test]
 fn a_dvsec_ends_by_1000h() {
     for at in (0x100..=0xFFC).step_by(4) {
-        for length in [
-            0x000,
-            0x009,
-            0x00A,
-            0x00B,
-            0x1000 - at - 1,
-            0x1000 - at,
-            0x1000 - at + 1,
-            0xFFF,
-        ] {
-            let mut space = vec![0x5A; SPACE];
-            let header_1 = 0x1EC0 | 0x7 << 16 | (length as u32 & 0xFFF) << 20;
-            let record = [
-                0x0001_0023_u32.to_le_bytes(),
-                header_1.to_le_bytes(),
-                [0x02, 0x00, 0x5A, 0x5A],
-            ]
-            .concat();
-            let fits = record.len().min(SPACE - at);
-            space[at..at + fits].copy_from_slice(&record[..fits]);
+        let left = 0x1000 - at;
+        for length in [0x000, 0x009, 0x00A, 0x00B, left - 1, left, left + 1, 0xFFF] {
             let length = length & 0xFFF;
+            let space = with_dvsec(at, length);
             if length >= 0x00A && at + length <= SPACE {
-                let header = Dvsec {
-                    vendor: 0x1EC0,
-                    revision: 7,
-                    id: 0x0002,
-                    length: length as u16,
-                };
-                assert_eq!(dvsec(&space, at), Ok(header), "{length:X}h bytes at {at:X}h");
-                let body = &space[at + 0x00A..at + length];
-                assert_eq!(dvsec_body(&space, at).as_ptr_range(), body.as_ptr_range());
+                found(&space, at, length);
             } else {
-                assert_eq!(
-                    dvsec(&space, at),
-                    Err(Refusal::WrongExtent),
-                    "{length:X}h bytes at {at:X}h"
-                );
-                assert_eq!(dvsec_body(&space, at), []);
-                let nothing_else = raw::Dvsec {
-                    number: 9,
-                    ..raw::Dvsec::default()
-                };
-                assert_eq!(raw::dvsec(&space, at), nothing_else);
-                assert_eq!(raw::dvsec_body(&space, at), raw::Part::default());
+                refused(&space, at, length);
             }
         }
     }

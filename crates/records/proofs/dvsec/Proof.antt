@@ -88,7 +88,7 @@ returns-4 c =
     let q = c .before in
     let p = q .before .before .before in
     dvsec-refused _ _ 9 refl
-    (dvsec-number _ _ (sized-true _ (p .before .before .if1 .left)) (is-placed p) (is-one q) (none-left _ _ (c .if4 .taken) (place p .aligned)))
+    (dvsec-number _ _ (sized-true _ (p .before .before .if1 .left)) (is-placed p) (is-one q) (none-left _ _ (omega arith) (place p .aligned)))
 
 add-word : tie.Need-add-word
 add-word c = omega (arith, place (c .before .before .before .before))

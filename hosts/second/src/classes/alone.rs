@@ -18,7 +18,7 @@ pub fn offset_causes(space: &[u8], at: usize, lowest: usize, highest: usize) -> 
     let near_64 = at >= usize::MAX - NEAR;
     [
         space.len() != 4096,
-        !at.is_multiple_of(4),
+        at % 4 != 0,
         at < lowest,
         above && !near_32 && !near_64,
         above && near_32,

@@ -101,7 +101,8 @@ impl fmt::Display for Tally {
                 Classes::Named(names) => write!(formatter, "  BELOW: {}", names[class])?,
             }
         }
-        Ok(())
+        let all: usize = self.lines.iter().map(|line| line.classes.count()).sum();
+        write!(formatter, "\n{all} classes in {} groups", self.lines.len())
     }
 }
 

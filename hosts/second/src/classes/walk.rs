@@ -222,11 +222,7 @@ fn count_bottom_bits(shape: Shape, chain: &Chain, count: usize, tally: &mut Tall
     }
     tally.add_if(count > 0 && chain.last != 0, Group::BottomBits, first + 3);
     if shape.list != List::Extended {
-        tally.add_if(
-            count > 0 && !chain.start.is_multiple_of(4),
-            Group::BottomBits,
-            first + 4,
-        );
+        tally.add_if(count > 0 && chain.start % 4 != 0, Group::BottomBits, first + 4);
         tally.add_if(count == 0 && chain.start != 0, Group::BottomBits, first + 5);
     }
 }

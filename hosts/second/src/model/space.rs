@@ -39,5 +39,5 @@ pub(super) fn store_word(space: &mut Space, offset: usize, value: u32) {
 
 /// Whether an offset is a multiple of 4 within a range, both ends included.
 pub(super) const fn is_word_offset(offset: usize, lowest: usize, highest: usize) -> bool {
-    offset.is_multiple_of(4) && lowest <= offset && offset <= highest
+    offset % 4 == 0 && lowest <= offset && offset <= highest
 }

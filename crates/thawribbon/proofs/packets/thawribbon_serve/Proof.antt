@@ -29,7 +29,7 @@ returns : tie.Need-returns
 returns c =
     let served = c .before .before .before .before .before .before .before .serve in
     let a = c .before .before .before .before .before .before .before .before .before .before .before .before .before .before .before .before .before .before .before .args in
-    serves-told _ _ _ _ (a .kept) (a .ordinary .now) (a .ordinary-rules .now) (a .trusted .now) (a .trusted-rules .now) (a .packet .now) (a .reply .now)
+    serves-told _ _ (a .description) (a .kept) (a .ordinary .now) (a .ordinary-rules .now) (a .trusted .now) (a .trusted-rules .now) (a .packet .now) (a .reply .now)
     (served .result) _ _ _ _ (c .before .before .before .before .before .before .before .before .before .before .before .before .description-of .ensures) (c .before .before .before .before .before .before .before .before .before .before .before .capture-of .ensures)
     (served .ensures) (c .told-served .ensures)
 
