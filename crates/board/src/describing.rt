@@ -39,7 +39,7 @@ fn out_of_range(description: Description, kept: Capture) -> bool
 fn is_wrong_size(size: usize) -> bool
     ensures { λ r. ⌜ r ≡ wrongSize size ⌝ }
 {
-    size != 4096
+    size != words::SPACE
 }
 
 // Answer 1: from the sizes of the four buffers, and the board's numbers.

@@ -28,9 +28,6 @@ pub struct Walked {
     pub count: usize,
 }
 
-// The size of a space.
-const SPACE: usize = 0x1000;
-
 // A first log holds the longest compatible chain, and most others; a second holds the longest of all.
 const SHORT: usize = table::COMPATIBLE_MAXIMUM;
 
@@ -40,7 +37,7 @@ const LONG: usize = table::TRUSTED_MAXIMUM;
 pub fn walk(kind: Kind, space: &[u8], room: &mut [u16]) -> Walked
     ensures { λ r. ⌜ Walks kind (now (space .entry)) (now (room .entry)) r (now (room .exit)) ⌝ }
 {
-    if space.len() != SPACE {
+    if space.len() != words::SPACE {
         return refused(Refusal::BadDescription);
     }
     if room.len() < table::maximum(kind) {

@@ -32,9 +32,6 @@ pub enum DualRead {
     Refused(Refusal),
 }
 
-// The size of a space.
-const SPACE: usize = 0x1000;
-
 // Where a record may be asked for.
 const DVSEC_LOWEST: usize = 0x100;
 
@@ -48,13 +45,13 @@ const DUAL_LOWEST: usize = 0x040;
 const DUAL_HIGHEST: usize = 0x0fc;
 
 // The register body of a DVSEC record begins there.
-const BODY: usize = 0x0a;
+pub const BODY: usize = 0x0a;
 
 // The header of the DVSEC record at an offset.
 pub fn dvsec(space: &[u8], at: usize) -> DvsecRead
     ensures { λ r. ⌜ tellsDvsec r ≡ dvsecSays (now (space .entry)) at ⌝ }
 {
-    if space.len() != SPACE {
+    if space.len() != words::SPACE {
         return DvsecRead::Refused(Refusal::BadDescription);
     }
     if !words::placed(at, DVSEC_LOWEST, DVSEC_HIGHEST) {
@@ -91,7 +88,7 @@ pub fn dvsec_body(space: &[u8], at: usize) -> &[u8]
 pub fn dual_bdf(space: &[u8], at: usize) -> DualRead
     ensures { λ r. ⌜ tellsDual r ≡ dualSays (now (space .entry)) at ⌝ }
 {
-    if space.len() != SPACE {
+    if space.len() != words::SPACE {
         return DualRead::Refused(Refusal::BadDescription);
     }
     if !words::placed(at, DUAL_LOWEST, DUAL_HIGHEST) {

@@ -1,4 +1,5 @@
 // What a DVSEC record requires, and its fields, by shift and mask.
+use crate::BODY;
 use crate::DvsecHeader;
 ghost use mathlib.Core.Path.{_≡_};
 ghost use Prim.Native.Nat.{_≤_, _<_};
@@ -7,11 +8,6 @@ ghost use Rattle.records.specs.DvsecRule.{isDvsec, extends, headerOf};
 const DVSEC: u32 = 0x0023;
 
 const VERSION: u32 = 0x1;
-
-// The length of a record with an empty body, and the size of a space.
-const SHORTEST: usize = 0x0a;
-
-const SPACE: usize = 0x1000;
 
 pub(crate) fn is_dvsec(header: u32) -> bool
     ensures { λ r. ⌜ r ≡ isDvsec header ⌝ }
@@ -27,13 +23,13 @@ pub(crate) fn extends(at: usize, length: usize) -> bool
     requires { ⌜ (at ≤ 0xffc) × (length < 0x1000) ⌝ }
     ensures { λ r. ⌜ r ≡ extends at length ⌝ }
 {
-    if SPACE < at + SHORTEST {
+    if words::SPACE < at + BODY {
         return false;
     }
-    if length < SHORTEST {
+    if length < BODY {
         return false;
     }
-    at + length <= SPACE
+    at + length <= words::SPACE
 }
 
 pub(crate) fn header_of(first: u32, second: u32) -> DvsecHeader

@@ -19,9 +19,7 @@ pub struct Written {
     pub length: usize,
 }
 
-// The size of a space, and the most headers of each list.
-const SPACE: usize = 0x1000;
-
+// The most headers of each list.
 const COMPATIBLE_MAXIMUM: usize = 48;
 
 const EXTENDED_MAXIMUM: usize = 960;
@@ -39,7 +37,7 @@ pub fn listing(space: &[u8], text: &mut [u8]) -> Written
             length: 0,
         };
     }
-    if space.len() != SPACE {
+    if space.len() != words::SPACE {
         return done(other(text));
     }
     done(parts(space, text))

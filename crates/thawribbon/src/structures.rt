@@ -9,9 +9,6 @@ use super::HostPart;
 use records::DualRead;
 use records::DvsecRead;
 
-// The register body of a DVSEC record begins there.
-const BODY: usize = 0x0a;
-
 #[no_mangle]
 pub extern "C" fn thawribbon_dvsec(space: &[u8], at: usize) -> HostDvsec
     ensures { λ r. ⌜ r ≡ toldDvsec (dvsecSays (now (space .entry)) at) ⌝ }
@@ -46,8 +43,8 @@ pub extern "C" fn thawribbon_dvsec_body(space: &[u8], at: usize) -> HostPart
     };
     let length = header.length as usize;
     HostPart {
-        start: at + BODY,
-        length: length - BODY,
+        start: at + records::BODY,
+        length: length - records::BODY,
     }
 }
 

@@ -6,6 +6,9 @@ ghost use Rattle.words.specs.Bytes.{fourOrZero, Puts};
 ghost use Rattle.words.specs.Places.{placed};
 ghost use Rattle.words.specs.Fields.{joined, wordOrZero};
 
+// The size of a space, and of its rules.
+pub const SPACE: usize = 0x1000;
+
 // The four bytes at `at`, or four zeros where they do not all lie in `space`.
 pub fn four(space: &[u8], at: usize) -> [u8; 4]
     ensures { λ r. ⌜ r ≡ fourOrZero (now (space .entry)) at ⌝ }
