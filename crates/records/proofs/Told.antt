@@ -3,7 +3,7 @@
 use Prim.Native.Nat.{ℕ, suc, _+_, _-_, _%_, _≤_}
 use mathlib.Core.Bool.{Bool, true, false, not, _&&_, cond}
 use mathlib.Core.List.{List, [], _∷_}
-use mathlib.Core.Path.{_≡_, refl, sym, ap}
+use mathlib.Core.Path.{_≡_, refl, sym, ap, subst}
 use native.Mathlib.Omega.{arith}
 use borrow.Author.Tests.{eq-eqb, ne-eqb, eqb-true, leb-true}
 use lib.Dec.{eqb, leb}
@@ -15,6 +15,7 @@ use Rattle.answers.specs.Numbers.{numberOf}
 use Rattle.words.specs.Bytes.{byte}
 use Rattle.words.specs.Fields.{word}
 use Rattle.records.specs.declared.DvsecHeader.{DvsecHeader}
+use Rattle.records.specs.declared.DvsecRead.{DvsecRead}
 use Rattle.records.specs.declared.DvsecRead.the-variants.{Found, Refused}
 use Rattle.words.specs.Places.{placed}
 use Rattle.records.specs.Required.{required, sized}
@@ -43,6 +44,12 @@ pub record Inside (space at extent : ℕ) : Type 0 where
   pub size : space ≡ 4096
   pub least : 0x0a ≤ extent
   pub end : at + extent ≤ 0x1000
+
+-- a record that is found, by its length
+pub record Stands (s : List ℕ) (at extent : ℕ) : Type 0 where
+  pub number : dvsecNumber s at ≡ 0
+  pub stated : extent ≡ headerAt s at .length
+  pub inside : Inside (length s) at extent
 
 module _ (s : List ℕ) (at : ℕ) where
   pub dvsec-refused : (n : ℕ) → eqb n 0 ≡ false → dvsecNumber s at ≡ n
@@ -87,6 +94,15 @@ module _ (s : List ℕ) (at : ℕ) where
   dvsec-length h e =
       let zero : dvsecNumber s at ≡ 0 = sym (ap (λ (t : DvsecTold). t .number) e) in
       (zero, rw zero at (ap (λ (t : DvsecTold). t .length) e))
+
+  -- so a header that is found stands there with its length, inside the space
+  pub found-stands : {r : DvsecRead} (h : DvsecHeader) → r ≡ Found h → tellsDvsec r ≡ dvsecSays s at → Stands s at (h .length)
+  found-stands h e told =
+      let there = dvsec-length h (subst (λ (r : DvsecRead). tellsDvsec r ≡ dvsecSays s at) e told) in record {
+        number = there .0;
+        stated = there .1;
+        inside = subst (λ (n : ℕ). Inside (length s) at n) (sym (there .1)) (dvsec-inside (there .0));
+      }
 
   pub body-whole : (place : ℕ × ℕ) → dvsecNumber s at ≡ 0
       → BodyLies place s at (place .0, (at + 0x0a) + place .1) (take ((at + headerAt s at .length) - (at + 0x0a)) (drop (at + 0x0a) s))
