@@ -17,7 +17,8 @@ use Rattle.registers.proofs.Laws.{merged-length, merged-four}
 use Rattle.packet.specs.declared.Request.{Request}
 use Rattle.packet.specs.Fields.{dataOf}
 use Rattle.packet.specs.Request.{isTrusted, requestOf}
-use Rattle.packet.specs.Completion.{success, unsupportedRequest, withData, withoutData}
+use Rattle.packet.specs.declared.Status.the-variants.{Success, Unsupported}
+use Rattle.packet.specs.Completion.{statusByte, withData, withoutData}
 use Rattle.packet.proofs.Laws.{offset-inside, offset-aligned}
 use Rattle.capture.specs.declared.Capture.the-variants.{Number}
 use Rattle.board.specs.Description.{Space, Board, WellDescribed}
@@ -46,14 +47,14 @@ pub record Writes (d e : Board) (q : Request) (new : List ℕ) : Type 0 where
 -- the statements: a write that is served, with a status byte that says success
 abbrev pub WriteLands : Type 0
 WriteLands =
-    (d : Board) (p : List ℕ) (size : ℕ) → WellDescribed d → serve d p size .number ≡ 0 → byte (serve d p size .written) 6 ≡ success
+    (d : Board) (p : List ℕ) (size : ℕ) → WellDescribed d → serve d p size .number ≡ 0 → byte (serve d p size .written) 6 ≡ statusByte Success
     → requestOf p .writes ≡ true → Writes d (serve d p size .after) (requestOf p) (dataOf p)
 
 -- and a packet that is refused, is answered UR, or reads
 abbrev pub OthersKeep : Type 0
 OthersKeep =
     (d : Board) (p : List ℕ) (size : ℕ)
-    → ((serve d p size .number ≡ 0 → ⊥) ⊎ ((byte (serve d p size .written) 6 ≡ unsupportedRequest) ⊎ (requestOf p .writes ≡ false)))
+    → ((serve d p size .number ≡ 0 → ⊥) ⊎ ((byte (serve d p size .written) 6 ≡ statusByte Unsupported) ⊎ (requestOf p .writes ≡ false)))
     → serve d p size .after ≡ d
 
 -- ---- a store
@@ -123,19 +124,19 @@ served d p size n = rw (sym (outcome-number d p size) ∙ n)
 
 -- the status byte of what is unsupported
 status : (d : Board) (q : Request) (new : List ℕ) → unsupported (d .description) (d .capture) q ≡ true
-    → byte (respond d q new .written) 6 ≡ unsupportedRequest
+    → byte (respond d q new .written) 6 ≡ statusByte Unsupported
 unfolding withoutData
 status d q new u = rw (respond-unsupported d q new u)
 
 -- and of a write that succeeds, or a read
 succeeded : (d : Board) (q : Request) (new : List ℕ) (writes : Bool) → q .writes ≡ writes → unsupported (d .description) (d .capture) q ≡ false
-    → byte (respond d q new .written) 6 ≡ success
+    → byte (respond d q new .written) 6 ≡ statusByte Success
 unfolding withoutData withData
 succeeded d q new true w u = rw (respond-write d q new u w)
 succeeded d q new false w u = rw (respond-read d q new u w)
 
 supported : (d : Board) (p : List ℕ) (size : ℕ) (u : Bool) → unsupported (d .description) (d .capture) (requestOf p) ≡ u
-    → serve d p size .number ≡ 0 → byte (serve d p size .written) 6 ≡ success → unsupported (d .description) (d .capture) (requestOf p) ≡ false
+    → serve d p size .number ≡ 0 → byte (serve d p size .written) 6 ≡ statusByte Success → unsupported (d .description) (d .capture) (requestOf p) ≡ false
 supported d p size true u n s =
     absurd (omega (arith, sym (status d (requestOf p) (dataOf p) u) ∙ ap (λ (o : Outcome). byte (o .written) 6) (sym (served d p size n)) ∙ s))
 supported d p size false u n s = u
@@ -152,19 +153,19 @@ unfolding serve
 kept-refused d p size h = rw (refused-is (serveNumber d p size) d p (λ z. h (outcome-number d p size ∙ z)))
 
 kept-response : (d : Board) (q : Request) (new : List ℕ) (u writes : Bool) → unsupported (d .description) (d .capture) q ≡ u → q .writes ≡ writes
-    → (byte (respond d q new .written) 6 ≡ unsupportedRequest) ⊎ (writes ≡ false) → respond d q new .after ≡ d
+    → (byte (respond d q new .written) 6 ≡ statusByte Unsupported) ⊎ (writes ≡ false) → respond d q new .after ≡ d
 kept-response d q new true writes u w h = rw (respond-unsupported d q new u)
 kept-response d q new false false u w h = rw (respond-read d q new u w)
 kept-response d q new false true u w (inl s) = absurd (omega (arith, sym (succeeded d q new true w u) ∙ s))
 kept-response d q new false true u w (inr f) = let z : _≡_ {A = ℕ} 0 1 = cc in absurd (omega arith)
 
-kept-number : (d : Board) (p : List ℕ) (n : ℕ) → (byte (byNumber n d p .written) 6 ≡ unsupportedRequest) ⊎ (requestOf p .writes ≡ false)
+kept-number : (d : Board) (p : List ℕ) (n : ℕ) → (byte (byNumber n d p .written) 6 ≡ statusByte Unsupported) ⊎ (requestOf p .writes ≡ false)
     → byNumber n d p .after ≡ d
 kept-number d p zero h = kept-response d (requestOf p) (dataOf p) _ _ refl refl h
 kept-number d p (suc n) h = refl
 
 kept-either : (d : Board) (p : List ℕ) (size : ℕ)
-    → (byte (serve d p size .written) 6 ≡ unsupportedRequest) ⊎ (requestOf p .writes ≡ false) → serve d p size .after ≡ d
+    → (byte (serve d p size .written) 6 ≡ statusByte Unsupported) ⊎ (requestOf p .writes ≡ false) → serve d p size .after ≡ d
 unfolding serve
 kept-either d p size h = kept-number d p (serveNumber d p size) h
 

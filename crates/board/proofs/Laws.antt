@@ -1,8 +1,8 @@
 -- Laws of the definitions of this crate, one for each way through the code and for the proofs above. Assumes nothing.
-use Prim.Native.Nat.{ℕ, _+_, _%_, _≤_}
+use Prim.Native.Nat.{ℕ, _%_, _≤_}
 use mathlib.Core.Bool.{Bool, true, false, not, _&&_, or-false, or-true}
 use mathlib.Core.List.{List, [], _∷_}
-use mathlib.Core.Path.{_≡_, refl, sym, ap, ap₂, _∙_}
+use mathlib.Core.Path.{_≡_, refl, ap, ap₂, _∙_}
 use native.Mathlib.Nat.{zero-add}
 use native.Mathlib.Omega.{arith}
 use lib.Dec.{eqb}
@@ -17,6 +17,7 @@ use Rattle.registers.proofs.Laws.{merged-length}
 use Rattle.packet.specs.declared.Target.the-variants.{Type0, Type1, Trusted}
 use Rattle.packet.specs.declared.Request.{Request}
 use Rattle.packet.specs.Request.{isTrusted}
+use Rattle.packet.specs.declared.Status.{Status}
 use Rattle.packet.specs.Completion.{withData, withoutData}
 use Rattle.capture.specs.declared.Capture.{Capture}
 use Rattle.capture.specs.declared.Capture.the-variants.{Nothing, Number}
@@ -49,7 +50,6 @@ pub record Well (d : Board) : Type 0 where
   pub trustedBytes : length (d .trusted .bytes) ≡ 4096
   pub trustedRules : length (d .trusted .rules) ≡ 4096
   pub inRange : outOfRange (d .description) (d .capture) ≡ false
-  pub atAInside : d .description .a ≤ 0xffc
   pub atAAligned : d .description .a % 4 ≡ 0
   pub register : d .description .b ≤ 0xffc
 
@@ -67,7 +67,6 @@ well-described d e =
       trustedBytes = right-size _ (n .1 .1 .0);
       trustedRules = right-size _ (n .1 .1 .1 .0);
       inRange = n .1 .1 .1 .1 .0;
-      atAInside = placed-true _ 0x104 0xffc (not-false _ (r .1 .1 .0)) .below;
       atAAligned = placed-true _ 0x104 0xffc (not-false _ (r .1 .1 .0)) .aligned;
       register = placed-true _ 0x00c 0xffc (not-false _ (r .1 .1 .1 .0)) .below;
     }
@@ -140,7 +139,7 @@ put-over reply word said after p h = puts-is reply 0 word p (rw (zero-add (lengt
 
 -- a completion of either kind: the ID made from the capture, which is handed back, and the bytes at the reply's start
 module _ (kept : Capture) (function : ℕ) (made : Identified) (id : made ≡ identified kept function) (reply : List ℕ) (room : 16 ≤ length reply) where
-  pub replied-status : (status : ℕ) (q : Request) (word : List ℕ) (said : Bool) (after : List ℕ)
+  pub replied-status : (status : Status) (q : Request) (word : List ℕ) (said : Bool) (after : List ℕ)
       → word ≡ withoutData (made .id) status (q .requester) (q .tag) → Puts reply 0 word said after
       → (done 12 (made .capture) ≡ done 12 kept) × (after ≡ over (withoutData (completer kept function) status (q .requester) (q .tag)) reply)
   unfolding identified withoutData

@@ -4,4 +4,6 @@ pub mod Keeps
 pub mod Refusals
 pub mod Lands
 pub mod Stale
+pub mod Digest
+pub mod Computing
 pub mod Unique

@@ -6,23 +6,25 @@ use mathlib.Core.List.{List}
 use mathlib.Core.Path.{_≡_, refl, sym, ap, _∙_}
 use native.Mathlib.Omega.{arith}
 use lib.ListN.{length}
-use borrow.Author.Tests.{eq-eqb, ne-eqb, lt-ltb, le-ltb}
+use borrow.Author.Tests.{lt-ltb, le-ltb}
 use Rattle.answers.specs.declared.Refusal.{Refusal}
 use Rattle.answers.specs.Numbers.{numberOf}
 use Rattle.answers.proofs.Unique.{number-positive}
-use Rattle.words.specs.Bytes.{four, fourOrZero}
+use Rattle.words.specs.Bytes.{fourOrZero}
 use Rattle.words.proofs.Laws.{four-inside}
 use Rattle.packet.specs.declared.Request.{Request}
 use Rattle.packet.specs.Fields.{dataOf}
 use Rattle.packet.specs.declared.Decoded.the-variants.{Asks}
 use Rattle.packet.specs.Request.{isTrusted, packetNumber, requestOf, Decodes}
 use Rattle.packet.proofs.Laws.{offset-inside, write-long}
-use Rattle.packet.specs.Completion.{success, unsupportedRequest, withData, withoutData}
+use Rattle.packet.specs.declared.Status.{Status}
+use Rattle.packet.specs.declared.Status.the-variants.{Success, Unsupported}
+use Rattle.packet.specs.Completion.{withData, withoutData}
 use Rattle.capture.specs.declared.Capture.{Capture}
 use Rattle.capture.specs.Kept.{captured, completer}
 use Rattle.board.specs.declared.Description.{Description}
 use Rattle.board.specs.declared.Served.{Served}
-use Rattle.board.specs.Description.{Board, badlyDescribed, outOfRange}
+use Rattle.board.specs.Description.{Board, badlyDescribed}
 use Rattle.board.specs.Access.{unsupported, storedBytes, storedOrdinary, afterWrite, readWord}
 use Rattle.board.specs.Serving.{Outcome, completerOf, replies, repliesData, respond, serveNumber, refused, byNumber, serve}
 use Rattle.board.specs.Promise.{lent, seen, shows, over, Serves}
@@ -32,7 +34,7 @@ use Rattle.board.proofs.Laws.{well-described}
 -- ---- a completion, and the board as it then is
 
 module _ (d : Board) (q : Request) (reply : List ℕ) (r : Served) (after : List ℕ) where
-  pub replies-seen : (status : ℕ) → r ≡ done 12 (d .capture) → after ≡ over (withoutData (completerOf d) status (q .requester) (q .tag)) reply
+  pub replies-seen : (status : Status) → r ≡ done 12 (d .capture) → after ≡ over (withoutData (completerOf d) status (q .requester) (q .tag)) reply
       → seen r (d .ordinary .bytes) (d .trusted .bytes) after ≡ shows (replies d status q) reply
   unfolding shows withoutData
   replies-seen status e f = rw (e, f)
@@ -48,35 +50,44 @@ module _ (d : Board) (q : Request) (reply : List ℕ) (r : Served) (after : List
 module _ (d : Description) (kept : Capture) (o or t tr p : List ℕ) (q : Request) (reply : List ℕ) (long : 16 ≤ length p)
     (new : List ℕ) (w : new ≡ fourOrZero p 12) (r : Served) (after : List ℕ) where
   pub written-trusted : (t′ : List ℕ) → isTrusted (q .target) ≡ true → t′ ≡ storedBytes t tr q new → r ≡ done 12 kept
-      → after ≡ over (withoutData (completer kept (d .function)) success (q .requester) (q .tag)) reply
-      → seen r o t′ after ≡ shows (replies (afterWrite (lent d kept o or t tr) q (dataOf p)) success q) reply
+      → after ≡ over (withoutData (completer kept (d .function)) Success (q .requester) (q .tag)) reply
+      → seen r o t′ after ≡ shows (replies (afterWrite (lent d kept o or t tr) q (dataOf p)) Success q) reply
   unfolding afterWrite
   written-trusted t′ is st e f =
-      rw (is, ← (four-inside p 12 (omega arith)), ← w, ← st) (replies-seen (lent d kept o or t′ tr) q reply r after success e f)
+      rw (is, ← (four-inside p 12 (omega arith)), ← w, ← st) (replies-seen (lent d kept o or t′ tr) q reply r after Success e f)
 
   pub written-ordinary : (o′ : List ℕ) (state : Capture) → isTrusted (q .target) ≡ false → o′ ≡ storedOrdinary (d .a) o or q new
       → state ≡ captured kept (q .bus) (q .device) → r ≡ done 12 state
-      → after ≡ over (withoutData (completer state (d .function)) success (q .requester) (q .tag)) reply
-      → seen r o′ t after ≡ shows (replies (afterWrite (lent d kept o or t tr) q (dataOf p)) success q) reply
+      → after ≡ over (withoutData (completer state (d .function)) Success (q .requester) (q .tag)) reply
+      → seen r o′ t after ≡ shows (replies (afterWrite (lent d kept o or t tr) q (dataOf p)) Success q) reply
   unfolding afterWrite
   written-ordinary o′ state is st c e f =
-      rw (is, ← (four-inside p 12 (omega arith)), ← w, ← st, ← c) (replies-seen (lent d state o′ or t tr) q reply r after success e f)
+      rw (is, ← (four-inside p 12 (omega arith)), ← w, ← st, ← c) (replies-seen (lent d state o′ or t tr) q reply r after Success e f)
 
 -- ---- the three ways to respond
 
 module _ (d : Board) (q : Request) (new : List ℕ) where
-  pub respond-unsupported : unsupported (d .description) (d .capture) q ≡ true → respond d q new ≡ replies d unsupportedRequest q
+  pub respond-unsupported : unsupported (d .description) (d .capture) q ≡ true → respond d q new ≡ replies d Unsupported q
   unfolding respond
   respond-unsupported u = rw u
 
   module _ (u : unsupported (d .description) (d .capture) q ≡ false) where
-    pub respond-write : q .writes ≡ true → respond d q new ≡ replies (afterWrite d q new) success q
+    pub respond-write : q .writes ≡ true → respond d q new ≡ replies (afterWrite d q new) Success q
     unfolding respond
     respond-write w = rw (u, w)
 
     pub respond-read : q .writes ≡ false → respond d q new ≡ repliesData d q
     unfolding respond
     respond-read w = rw (u, w)
+
+  number-by : (unsupp writes : Bool) → unsupported (d .description) (d .capture) q ≡ unsupp → q .writes ≡ writes → respond d q new .number ≡ 0
+  number-by true writes u w = rw (respond-unsupported u)
+  number-by false true u w = rw (respond-write u w)
+  number-by false false u w = rw (respond-read u w)
+
+  -- a request that is responded to is served
+  pub respond-number : respond d q new .number ≡ 0
+  respond-number = number-by _ _ refl refl
 
 -- ---- the checks
 

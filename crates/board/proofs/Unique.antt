@@ -21,7 +21,7 @@ same r q a n k = λ i. record { answer = a i; length = n i; capture = k i }
 pub serve-unique : ServeUnique
 serve-unique d p reply r q o t after o′ t′ after′ e f =
     let s : seen r o t after ≡ seen q o′ t′ after′ = e ∙ sym f in (
-      same r q (answer-tells (r .answer) (q .answer) (ap (λ (x : Seen). x .number) s)) (ap (λ (x : Seen). x .length) s) (ap (λ (x : Seen). x .capture) s),
+      same r q (answer-tells (r .answer) (q .answer) (ap (λ (x : Seen). x .number) s)) (ap (λ (x : Seen). x .count) s) (ap (λ (x : Seen). x .capture) s),
       ap (λ (x : Seen). x .ordinary) s,
       ap (λ (x : Seen). x .trusted) s,
       ap (λ (x : Seen). x .reply) s,

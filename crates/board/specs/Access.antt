@@ -16,7 +16,7 @@ use Rattle.capture.specs.declared.Capture.{Capture}
 use Rattle.capture.specs.declared.Capture.the-variants.{Nothing, Number}
 use Rattle.capture.specs.Kept.{captured}
 use Rattle.board.specs.declared.Description.{Description}
-use Rattle.board.specs.Description.{Space, Board}
+use Rattle.board.specs.Description.{Board}
 
 abbrev pub isType0 : Target → Bool
 isType0 Type0 = true
@@ -34,19 +34,20 @@ nothingCaptured (Number bus device) = false
 
 -- the request's bus, device and function are "the captured two and the board's own"
 abbrev pub addressed : Description → Capture → Request → Bool
-addressed d Nothing q = false
-addressed d (Number bus device) q = eqb (q .bus) bus && eqb (q .device) device && eqb (q .function) (d .function)
+addressed description Nothing q = false
+addressed description (Number bus device) q =
+    eqb (q .bus) bus && eqb (q .device) device && eqb (q .function) (description .function)
 
 -- "UR is given, and nothing but the reply changes, for: a Type 1 request; a Type 0 request for another function; a trusted request while
 -- nothing is captured (004, 2.2.9); a trusted request whose bus, device and function aren't the captured two and the board's own (house);
 -- a poisoned write." "Poison on a read is ignored (house). All else succeeds."
 unfoldable pub unsupported : Description → Capture → Request → Bool
-unsupported d kept q =
+unsupported description kept q =
     any
     (isType1 (q .target)
-    ∷ (isType0 (q .target) && not (eqb (q .function) (d .function)))
+    ∷ (isType0 (q .target) && not (eqb (q .function) (description .function)))
     ∷ (isTrusted (q .target) && nothingCaptured kept)
-    ∷ (isTrusted (q .target) && not (addressed d kept q))
+    ∷ (isTrusted (q .target) && not (addressed description kept q))
     ∷ (q .writes && q .poisoned)
     ∷ [])
 
@@ -88,11 +89,11 @@ correlation d = four (d .trusted .bytes) (d .description .b)
 -- never appear in a reply. Full decoding: no two offsets reach the same byte, save through this word.": description, ordinary bytes,
 -- trusted bytes
 unfoldable pub shownWord : Description → List ℕ → List ℕ → Request → List ℕ
-shownWord d ordinary trusted q =
+shownWord description ordinary trusted q =
     shown
     (cond (isTrusted (q .target))
     (four trusted (q .offset))
-    (cond (eqb (q .offset) (d .a)) (four trusted (d .b)) (four ordinary (q .offset))))
+    (cond (eqb (q .offset) (description .a)) (four trusted (description .b)) (four ordinary (q .offset))))
     (q .enables)
 
 -- what a successful read shows

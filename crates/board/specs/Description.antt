@@ -27,10 +27,15 @@ pub record Board : Type 0 where
 -- "a captured device is over 31, or a function number or offset is outside its range": "A [..] a multiple of 4 from 104h to FFCh", "B [..] from
 -- 00Ch to FFCh"
 abbrev pub ranges : Description → Capture → List Bool
-ranges d kept = deviceOver kept ∷ ltb 7 (d .function) ∷ not (placed (d .a) 0x104 0xffc) ∷ not (placed (d .b) 0x00c 0xffc) ∷ []
+ranges description kept =
+    deviceOver kept
+    ∷ ltb 7 (description .function)
+    ∷ not (placed (description .a) 0x104 0xffc)
+    ∷ not (placed (description .b) 0x00c 0xffc)
+    ∷ []
 
 abbrev pub outOfRange : Description → Capture → Bool
-outOfRange d kept = any (ranges d kept)
+outOfRange description kept = any (ranges description kept)
 
 -- "a space or rule space isn't 4,096 bytes"
 abbrev pub wrongSize : ℕ → Bool
@@ -38,11 +43,11 @@ wrongSize size = not (eqb size 4096)
 
 -- the causes of answer 1: the sizes of the ordinary bytes and rules and of the trusted bytes and rules, and the ranges
 abbrev pub causes : ℕ → ℕ → ℕ → ℕ → Description → Capture → List Bool
-causes bytes rules trustedBytes trustedRules d kept =
-    wrongSize bytes ∷ wrongSize rules ∷ wrongSize trustedBytes ∷ wrongSize trustedRules ∷ outOfRange d kept ∷ []
+causes bytes rules trustedBytes trustedRules description kept =
+    wrongSize bytes ∷ wrongSize rules ∷ wrongSize trustedBytes ∷ wrongSize trustedRules ∷ outOfRange description kept ∷ []
 
 abbrev pub badly : ℕ → ℕ → ℕ → ℕ → Description → Capture → Bool
-badly bytes rules trustedBytes trustedRules d kept = any (causes bytes rules trustedBytes trustedRules d kept)
+badly bytes rules trustedBytes trustedRules description kept = any (causes bytes rules trustedBytes trustedRules description kept)
 
 abbrev pub badlyDescribed : Board → Bool
 badlyDescribed d =

@@ -16,11 +16,11 @@ pub record Sized (bytes rules : List ℕ) (q : Request) : Type 0 where
   pub wholeRules : length rules ≡ 4096
   pub inside : q .offset + 4 ≤ 4096
 
-pub record Readable (d : Description) (ordinary trusted : List ℕ) (q : Request) : Type 0 where
+pub record Readable (description : Description) (ordinary trusted : List ℕ) (q : Request) : Type 0 where
   pub wholeOrdinary : length ordinary ≡ 4096
   pub wholeTrusted : length trusted ≡ 4096
   pub inside : q .offset + 4 ≤ 4096
-  pub register : d .b + 4 ≤ 4096
+  pub register : description .b + 4 ≤ 4096
 
 -- the answer to a request that was served
 abbrev pub done : ℕ → Capture → Served
@@ -31,8 +31,8 @@ abbrev pub refusing : Capture → Refusal → Served
 refusing kept refusal = record { answer = Refused refusal; length = 0; capture = kept }
 
 -- what the checks 1 and 2 leave: whole spaces, offsets inside, and a reply with room
-pub record Ready (d : Description) (ordinary ordinaryRules trusted trustedRules : List ℕ) (q : Request) (reply : List ℕ) : Type 0 where
+pub record Ready (description : Description) (ordinary ordinaryRules trusted trustedRules : List ℕ) (q : Request) (reply : List ℕ) : Type 0 where
   pub sizedOrdinary : Sized ordinary ordinaryRules q
   pub sizedTrusted : Sized trusted trustedRules q
-  pub register : d .b + 4 ≤ 4096
+  pub register : description .b + 4 ≤ 4096
   pub room : 16 ≤ length reply

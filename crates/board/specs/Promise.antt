@@ -7,13 +7,13 @@ use Rattle.answers.specs.Numbers.{answerOf}
 use Rattle.capture.specs.declared.Capture.{Capture}
 use Rattle.board.specs.declared.Description.{Description}
 use Rattle.board.specs.declared.Served.{Served}
-use Rattle.board.specs.Description.{Space, Board}
+use Rattle.board.specs.Description.{Board}
 use Rattle.board.specs.Serving.{Outcome, serve}
 
--- number, length and capture as answered, and the three lent buffers that can be written
+-- as answered: the number, the count of reply bytes written, the capture; and the three lent buffers that can be written
 pub record Seen : Type 0 where
   pub number : ℕ
-  pub length : ℕ
+  pub count : ℕ
   pub capture : Capture
   pub ordinary : List ℕ
   pub trusted : List ℕ
@@ -21,9 +21,9 @@ pub record Seen : Type 0 where
 
 -- the board that a caller lends: its description and capture, and the four buffers as they are
 abbrev pub lent : Description → Capture → List ℕ → List ℕ → List ℕ → List ℕ → Board
-lent d kept ordinary ordinaryRules trusted trustedRules =
+lent description kept ordinary ordinaryRules trusted trustedRules =
     record {
-      description = d;
+      description = description;
       capture = kept;
       ordinary = record { bytes = ordinary; rules = ordinaryRules };
       trusted = record { bytes = trusted; rules = trustedRules };
@@ -32,18 +32,18 @@ lent d kept ordinary ordinaryRules trusted trustedRules =
 -- what a call has shown: its result, and the ordinary space, the trusted space and the reply at its end
 abbrev pub seen : Served → List ℕ → List ℕ → List ℕ → Seen
 seen r ordinary trusted reply =
-    record { number = answerOf (r .answer); length = r .length; capture = r .capture; ordinary = ordinary; trusted = trusted; reply = reply }
+    record { number = answerOf (r .answer); count = r .length; capture = r .capture; ordinary = ordinary; trusted = trusted; reply = reply }
 
 -- "Reply bytes past the written ones stay as lent"
 abbrev pub over : List ℕ → List ℕ → List ℕ
-over written reply = written ++ drop (lib.ListN.length written) reply
+over written reply = written ++ drop (length written) reply
 
 -- what it should show, from an outcome and the reply as lent
 unfoldable pub shows : Outcome → List ℕ → Seen
 shows o reply =
     record {
       number = o .number;
-      length = lib.ListN.length (o .written);
+      count = length (o .written);
       capture = o .after .capture;
       ordinary = o .after .ordinary .bytes;
       trusted = o .after .trusted .bytes;
@@ -52,4 +52,4 @@ shows o reply =
 
 -- the promise of `board::serve`: board and packet and reply as lent, the result, and the three buffers at its end
 abbrev pub Serves : Board → List ℕ → List ℕ → Served → List ℕ → List ℕ → List ℕ → Type 0
-Serves d p reply r ordinary trusted after = seen r ordinary trusted after ≡ shows (serve d p (lib.ListN.length reply)) reply
+Serves d p reply r ordinary trusted after = seen r ordinary trusted after ≡ shows (serve d p (length reply)) reply

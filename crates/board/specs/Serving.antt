@@ -9,7 +9,9 @@ use Rattle.packet.specs.declared.Id.{Id}
 use Rattle.packet.specs.declared.Request.{Request}
 use Rattle.packet.specs.Fields.{dataOf}
 use Rattle.packet.specs.Request.{requestOf, packetChecks}
-use Rattle.packet.specs.Completion.{success, unsupportedRequest, withData, withoutData}
+use Rattle.packet.specs.declared.Status.{Status}
+use Rattle.packet.specs.declared.Status.the-variants.{Success, Unsupported}
+use Rattle.packet.specs.Completion.{withData, withoutData}
 use Rattle.capture.specs.Kept.{completer}
 use Rattle.board.specs.Description.{Board, badlyDescribed}
 use Rattle.board.specs.Access.{unsupported, afterWrite, readWord}
@@ -24,7 +26,7 @@ abbrev pub completerOf : Board → Id
 completerOf d = completer (d .capture) (d .description .function)
 
 -- "Otherwise 12 bytes": a board as it is afterwards, with a completion that has no data
-abbrev pub replies : Board → ℕ → Request → Outcome
+abbrev pub replies : Board → Status → Request → Outcome
 replies d status q = record { number = 0; after = d; written = withoutData (completerOf d) status (q .requester) (q .tag) }
 
 -- "Successful read, 16 bytes"
@@ -36,8 +38,8 @@ repliesData d q =
 unfoldable pub respond : Board → Request → List ℕ → Outcome
 respond d q new =
     cond (unsupported (d .description) (d .capture) q)
-    (replies d unsupportedRequest q)
-    (cond (q .writes) (replies (afterWrite d q new) success q) (repliesData d q))
+    (replies d Unsupported q)
+    (cond (q .writes) (replies (afterWrite d q new) Success q) (repliesData d q))
 
 -- "1 [a badly described board]; 2 the reply is under 16 bytes", then the packet's own
 abbrev pub serveChecks : Board → List ℕ → ℕ → List Check

@@ -11,12 +11,13 @@ use super::Served;
 use answers::Answer;
 use capture::Capture;
 use packet::Request;
+use packet::Status;
 
 // A completion without data.
 pub(super) fn reply_status(
     description: Description,
     kept: Capture,
-    status: u8,
+    status: Status,
     request: Request,
     reply: &mut [u8],
 ) -> Served

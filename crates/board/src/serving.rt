@@ -7,7 +7,7 @@ ghost use Rattle.packet.specs.Fields.{dataOf};
 ghost use Rattle.capture.specs.Kept.{forgotten};
 ghost use Rattle.board.specs.Serving.{respond, replies};
 ghost use Rattle.board.specs.Access.{afterWrite};
-ghost use Rattle.packet.specs.Completion.{success};
+ghost use Rattle.packet.specs.declared.Status.the-variants.{Success};
 ghost use Rattle.board.specs.Promise.{lent, seen, shows, Serves};
 ghost use Rattle.board.specs.Inner.{Ready, refusing};
 use super::Description;
@@ -20,10 +20,7 @@ use answers::Refusal;
 use capture::Capture;
 use packet::Decoded;
 use packet::Request;
-
-const SUCCESS: u8 = 0x00;
-
-const UNSUPPORTED_REQUEST: u8 = 0x20;
+use packet::Status;
 
 const REPLY: usize = 16;
 
@@ -52,17 +49,17 @@ fn write(
 ) -> Served
     requires { ⌜ Ready description (now ordinary) (now «ordinary_rules») (now trusted) (now «trusted_rules») request (now reply) ⌝ }
     requires { ⌜ 16 ≤ length (now packet) ⌝ }
-    ensures { λ r. ⌜ seen r (now (ordinary .exit)) (now (trusted .exit)) (now (reply .exit)) ≡ shows (replies (afterWrite (lent description kept (now (ordinary .entry)) (now («ordinary_rules» .entry)) (now (trusted .entry)) (now («trusted_rules» .entry))) request (dataOf (now (packet .entry)))) success request) (now (reply .entry)) ⌝ }
+    ensures { λ r. ⌜ seen r (now (ordinary .exit)) (now (trusted .exit)) (now (reply .exit)) ≡ shows (replies (afterWrite (lent description kept (now (ordinary .entry)) (now («ordinary_rules» .entry)) (now (trusted .entry)) (now («trusted_rules» .entry))) request (dataOf (now (packet .entry)))) Success request) (now (reply .entry)) ⌝ }
 {
     let new = words::four(packet, 12);
     let target = request.target;
     if target.is_trusted() {
         access::store(trusted, trusted_rules, request, new);
-        return completing::reply_status(description, kept, SUCCESS, request, reply);
+        return completing::reply_status(description, kept, Status::Success, request, reply);
     }
     access::store_ordinary(description.a, ordinary, ordinary_rules, request, new);
     let state = kept.capture(request.bus, request.device);
-    completing::reply_status(description, state, SUCCESS, request, reply)
+    completing::reply_status(description, state, Status::Success, request, reply)
 }
 
 // A request without a fault: unsupported, a write or a read.
@@ -82,7 +79,7 @@ fn respond_to(
     ensures { λ r. ⌜ seen r (now (ordinary .exit)) (now (trusted .exit)) (now (reply .exit)) ≡ shows (respond (lent description kept (now (ordinary .entry)) (now («ordinary_rules» .entry)) (now (trusted .entry)) (now («trusted_rules» .entry))) request (dataOf (now (packet .entry)))) (now (reply .entry)) ⌝ }
 {
     if access::is_unsupported(description, kept, request) {
-        return completing::reply_status(description, kept, UNSUPPORTED_REQUEST, request, reply);
+        return completing::reply_status(description, kept, Status::Unsupported, request, reply);
     }
     let writes = request.writes;
     if writes {

@@ -25,13 +25,6 @@ module _ {kind : Kind} {s room : List ℕ} {r : Walked} {after : List ℕ} where
   served-lists (broken h k n a) z l = absurd (omega (arith, a .given, z))
   served-lists (listed h k other o a) z l = subst (λ (c : List ℕ). Lists c room r after) (legal-unique o l) a
 
-  -- a list with no chain is not served
-  pub unserved : Walks kind s room r after → NoChain (describe kind) s → numberGiven r ≡ 0 → ⊥
-  unserved (misdescribed m a) n z = omega (arith, a .given, z)
-  unserved (roomless h m a) n z = omega (arith, a .given, z)
-  unserved (broken h k m a) n z = omega (arith, a .given, z)
-  unserved (listed h k chain l a) n z = n chain l
-
 pub served-iff-legal : ServedIffLegal
 served-iff-legal kind s room r after (misdescribed n a) size roomy = absurd (n size)
 served-iff-legal kind s room r after (roomless h n a) size roomy = absurd (n roomy)

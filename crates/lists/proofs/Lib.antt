@@ -2,8 +2,10 @@ pub mod OneChain
 pub mod NoRepeats
 pub mod Pointers
 pub mod Maxima
+pub mod Attained
 pub mod Reaching
 pub mod Walking
 pub mod Decides
+pub mod Numbers
 pub mod Unique
 pub mod Traps

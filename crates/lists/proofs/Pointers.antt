@@ -13,7 +13,7 @@ use Rattle.lists.specs.declared.Kind.{Kind}
 use Rattle.lists.specs.declared.Kind.the-variants.{Compatible, Extended, Trusted}
 use Rattle.lists.specs.Table.{ListRule, describe, compatibleStart, extendedStart, trustedStart, compatibleNext, extendedNext, unlessEmpty}
 use Rattle.lists.specs.Chain.{dropped, first, follows}
-use Rattle.lists.specs.Chase.{Raw, Word, Header, pointerIn}
+use Rattle.lists.specs.Inner.{Raw, Word, Header, pointerIn}
 
 -- every element of a lent space is a byte
 abbrev pub Bytes : List ℕ → Type 0

@@ -12,7 +12,7 @@ use Rattle.lists.specs.Chain.{Legal, Legal.ends, Legal.goes, HasChain, N
 use Rattle.lists.specs.declared.Kind.{Kind}
 use Rattle.lists.specs.declared.chase.Step.the-variants.{Next, End, Fault}
 use Rattle.lists.specs.declared.chase.Chased.the-variants.{Ended, Broken, Full}
-use Rattle.lists.specs.Chase.{Reached, Underway, Leads, Chases, Word}
+use Rattle.lists.specs.Inner.{Reached, Underway, Leads, Chases, Word}
 
 module _ {d : ListRule} {s : List ℕ} where
   pub reached-start : Reached d s [] (first d s)

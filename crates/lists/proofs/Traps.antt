@@ -1,109 +1,156 @@
--- THEOREMS. Walks that fall into a trap do not meet the promise, each with a space that shows it: one that reports a count other than its
--- chain's length, one that tests loops only against the start, one that forgets to drop a pointer's bottom two bits, and two that look at a
--- pointer where the list counts as empty. Assumes nothing.
-use Prim.Native.Nat.{ℕ, _+_, _≤_}
-use mathlib.Core.List.{List, [], _∷_}
+-- THEOREMS. No walk that falls into a trap meets the promise, whatever the list, the space and the room: one that reports a count other than
+-- its chain's length, one that goes on where the list comes back to an offset it has passed, at the start or elsewhere, one that lists an
+-- offset whose bottom two bits are not dropped, one that looks at a pointer where the list counts as empty. Assumes nothing.
+use Prim.Native.Nat.{ℕ, zero, suc, _+_, _%_, _≤_, _<_}
+use mathlib.Core.List.{List, []}
 use mathlib.Core.Path.{_≡_, refl, ap, subst}
 use native.Mathlib.Omega.{arith}
-use borrow.Author.Tests.{eqb-false}
 use lib.Dec.{lit≤}
-use lib.ListN.{length, getD, drop, set, replicate}
-use Rattle.answers.specs.declared.Answer.the-variants.{Done}
+use lib.ListN.{length, getD, drop, set, replicate, List·getD-append}
+use borrow.Author.Tests.{eq-eqb, eqb-false}
+use Rattle.words.specs.Bytes.{byte}
+use Rattle.words.specs.Fields.{bit, bits, word}
+use Rattle.lists.specs.declared.Kind.{Kind}
 use Rattle.lists.specs.declared.Kind.the-variants.{Compatible, Extended}
 use Rattle.lists.specs.declared.Walked.{Walked}
-use Rattle.lists.specs.Table.{ListRule, describe, compatibleStart, extendedStart, compatibleNext, extendedNext}
-use Rattle.lists.specs.Chain.{Legal, Legal.ends, Legal.goes, HasChain, NoChain, first, follows}
-use Rattle.lists.specs.Walks.{Walks, numberGiven}
+use Rattle.lists.specs.Table.{ListRule, describe, compatibleStart, extendedStart, extendedNext}
+use Rattle.lists.specs.Chain.{Legal, Legal.ends, Legal.goes, HasChain, NoChain, dropped, first, follows}
+use Rattle.lists.specs.Walks.{WholeSpace, Roomy, Lists, Walks, Walks.misdescribed, Walks.roomless, Walks.broken, Walks.listed, numberGiven}
 use Rattle.lists.proofs.OneChain.{legal-unique}
-use Rattle.lists.proofs.Decides.{served-lists, unserved, served-iff-legal}
+use Rattle.lists.proofs.Decides.{served-lists, served-iff-legal}
 
--- a walk that is served, with a count
-abbrev pub served : ℕ → Walked
-served n = record { answer = Done; count = n }
+-- the offset that following the pointers n times leads to
+abbrev pub visit : ListRule → List ℕ → ℕ → ℕ → ℕ
+visit list s zero pointer = pointer
+visit list s (suc n) pointer = visit list s n (follows list s pointer)
 
--- a space of zeros with bytes at an offset, as headers are written into it
-abbrev pub blank : List ℕ
-blank = replicate 4096 0
+-- the list comes back: it has not ended by the j-th offset, which is the i-th again
+pub record ComesBack (list : ListRule) (s : List ℕ) (i j : ℕ) : Type 0 where
+  pub later : i < j
+  pub goesOn : (k : ℕ) → k ≤ j → visit list s k (first list s) ≡ 0 → ⊥
+  pub again : visit list s j (first list s) ≡ visit list s i (first list s)
 
-abbrev pub header : ℕ → ℕ → ℕ → ℕ → ℕ → List ℕ → List ℕ
-header at a b c d s = set (set (set (set s at a) (at + 1) b) (at + 2) c) (at + 3) d
+-- the statements, each of any walk. "a walk that reports a count other than its chain's length"
+abbrev pub WrongCount : Type 0
+WrongCount =
+    (kind : Kind) (s room chain : List ℕ) (r : Walked) (after : List ℕ) → WholeSpace s → Roomy kind room → HasChain (describe kind) s chain
+    → (r .count ≡ length chain → ⊥) → Walks kind s room r after → ⊥
 
--- one header at 100h
-pub single : List ℕ
-single = header 0x100 0x23 0x00 0x01 0x00 blank
+-- "Testing loops only against the start": wherever a list comes back to, it has no chain, and a walk of it is not served
+abbrev pub LoopBroken : Type 0
+LoopBroken =
+    (kind : Kind) (s room : List ℕ) (r : Walked) (after : List ℕ) (i j : ℕ) → ComesBack (describe kind) s i j → Walks kind s room r after
+    → numberGiven r ≡ 0 → ⊥
 
--- "a walk that reports a count other than its chain's length"
-pub wrong-count : (room after : List ℕ) → Walks Extended single room (served 2) after → ⊥
-unfolding single first follows extendedStart extendedNext
-wrong-count room after w =
-    let l : HasChain (describe Extended) single (0x100 ∷ []) = goes (eqb-false 0x100 0 refl) (lit≤ tt) (ends refl refl) refl in
-    omega (arith, served-lists w refl l .counted)
+-- "The bottom two bits of every pointer are dropped": a walk that is served lists multiples of 4 only
+abbrev pub OffsetsAligned : Type 0
+OffsetsAligned =
+    (kind : Kind) (s room : List ℕ) (r : Walked) (after : List ℕ) → Walks kind s room r after → (index : ℕ) → index < r .count
+    → getD after index 0 % 4 ≡ 0
 
--- 100h to 140h to 180h to 140h
+-- "a list that the table calls empty counts as having start 0, whatever its pointers hold": a walk of it is served, lists nothing, and leaves the
+-- room as it was
+abbrev pub EmptyLists : Type 0
+EmptyLists =
+    (s room : List ℕ) (r : Walked) (after : List ℕ) → WholeSpace s
+    → (bit 4 (byte s 0x06) ≡ 0 → Roomy Compatible room → Walks Compatible s room r after → (numberGiven r ≡ 0) × (r .count ≡ 0) × (after ≡ room))
+    × (bits 15 0 (word s 0x100) ≡ 0 → Roomy Extended room → Walks Extended s room r after → (numberGiven r ≡ 0) × (r .count ≡ 0) × (after ≡ room))
+
+-- ---- the count
+
+pub wrong-count : WrongCount
+wrong-count kind s room chain r after whole roomy l other w =
+    other (served-lists w (served-iff-legal kind s room r after w whole roomy .0 .1 (chain, l)) l .counted)
+
+-- ---- loops
+
+module _ {list : ListRule} {s : List ℕ} where
+  -- past n offsets of a chain, a chain is left that is n shorter
+  left : (n : ℕ) {pointer : ℕ} {chain : List ℕ} → Legal list s pointer chain → ((k : ℕ) → k ≤ n → visit list s k pointer ≡ 0 → ⊥)
+      → (rest : List ℕ) × Legal list s (visit list s n pointer) rest × (length chain ≡ n + length rest)
+  left zero {chain = chain} l on = (chain, l, omega arith)
+  left (suc n) (ends z e) on = absurd (on 0 (omega arith) z)
+  left (suc n) (goes {rest = rest} m h l e) on =
+      let t = left n l (λ k small. on (suc k) (omega arith)) in
+      (t .0, t .1, omega (arith, ap length e, t .2))
+
+  pub comes-back-unending : (i j : ℕ) → ComesBack list s i j → NoChain list s
+  comes-back-unending i j b chain l =
+      let near = left i l (λ k small. b .goesOn k (omega (arith, b .later))) in
+      let far = left j l (b .goesOn) in
+      let same = legal-unique (near .1) (subst (λ (p : ℕ). Legal list s p (far .0)) (b .again) (far .1)) in
+      omega (arith, near .2, far .2, ap length same, b .later)
+
+pub loop-broken : LoopBroken
+loop-broken kind s room r after i j b (misdescribed n a) z = omega (arith, a .given, z)
+loop-broken kind s room r after i j b (roomless whole n a) z = omega (arith, a .given, z)
+loop-broken kind s room r after i j b (broken whole roomy n a) z = omega (arith, a .given, z)
+loop-broken kind s room r after i j b (listed whole roomy chain l a) z = comes-back-unending i j b chain l
+
+-- "100h to 140h to 180h to 140h never comes back to 100h": the second offset and the fourth
 pub looping : List ℕ
-looping = header 0x100 0x23 0x00 0x01 0x14 (header 0x140 0x0b 0x00 0x01 0x18 (header 0x180 0x0b 0x00 0x01 0x14 blank))
+looping =
+    let header : ℕ → ℕ → List ℕ → List ℕ = λ at high s. set (set (set s at 0x0b) (at + 2) 0x01) (at + 3) high in
+    header 0x100 0x14 (header 0x140 0x18 (header 0x180 0x14 (replicate 4096 0)))
 
--- a chain from a pointer goes on at what that points to
-goes-on : (d : ListRule) (s : List ℕ) (at to : ℕ) → (at ≡ 0 → ⊥) → follows d s at ≡ to → {chain : List ℕ} → Legal d s at chain
-    → (rest : List ℕ) × Legal d s to rest × (chain ≡ at ∷ rest)
-goes-on d s at to n e (ends z f) = absurd (n z)
-goes-on d s at to n e (goes {rest = rest} m h l f) = (rest, subst (λ (p : ℕ). Legal d s p rest) e l, f)
-
--- "Testing loops only against the start: 100h to 140h to 180h to 140h never comes back to 100h."
-pub loop-broken : (room after : List ℕ) (r : Walked) → 960 ≤ length room → Walks Extended looping room r after → numberGiven r ≡ 7
+looping-goes-on : (k : ℕ) → k ≤ 3 → visit (describe Extended) looping k (first (describe Extended) looping) ≡ 0 → ⊥
 unfolding looping first follows extendedStart extendedNext
-loop-broken room after r roomy w = served-iff-legal Extended looping room r after w refl roomy .1 .1 no-chain
-  where
-    no-chain : NoChain (describe Extended) looping
-    no-chain chain l =
-        let at140 = goes-on (describe Extended) looping 0x100 0x140 (eqb-false 0x100 0 refl) refl l in
-        let at180 = goes-on (describe Extended) looping 0x140 0x180 (eqb-false 0x140 0 refl) refl (at140 .1) in
-        let again = goes-on (describe Extended) looping 0x180 0x140 (eqb-false 0x180 0 refl) refl (at180 .1) in
-        omega (arith, ap length (at180 .2), ap length (again .2), ap length (legal-unique (at140 .1) (again .1)))
+looping-goes-on zero h = eqb-false 0x100 0 refl
+looping-goes-on (suc zero) h = eqb-false 0x140 0 refl
+looping-goes-on (suc (suc zero)) h = eqb-false 0x180 0 refl
+looping-goes-on (suc (suc (suc zero))) h = eqb-false 0x140 0 refl
+looping-goes-on (suc (suc (suc (suc k)))) h = absurd (omega arith)
 
--- P12: the header at 100h points to itself
-pub selfPointing : List ℕ
-selfPointing = header 0x100 0x23 0x00 0x01 0x10 blank
+pub looping-comes-back : ComesBack (describe Extended) looping 1 3
+unfolding looping first follows extendedStart extendedNext
+looping-comes-back = record { later = lit≤ tt; goesOn = looping-goes-on; again = refl }
 
-pub self-pointing-broken : (room after : List ℕ) (r : Walked) → 960 ≤ length room → Walks Extended selfPointing room r after → numberGiven r ≡ 7
-unfolding selfPointing first follows extendedStart extendedNext
-self-pointing-broken room after r roomy w = served-iff-legal Extended selfPointing room r after w refl roomy .1 .1 no-chain
-  where
-    no-chain : NoChain (describe Extended) selfPointing
-    no-chain chain l =
-        let again = goes-on (describe Extended) selfPointing 0x100 0x100 (eqb-false 0x100 0 refl) refl l in
-        omega (arith, ap length (again .2), ap length (legal-unique l (again .1)))
+-- ---- bottom bits
 
--- 100h points to 143h, which is 140h
-pub unaligned : List ℕ
-unaligned = header 0x100 0x23 0x00 0x31 0x14 blank
+dropped-aligned : (pointer : ℕ) → dropped pointer % 4 ≡ 0
+dropped-aligned pointer = omega arith
 
--- one that forgets to drop the bottom two bits lists 143h
-pub undropped : (room : List ℕ) → Walks Extended unaligned room (served 2) (0x100 ∷ 0x143 ∷ drop 2 room) → ⊥
-unfolding unaligned first follows extendedStart extendedNext
-undropped room w =
-    let l : HasChain (describe Extended) unaligned (0x100 ∷ 0x140 ∷ []) =
-    goes (eqb-false 0x100 0 refl) (lit≤ tt) (goes (eqb-false 0x140 0 refl) (lit≤ tt) (ends refl refl) refl) refl in
-    omega (arith, ap (λ (room : List ℕ). getD room 1 0) (served-lists w refl l .listed))
+follows-aligned : (list : ListRule) (s : List ℕ) (at : ℕ) → follows list s at % 4 ≡ 0
+unfolding follows
+follows-aligned list s at = dropped-aligned (list .next s at)
 
--- byte 34h holds 40h, and bit 4 of byte 06h is 0
-pub absent : List ℕ
-absent = set blank 0x34 0x40
+first-aligned : (list : ListRule) (s : List ℕ) → first list s % 4 ≡ 0
+unfolding first
+first-aligned list s = dropped-aligned (list .start s)
 
--- one that looks at byte 34h where the compatible list counts as empty
-pub compatible-empty-listed : (room : List ℕ) → Walks Compatible absent room (served 1) (0x40 ∷ drop 1 room) → ⊥
-unfolding absent first follows compatibleStart compatibleNext
-compatible-empty-listed room w =
-    let l : HasChain (describe Compatible) absent [] = ends refl refl in
-    omega (arith, served-lists w refl l .counted)
+module _ {list : ListRule} {s : List ℕ} where
+  chain-aligned : {pointer : ℕ} {chain : List ℕ} → pointer % 4 ≡ 0 → Legal list s pointer chain → (index : ℕ) → index < length chain
+      → getD chain index 0 % 4 ≡ 0
+  chain-aligned a (ends z e) index small = absurd (omega (arith, ap length e))
+  chain-aligned a (goes n h l e) zero small = rw e a
+  chain-aligned {pointer} a (goes {rest = rest} n h l e) (suc index) small =
+      rw e (chain-aligned (follows-aligned list s pointer) l index (omega (arith, ap length e)))
 
--- the ID at 100h is 0000h, and its header points on to 140h
-pub nameless : List ℕ
-nameless = header 0x100 0x00 0x00 0x01 0x14 blank
+listed-aligned : (kind : Kind) (s room chain : List ℕ) (r : Walked) (after : List ℕ) → HasChain (describe kind) s chain → Lists chain room r after
+    → (index : ℕ) → index < r .count → getD after index 0 % 4 ≡ 0
+listed-aligned kind s room chain r after l a index small =
+    let inside : index < length chain = omega (arith, a .counted) in
+    rw (a .listed, List·getD-append chain (drop (length chain) room) 0 index inside)
+    (chain-aligned (first-aligned (describe kind) s) l index inside)
 
--- one that looks at that pointer where the extended list counts as empty
-pub extended-empty-listed : (room : List ℕ) → Walks Extended nameless room (served 2) (0x100 ∷ 0x140 ∷ drop 2 room) → ⊥
-unfolding nameless first follows extendedStart extendedNext
-extended-empty-listed room w =
-    let l : HasChain (describe Extended) nameless [] = ends refl refl in
-    omega (arith, served-lists w refl l .counted)
+pub offsets-aligned : OffsetsAligned
+offsets-aligned kind s room r after (misdescribed n a) index small = absurd (omega (arith, a .none))
+offsets-aligned kind s room r after (roomless whole n a) index small = absurd (omega (arith, a .none))
+offsets-aligned kind s room r after (broken whole roomy n a) index small = absurd (omega (arith, a .none))
+offsets-aligned kind s room r after (listed whole roomy chain l a) index small = listed-aligned kind s room chain r after l a index small
+
+-- ---- lists that count as empty
+
+nothing-listed : (kind : Kind) (s room : List ℕ) (r : Walked) (after : List ℕ) → WholeSpace s → Roomy kind room → HasChain (describe kind) s []
+    → Walks kind s room r after → (numberGiven r ≡ 0) × (r .count ≡ 0) × (after ≡ room)
+nothing-listed kind s room r after whole roomy l w =
+    let z = served-iff-legal kind s room r after w whole roomy .0 .1 ([], l) in
+    let a = served-lists w z l in
+    (z, a .counted, a .listed)
+
+pub empty-lists : EmptyLists
+unfolding first compatibleStart extendedStart
+empty-lists s room r after whole = (
+  (λ e roomy. nothing-listed Compatible s room r after whole roomy (ends (rw (eq-eqb (bit 4 (byte s 0x06)) 0 e)) refl)),
+  (λ e roomy. nothing-listed Extended s room r after whole roomy (ends (rw (eq-eqb (bits 15 0 (word s 0x100)) 0 e)) refl)),
+)

@@ -20,7 +20,7 @@ use Rattle.lists.specs.declared.chase.Chased.the-variants.{Ended, Broken
 use Rattle.lists.specs.Table.{describe}
 use Rattle.lists.specs.Chain.{NoChain, first}
 use Rattle.lists.specs.Walks.{WholeSpace, Roomy, Refuses, Walks, Walks.listed, Walks.broken}
-use Rattle.lists.specs.Chase.{Word, Underway, Chases, Logged, Answers}
+use Rattle.lists.specs.Inner.{Word, Underway, Chases, Logged, Answers}
 use Rattle.lists.proofs.chase.Chased.{the-type}
 use Rattle.lists.proofs.Pointers.{Bytes}
 use Rattle.lists.proofs.Maxima.{chain-maximum}

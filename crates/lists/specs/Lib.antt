@@ -1,4 +1,4 @@
 pub mod Table
 pub mod Chain
 pub mod Walks
-pub mod Chase
+pub mod Inner

@@ -3,7 +3,7 @@ use crate::Kind;
 use crate::table;
 ghost use Prim.Native.Nat.{_*_, _≤_};
 ghost use Rattle.lists.specs.Table.{describe};
-ghost use Rattle.lists.specs.Chase.{Leads, Underway, Chases};
+ghost use Rattle.lists.specs.Inner.{Leads, Underway, Chases};
 
 // Where a pointer leads: "the next offset, the end, or a fault".
 pub(crate) enum Step {

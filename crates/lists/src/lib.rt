@@ -4,12 +4,15 @@
 use answers::Answer;
 use answers::Refusal;
 use chase::Chased;
+pub use table::COMPATIBLE_MAXIMUM;
+pub use table::EXTENDED_MAXIMUM;
+pub use table::TRUSTED_MAXIMUM;
 ghost use mathlib.Core.Path.{_≡_};
 ghost use Prim.Native.Nat.{_*_, _≤_, _<_};
 ghost use lib.ListN.{length};
 ghost use Rattle.lists.specs.Table.{describe};
 ghost use Rattle.lists.specs.Walks.{Walks, WholeSpace, Roomy};
-ghost use Rattle.lists.specs.Chase.{Underway, Logged, Answers};
+ghost use Rattle.lists.specs.Inner.{Underway, Logged, Answers};
 
 mod chase; // chase.rt: a chain is followed, a step at a time
 mod logs; // logs.rt: offsets are copied from one list of them to another
@@ -29,9 +32,9 @@ pub struct Walked {
 }
 
 // A first log holds the longest compatible chain, and most others; a second holds the longest of all.
-const SHORT: usize = table::COMPATIBLE_MAXIMUM;
+const SHORT: usize = COMPATIBLE_MAXIMUM;
 
-const LONG: usize = table::TRUSTED_MAXIMUM;
+const LONG: usize = TRUSTED_MAXIMUM;
 
 // Lists the offsets of a list's headers in `room`, in order.
 pub fn walk(kind: Kind, space: &[u8], room: &mut [u16]) -> Walked

@@ -5,7 +5,7 @@ ghost use Prim.Native.Nat.{_*_, _≤_, _<_};
 ghost use Rattle.lists.specs.Table.{describe, compatibleStart, extendedStart, trustedStart};
 ghost use Rattle.lists.specs.Chain.{dropped, first, follows};
 ghost use Rattle.lists.specs.Walks.{WholeSpace};
-ghost use Rattle.lists.specs.Chase.{Raw, Word, Header, pointerIn};
+ghost use Rattle.lists.specs.Inner.{Raw, Word, Header, pointerIn};
 
 // The compatible list: a bit of the status byte says that there is one, and a byte points to its first header.
 const STATUS: usize = 0x06;
@@ -16,21 +16,21 @@ const COMPATIBLE_START: usize = 0x34;
 
 const COMPATIBLE_FLOOR: u32 = 0x040;
 
-pub(crate) const COMPATIBLE_MAXIMUM: usize = 48;
+pub const COMPATIBLE_MAXIMUM: usize = 48;
 
 // The extended list: its first header has a fixed place, and an ID of 0 says that there is none.
 const EXTENDED_START: usize = 0x100;
 
 const EXTENDED_FLOOR: u32 = 0x100;
 
-const EXTENDED_MAXIMUM: usize = 960;
+pub const EXTENDED_MAXIMUM: usize = 960;
 
 // The trusted list: a word points to its first header.
 const TRUSTED_START: usize = 0x004;
 
 const TRUSTED_FLOOR: u32 = 0x008;
 
-pub(crate) const TRUSTED_MAXIMUM: usize = 1022;
+pub const TRUSTED_MAXIMUM: usize = 1022;
 
 pub(crate) fn floor(kind: Kind) -> u32
     ensures { λ r. ⌜ r ≡ describe kind .floor ⌝ }

@@ -1,21 +1,20 @@
 -- Laws of the packet's fields and checks, for the proofs of this crate and above. Assumes nothing.
-use Prim.Native.Nat.{ℕ, suc, _+_, _*_, _/_, _%_, _^_, _<_, _≤_}
+use Prim.Native.Nat.{ℕ, _+_, _*_, _%_, _<_, _≤_}
 use mathlib.Core.Bool.{Bool, true, false, not, cond, _||_}
-use mathlib.Core.List.{List, [], _∷_}
+use mathlib.Core.List.{List, [], _∷_, List·Memᴰ.List·Memᴰ·head, List·Memᴰ.List·Memᴰ·tail}
 use mathlib.Core.Path.{_≡_, refl, sym, ap, ap₂, _∙_}
 use native.Mathlib.Nat.{mod-eq-of-lt}
 use native.Mathlib.Omega.{arith}
 use lib.Bits.{bitAnd, bitOr, and-mask, mask-lt, and-high, or-shifted}
-use lib.Dec.{eqb, ltb}
+use lib.Dec.{eqb}
 use lib.ListN.{length}
 use borrow.Author.Tests.{eq-eqb, ne-eqb, lt-ltb, le-ltb, eqb-true, not-false}
-use Rattle.answers.proofs.Checks.{none-applies}
-use Rattle.packet.specs.declared.TypeCode.{TypeCode}
+use Rattle.answers.proofs.Checks.{Positive, none-applies}
 use Rattle.packet.specs.declared.TypeCode.the-variants.{Known, Unknown}
 use Rattle.words.specs.Bytes.{byte}
 use Rattle.packet.specs.declared.Target.{Target}
 use Rattle.packet.specs.declared.Target.the-variants.{Type0, Type1, Trusted}
-use Rattle.packet.specs.Fields.{typeCode, typeOf, digest, lengthField, offsetOf, wholeLength, wrongField, traffic, attributes, lastEnables}
+use Rattle.packet.specs.Fields.{typeCode, typeOf, digest, lengthField, offsetOf, wholeLength, wrongField}
 use Rattle.packet.specs.Request.{typed, writesOf, packetChecks, packetNumber, requestOf, targetOf, isTrusted, trusted}
 use Rattle.packet.specs.Inner.{KnownHeader}
 
@@ -84,11 +83,15 @@ pub device-inside : (p : List ℕ) → requestOf p .device ≤ 31
 unfolding requestOf
 device-inside p = omega arith
 
+-- no check has the number 0
+pub positive : (p : List ℕ) → Positive (packetChecks p)
+positive p = omega arith
+
 -- a packet without a fault is as long as its type and digest bit say; a write has its data
 pub whole-is : (p : List ℕ) → packetNumber p ≡ 0 → length p ≡ wholeLength (writesOf (typed p)) (byte p 2)
 whole-is p e =
-    let n = none-applies (packetChecks p) ((λ h. omega arith), ((λ h. omega arith), ((λ h. omega arith), ((λ h. omega arith), tt)))) e in
-    eqb-true _ _ (not-false _ (n .1 .1 .0))
+    let n = none-applies (packetChecks p) (positive p) e in
+    eqb-true _ _ (not-false _ (n _ (List·Memᴰ·tail (List·Memᴰ·tail (List·Memᴰ·head refl)))))
 
 pub write-long : (p : List ℕ) → packetNumber p ≡ 0 → requestOf p .writes ≡ true → 16 ≤ length p
 unfolding requestOf

@@ -1,2 +1,4 @@
 pub mod Laws
+pub mod Numbers
+pub mod Digest
 pub mod Unique

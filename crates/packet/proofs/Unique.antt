@@ -3,14 +3,14 @@ use Prim.Native.Nat.{ℕ}
 use mathlib.Core.Bool.{Bool}
 use mathlib.Core.List.{List}
 use mathlib.Core.Path.{_≡_, sym, ap, _∙_}
-use Rattle.answers.specs.Numbers.{numberOf}
 use Rattle.answers.proofs.Unique.{number-tells, number-positive}
 use Rattle.packet.specs.declared.Id.{Id}
+use Rattle.packet.specs.declared.Status.{Status}
 use Rattle.packet.specs.declared.Target.{Target}
 use Rattle.packet.specs.declared.Decoded.{Decoded}
 use Rattle.packet.specs.declared.Decoded.the-variants.{Asks, Refused}
 use Rattle.packet.specs.Request.{Decodes, isTrusted}
-use Rattle.packet.specs.Completion.{withData, withoutData}
+use Rattle.packet.specs.Completion.{statusByte, withData, withoutData}
 
 pub decode-unique : (p : List ℕ) (r q : Decoded) → Decodes p r → Decodes p q → r ≡ q
 decode-unique p (Asks r) (Asks q) e f = ap Asks (e .1 ∙ sym (f .1))
@@ -21,10 +21,13 @@ decode-unique p (Refused r) (Refused q) e f = ap Refused (number-tells r q (sym 
 pub is-trusted-unique : (target : Target) (r q : Bool) → r ≡ isTrusted target → q ≡ isTrusted target → r ≡ q
 is-trusted-unique target r q e f = e ∙ sym f
 
+pub status-byte-unique : (status : Status) (r q : ℕ) → r ≡ statusByte status → q ≡ statusByte status → r ≡ q
+status-byte-unique status r q e f = e ∙ sym f
+
 pub with-data-unique : (completer requester : Id) (tag : ℕ) (four r q : List ℕ) → r ≡ withData completer requester tag four
     → q ≡ withData completer requester tag four → r ≡ q
 with-data-unique completer requester tag four r q e f = e ∙ sym f
 
-pub without-data-unique : (completer : Id) (status : ℕ) (requester : Id) (tag : ℕ) (r q : List ℕ)
+pub without-data-unique : (completer : Id) (status : Status) (requester : Id) (tag : ℕ) (r q : List ℕ)
     → r ≡ withoutData completer status requester tag → q ≡ withoutData completer status requester tag → r ≡ q
 without-data-unique completer status requester tag r q e f = e ∙ sym f

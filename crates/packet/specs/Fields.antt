@@ -7,7 +7,6 @@ use Rattle.answers.specs.Checks.{any}
 use Rattle.words.specs.Bytes.{byte, four}
 use Rattle.words.specs.Fields.{bits, bit}
 use Rattle.packet.specs.declared.Id.{Id}
-use Rattle.packet.specs.declared.Target.{Target}
 use Rattle.packet.specs.declared.Target.the-variants.{Type0, Type1, Trusted}
 use Rattle.packet.specs.declared.TypeCode.{TypeCode}
 use Rattle.packet.specs.declared.TypeCode.the-variants.{Known, Unknown}

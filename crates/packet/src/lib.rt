@@ -2,6 +2,7 @@
 // completion. Promised for every input: specs/Request.antt and specs/Completion.antt, in document 01's words.
 ghost use mathlib.Core.Path.{_≡_};
 ghost use Rattle.packet.specs.Request.{isTrusted};
+ghost use Rattle.packet.specs.Completion.{statusByte};
 
 mod decoding;
 mod fields;
@@ -60,4 +61,21 @@ pub struct Request {
 pub enum Decoded {
     Asks(Request),
     Refused(Refusal),
+}
+
+// What a completion says of the access: it was done, or it is an Unsupported Request (UR) and was not.
+pub enum Status {
+    Success,
+    Unsupported,
+}
+
+impl Status {
+    pub fn byte(self) -> u8
+        ensures { λ r. ⌜ r ≡ statusByte self ⌝ }
+    {
+        match self {
+            Status::Success => 0x00,
+            Status::Unsupported => 0x20,
+        }
+    }
 }

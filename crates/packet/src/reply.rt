@@ -2,6 +2,7 @@
 ghost use mathlib.Core.Path.{_≡_};
 ghost use Rattle.packet.specs.Completion.{withData, withoutData};
 use super::Id;
+use super::Status;
 
 // A successful read: 16 bytes.
 pub fn with_data(completer: Id, requester: Id, tag: u8, four: [u8; 4]) -> [u8; 16]
@@ -14,7 +15,7 @@ pub fn with_data(completer: Id, requester: Id, tag: u8, four: [u8; 4]) -> [u8; 1
         0x01,
         completer.high,
         completer.low,
-        0x00,
+        Status::Success.byte(),
         0x04,
         requester.high,
         requester.low,
@@ -28,7 +29,7 @@ pub fn with_data(completer: Id, requester: Id, tag: u8, four: [u8; 4]) -> [u8; 1
 }
 
 // Any other: 12 bytes, with the status.
-pub fn without_data(completer: Id, status: u8, requester: Id, tag: u8) -> [u8; 12]
+pub fn without_data(completer: Id, status: Status, requester: Id, tag: u8) -> [u8; 12]
     ensures { λ r. ⌜ r ≡ withoutData completer status requester tag ⌝ }
 {
     [
@@ -38,7 +39,7 @@ pub fn without_data(completer: Id, status: u8, requester: Id, tag: u8) -> [u8; 1
         0x00,
         completer.high,
         completer.low,
-        status,
+        status.byte(),
         0x04,
         requester.high,
         requester.low,

@@ -1,5 +1,6 @@
 pub mod Masks
 pub mod OneBit
 pub mod Told
+pub mod Numbers
 pub mod Unique
 pub mod Traps

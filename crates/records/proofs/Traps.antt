@@ -1,41 +1,47 @@
--- THEOREMS. Readings that fall into a trap do not meet the promise, each with a space that shows it: a body as long as the DVSEC Length,
--- a body that begins at 0Ch, and a vector with two bits set. Assumes nothing.
-use Prim.Native.Nat.{ℕ, _+_}
-use mathlib.Core.List.{List, [], _∷_}
-use mathlib.Core.Path.{_≡_, ap}
+-- THEOREMS. No reading that falls into a trap meets the promise, whatever the space and the offset: a body as long as the DVSEC Length says, a
+-- body that begins at 0Ch, a vector without exactly one bit that is read all the same. Assumes nothing.
+use Prim.Native.Nat.{ℕ, _+_, _-_}
+use mathlib.Core.Bool.{true}
+use mathlib.Core.List.{List, List·Memᴰ.List·Memᴰ·head, List·Memᴰ.List·Memᴰ·tail}
+use mathlib.Core.Path.{_≡_, refl, ap, _∙_}
 use native.Mathlib.Omega.{arith}
-use lib.ListN.{length, take, drop, replicate}
-use lib.Seq.{sets}
+use borrow.Author.Tests.{not-false}
+use lib.ListN.{length, take, drop, length-take, length-drop}
 use Rattle.records.specs.declared.DualRead.the-variants.{Found}
 use Rattle.records.specs.declared.Alternate.{Alternate}
-use Rattle.words.specs.Places.{placed}
-use Rattle.records.specs.Required.{sized}
-use Rattle.records.specs.DvsecRule.{isDvsec, extends, dvsecNumber, dvsecBody, bodyFrom, BodyLies}
-use Rattle.records.specs.DualRule.{fitsDual, isDual, knownPair, setPlaces, oneSet, dualNumber, tellsDual, dualSays, DualTold}
+use Rattle.records.specs.DvsecRule.{headerAt, dvsecNumber, dvsecBody, bodyFrom, BodyLies}
+use Rattle.records.specs.DualRule.{oneSet, vectorAt, tellsDual, dualSays}
+use Rattle.records.proofs.Told.{dvsec-inside}
+use Rattle.records.proofs.Numbers.{dual-number}
 
--- a space of zeros with bytes at an offset
-abbrev pub written : ℕ → List ℕ → List ℕ
-written at bytes = sets (replicate 4096 0) at bytes
+-- the statements, of a record that is found. "Taking DVSEC Length as the body's length": the body is 0Ah bytes shorter
+abbrev pub BodyLength : Type 0
+BodyLength =
+    (place : ℕ × ℕ) (s : List ℕ) (at : ℕ) (found : ℕ × ℕ) (bytes : List ℕ) → BodyLies place s at found bytes → dvsecNumber s at ≡ 0
+    → length bytes + 0x0a ≡ headerAt s at .length
 
--- P11: DVSEC Length 10h at 100h, so six bytes from 10Ah
-pub vendorSpace : List ℕ
-vendorSpace = written 0x100 (0x23 ∷ 0x00 ∷ 0x01 ∷ 0x00 ∷ 0xc0 ∷ 0x1e ∷ 0x00 ∷ 0x01 ∷ 0x02 ∷ 0x00 ∷ [])
+-- "or starting the body at 0Ch": it begins at 0Ah
+abbrev pub BodyStart : Type 0
+BodyStart =
+    (place : ℕ × ℕ) (s : List ℕ) (at : ℕ) (found : ℕ × ℕ) (bytes : List ℕ) → BodyLies place s at found bytes → dvsecNumber s at ≡ 0
+    → found .1 ≡ (at + 0x0a) + place .1
 
--- "Taking DVSEC Length as the body's length"
-pub length-as-body : (place found : ℕ × ℕ) → BodyLies place vendorSpace 0x100 found (take 0x10 (drop 0x10a vendorSpace)) → ⊥
-unfolding vendorSpace sized placed isDvsec extends dvsecNumber dvsecBody
-length-as-body place found b = omega (arith, ap length (b .same))
+-- "exactly one bit of the eight is set"
+abbrev pub OneBitRead : Type 0
+OneBitRead = (s : List ℕ) (at : ℕ) (a : Alternate) → tellsDual (Found a) ≡ dualSays s at → oneSet (vectorAt s at) ≡ true
 
--- "or starting the body at 0Ch"
-pub body-from-0c : (place : ℕ × ℕ) (bytes : List ℕ) → BodyLies place vendorSpace 0x100 (place .0, 0x10c + place .1) bytes → ⊥
-unfolding vendorSpace sized placed isDvsec extends dvsecNumber bodyFrom
-body-from-0c place bytes b = omega (arith, b .offset)
+pub body-length : BodyLength
+unfolding dvsecBody
+body-length place s at found bytes b e =
+    let i = dvsec-inside s at e in
+    let n : length bytes ≡ length (take ((at + headerAt s at .length) - (at + 0x0a)) (drop (at + 0x0a) s)) = ap length (b .same) ∙ rw e in
+    omega (arith, i .size, i .least, i .end, simp (length-take, length-drop) at n)
 
--- P10: P9's record at 040h with the vector 03h
-pub twoFunctions : List ℕ
-twoFunctions = written 0x040 (0x09 ∷ 0x00 ∷ 0x0c ∷ 0x00 ∷ 0xc0 ∷ 0x1e ∷ 0xc0 ∷ 0x00 ∷ 0x02 ∷ 0x00 ∷ 0x03 ∷ 0x03 ∷ [])
+pub body-start : BodyStart
+unfolding bodyFrom
+body-start place s at found bytes b e = b .offset ∙ rw e
 
--- one that takes the lowest of several bits
-pub lowest-of-two : (a : Alternate) → tellsDual (Found a) ≡ dualSays twoFunctions 0x040 → ⊥
-unfolding twoFunctions sized placed fitsDual knownPair isDual setPlaces oneSet dualNumber dualSays
-lowest-of-two a e = omega (arith, ap (λ (t : DualTold). t .number) e)
+pub one-bit-read : OneBitRead
+one-bit-read s at a e =
+    let none = dual-number s at (Found a) e .0 .none .0 refl in
+    not-false _ (none _ (List·Memᴰ·tail (List·Memᴰ·tail (List·Memᴰ·tail (List·Memᴰ·tail (List·Memᴰ·tail (List·Memᴰ·head refl)))))))

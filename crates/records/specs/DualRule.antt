@@ -4,7 +4,7 @@ use mathlib.Core.Bool.{Bool, cond, _&&_, _||_}
 use mathlib.Core.List.{List, [], _∷_}
 use lib.Dec.{eqb, leb}
 use lib.ListN.{length, getD}
-use Rattle.answers.specs.Checks.{firstThatApplies}
+use Rattle.answers.specs.Checks.{Check, firstThatApplies}
 use Rattle.answers.specs.Numbers.{numberOf}
 use Rattle.words.specs.Bytes.{byte}
 use Rattle.words.specs.Fields.{bit, bits, word}
@@ -14,9 +14,12 @@ use Rattle.records.specs.declared.DualRead.the-variants.{Found, Refused}
 use Rattle.words.specs.Places.{placed}
 use Rattle.records.specs.Required.{all, required, toldFor, sized}
 
--- "offset + 12 at most 100h, capability length 0Ch, DVSEC Length 00Ch"
+-- "offset + 12 at most 100h, capability length 0Ch, DVSEC Length 00Ch": one length
+abbrev pub dualLength : ℕ
+dualLength = 0x0c
+
 unfoldable pub fitsDual : ℕ → ℕ → ℕ → Bool
-fitsDual at capability w = all (leb (at + 12) 0x100 ∷ eqb capability 0x0c ∷ eqb (bits 31 20 w) 0x00c ∷ [])
+fitsDual at capability w = all (leb (at + dualLength) 0x100 ∷ eqb capability dualLength ∷ eqb (bits 31 20 w) dualLength ∷ [])
 
 -- "vendor 8086h with ID 0009h or vendor 1EC0h with ID 0002h"
 unfoldable pub knownPair : ℕ → ℕ → Bool
@@ -54,17 +57,19 @@ vectorAt s at = bits 23 16 (word s (at + 8))
 abbrev pub alternateAt : List ℕ → ℕ → Alternate
 alternateAt s at = alternateOf (word s (at + 8)) (vectorAt s at)
 
--- the number, in the order that document 01 states
-unfoldable pub dualNumber : List ℕ → ℕ → ℕ
-dualNumber s at =
-    firstThatApplies
-    (required (sized s) 1
+-- what is required, in the order that document 01 states, and the number
+abbrev pub dualChecks : List ℕ → ℕ → List Check
+dualChecks s at =
+    required (sized s) 1
     ∷ required (placed at 0x040 0x0fc) 1
     ∷ required (eqb (byte s at) 0x09) 8
     ∷ required (fitsDual at (byte s (at + 2)) (word s (at + 4))) 9
     ∷ required (isDual (word s (at + 4)) (word s (at + 8))) 8
     ∷ required (oneSet (vectorAt s at)) 10
-    ∷ [])
+    ∷ []
+
+unfoldable pub dualNumber : List ℕ → ℕ → ℕ
+dualNumber s at = firstThatApplies (dualChecks s at)
 
 -- the number, the alternate function and the device
 pub record DualTold : Type 0 where
@@ -74,7 +79,7 @@ pub record DualTold : Type 0 where
 
 -- what an answer tells
 abbrev pub tellsDual : DualRead → DualTold
-tellsDual (Found a) = record { number = 0; function = a .function; device = a .device }
+tellsDual (Found alternate) = record { number = 0; function = alternate .function; device = alternate .device }
 tellsDual (Refused refusal) = record { number = numberOf refusal; function = 0; device = 0 }
 
 -- what document 01 says of the record asked for

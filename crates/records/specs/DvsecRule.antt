@@ -5,7 +5,7 @@ use mathlib.Core.List.{List, [], _∷_}
 use mathlib.Core.Path.{_≡_}
 use lib.Dec.{eqb, leb}
 use lib.ListN.{take, drop}
-use Rattle.answers.specs.Checks.{firstThatApplies}
+use Rattle.answers.specs.Checks.{Check, firstThatApplies}
 use Rattle.answers.specs.Numbers.{numberOf}
 use Rattle.words.specs.Fields.{bits, word}
 use Rattle.records.specs.declared.DvsecHeader.{DvsecHeader}
@@ -30,15 +30,17 @@ headerOf first second =
 abbrev pub headerAt : List ℕ → ℕ → DvsecHeader
 headerAt s at = headerOf (word s (at + 4)) (word s (at + 8))
 
--- the number, in the order that document 01 states
-unfoldable pub dvsecNumber : List ℕ → ℕ → ℕ
-dvsecNumber s at =
-    firstThatApplies
-    (required (sized s) 1
+-- what is required, in the order that document 01 states, and the number
+abbrev pub dvsecChecks : List ℕ → ℕ → List Check
+dvsecChecks s at =
+    required (sized s) 1
     ∷ required (placed at 0x100 0xffc) 1
     ∷ required (isDvsec (word s at)) 8
     ∷ required (extends at (headerAt s at .length)) 9
-    ∷ [])
+    ∷ []
+
+unfoldable pub dvsecNumber : List ℕ → ℕ → ℕ
+dvsecNumber s at = firstThatApplies (dvsecChecks s at)
 
 -- "One question answers vendor, revision, ID and length": the number and these four
 pub record DvsecTold : Type 0 where
@@ -69,7 +71,7 @@ unfoldable pub dvsecBody : List ℕ → ℕ → List ℕ
 dvsecBody s at =
     cond (eqb (dvsecNumber s at) 0) (take ((at + headerAt s at .length) - (at + 0x0a)) (drop (at + 0x0a) s)) []
 
--- where the body begins in the lent space, the space's own beginning where the answer is empty
+-- where the body begins in the lent space, the space's own beginning where it is refused
 unfoldable pub bodyFrom : List ℕ → ℕ → ℕ
 bodyFrom s at = cond (eqb (dvsecNumber s at) 0) (at + 0x0a) 0
 

@@ -9,10 +9,8 @@ ghost use Rattle.records.specs.Inner.{Pairs};
 
 pub(crate) const VENDOR_SPECIFIC: u8 = 0x09;
 
-// The length of the record, as its capability and its DVSEC say it, and where the last may end.
-const CAPABILITY_LENGTH: u8 = 0x0c;
-
-const DVSEC_LENGTH: u32 = 0x00c;
+// The length of the record, which both its capability and its DVSEC say, and where the last may end.
+const LENGTH: u8 = 0x0c;
 
 const END: usize = 0x100;
 
@@ -20,13 +18,13 @@ pub(crate) fn fits_dual(at: usize, capability: u8, second: u32) -> bool
     requires { ⌜ at ≤ 0x0fc ⌝ }
     ensures { λ r. ⌜ r ≡ fitsDual at capability second ⌝ }
 {
-    if END < at + 12 {
+    if END < at + LENGTH as usize {
         return false;
     }
-    if capability != CAPABILITY_LENGTH {
+    if capability != LENGTH {
         return false;
     }
-    second >> 20 == DVSEC_LENGTH
+    second >> 20 == LENGTH as u32
 }
 
 pub(crate) fn is_dual(second: u32, third: u32) -> bool

@@ -1,6 +1,6 @@
 -- Laws of the merge and the read, for the proofs above: callers use these and not the definitions' text. Assumes nothing.
-use Prim.Native.Nat.{ℕ, suc, zero, _+_, _*_, _/_, _%_, _^_, _<_}
-use mathlib.Core.Bool.{true, false, cond}
+use Prim.Native.Nat.{ℕ, suc, zero, _+_, _*_, _/_, _^_, _<_}
+use mathlib.Core.Bool.{true, false}
 use mathlib.Core.List.{List}
 use mathlib.Core.Path.{_≡_, refl, sym, ap, _∙_}
 use native.Mathlib.Nat.{mod-lt, zero-lt-suc, le-of-suc-le-suc, not-suc-le-zero, pow-suc}
@@ -11,7 +11,6 @@ use borrow.Author.Tests.{eq-eqb, ne-eqb}
 use Rattle.words.specs.Bytes.{four}
 use Rattle.words.specs.Fields.{bit}
 use Rattle.registers.specs.Merge.{lowestSet, merged, mergedByte, mergedBit, fromBits}
-use Rattle.registers.specs.Shown.{shown}
 use Rattle.registers.proofs.Masks.{from-low, bit-suc, bit-zero}
 
 -- the test that the code makes of the lowest enable
@@ -25,10 +24,6 @@ lowest-clear e h = ne-eqb _ _ (λ k. h (and-mask e 1 ∙ k))
 pub merged-length : (old rules new : List ℕ) (enables : ℕ) → length (merged old rules new enables) ≡ 4
 unfolding merged
 merged-length old rules new enables = refl
-
-pub shown-length : (bytes : List ℕ) (enables : ℕ) → length (shown bytes enables) ≡ 4
-unfolding shown
-shown-length bytes enables = refl
 
 -- the number made of bits has those bits
 from-bits-bit : (f : ℕ → ℕ) → ((k : ℕ) → f k < 2) → (n k : ℕ) → k < n → bit k (fromBits f n) ≡ f k

@@ -13,10 +13,10 @@ use Rattle.words.specs.Fields.{word}
 use Rattle.lists.specs.Table.{describe}
 use Rattle.report.specs.declared.section.Section.{Section}
 use Rattle.report.specs.declared.section.Section.the-variants.{Compatible, Extended}
-use Rattle.report.specs.Text.{ascii, digit, line, decimal, places}
-use Rattle.report.specs.Listing.{Shown, compatibleEntry, extendedEntry, heading, refused, entries}
-use Rattle.report.specs.Inner.{kindOf, shown, width, title}
-use Rattle.report.proofs.Numerals.{decimal-length, places-most, places-few}
+use Rattle.report.specs.Text.{ascii, digit, line, decimal, figures}
+use Rattle.report.specs.Listing.{Style, compatibleEntry, extendedEntry, heading, refused, entries}
+use Rattle.report.specs.Inner.{kindOf, style, width, title}
+use Rattle.report.proofs.Numerals.{decimal-length, figures-most, figures-few}
 
 -- ---- the bytes of an entry
 
@@ -52,24 +52,24 @@ extended-line s at = simp (div-one, low-12, low-8, low-4, low-0, one-digit)
 
 -- ---- lengths
 
-pub line-length : (section : Section) (s : List ℕ) (at : ℕ) → length (line (shown section .entry s at)) ≡ width section
+pub line-length : (section : Section) (s : List ℕ) (at : ℕ) → length (line (style section .entry s at)) ≡ width section
 line-length Compatible s at = ap length (compatible-line s at)
 line-length Extended s at = ap length (extended-line s at)
 
-pub entries-length : (section : Section) (s offsets : List ℕ) → length (entries (shown section) s offsets) ≡ width section * length offsets
+pub entries-length : (section : Section) (s offsets : List ℕ) → length (entries (style section) s offsets) ≡ width section * length offsets
 entries-length section s [] = sym (mul-zero (width section))
 entries-length section s (at ∷ rest) =
-    length-append (line (shown section .entry s at)) (entries (shown section) s rest)
+    length-append (line (style section .entry s at)) (entries (style section) s rest)
     ∙ ap₂ (λ (a b : ℕ). a + b) (line-length section s at) (entries-length section s rest)
     ∙ rw (mul-suc, add-comm)
 
 -- ---- one line more
 
-entries-append : (how : Shown) (s a b : List ℕ) → entries how s (a ++ b) ≡ entries how s a ++ entries how s b
+entries-append : (how : Style) (s a b : List ℕ) → entries how s (a ++ b) ≡ entries how s a ++ entries how s b
 entries-append how s [] b = refl
 entries-append how s (at ∷ rest) b = rw (entries-append how s rest b) (sym (append-assoc (line (how .entry s at)) (entries how s rest) (entries how s b)))
 
-pub entries-more : (how : Shown) (s offsets : List ℕ) (done : ℕ) → done < length offsets
+pub entries-more : (how : Style) (s offsets : List ℕ) (done : ℕ) → done < length offsets
     → entries how s (take done offsets) ++ line (how .entry s (getD offsets done 0)) ≡ entries how s (take (done + 1) offsets)
 entries-more how s offsets done h =
     rw (add-one done, take-suc offsets done 0 h, entries-append how s (take done offsets) (getD offsets done 0 ∷ []), append-nil)
@@ -85,18 +85,18 @@ module _ (name : List ℕ) (n : ℕ) where
   unfolding refused
   refused-line = simp append-assoc
 
-pub name-length : (section : Section) → length (shown section .name) ≤ 10
+pub name-length : (section : Section) → length (style section .name) ≤ 10
 name-length Compatible = lit≤ tt
 name-length Extended = lit≤ tt
 
 title-room : (section : Section) (n : ℕ) → n ≤ describe (kindOf section) .maximum
-    → length (shown section .name) + (1 + places n + 1) ≤ title section
-title-room Compatible n h = omega (arith, places-few n (omega arith))
-title-room Extended n h = omega (arith, places-most n)
+    → length (style section .name) + (1 + figures n + 1) ≤ title section
+title-room Compatible n h = omega (arith, figures-few n (omega arith))
+title-room Extended n h = omega (arith, figures-most n)
 
 pub heading-length : (section : Section) (n : ℕ) → n ≤ describe (kindOf section) .maximum
-    → length (heading (shown section .name) n) ≤ title section
+    → length (heading (style section .name) n) ≤ title section
 heading-length section n h =
-    let l = length-append (shown section .name) (ascii " " ++ decimal n ++ 0x0a ∷ []) in
+    let l = length-append (style section .name) (ascii " " ++ decimal n ++ 0x0a ∷ []) in
     let d = length-append (decimal n) (0x0a ∷ []) in
-    omega (arith, title-room section n h, ap length (heading-line (shown section .name) n), l, d, decimal-length n)
+    omega (arith, title-room section n h, ap length (heading-line (style section .name) n), l, d, decimal-length n)

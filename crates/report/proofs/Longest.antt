@@ -1,4 +1,4 @@
--- THEOREM. No listing is longer than the room that is asked for it: a text of `longest` bytes holds the listing of any input. Assumes nothing.
+-- THEOREM. No listing is longer than the text that is lent for it: 10,927 bytes hold the listing of any input. Assumes nothing.
 use Prim.Native.Nat.{ℕ, _≤_}
 use mathlib.Core.List.{List, _++_}
 use mathlib.Core.Path.{ap}
@@ -10,17 +10,16 @@ use Rattle.report.specs.declared.section.Section.{Section}
 use Rattle.report.specs.declared.section.Section.the-variants.{Compatible, Extended}
 use Rattle.report.specs.Text.{ascii, line, decimal}
 use Rattle.report.specs.Listing.{refused, Part, Part.listed, Part.broken, Says, Says.other, Says.parts}
-use Rattle.report.specs.Prints.{longest}
-use Rattle.report.specs.Inner.{kindOf, shown, most}
-use Rattle.report.proofs.Walked.{shown-list}
+use Rattle.report.specs.Inner.{kindOf, style, most}
+use Rattle.report.proofs.Walked.{style-list}
 use Rattle.report.proofs.Writing.{section-length, refused-length}
 
 abbrev pub NoneLonger : Type 0
-NoneLonger = (s out : List ℕ) → Bytes s → Says s out → length out ≤ longest
+NoneLonger = (s out : List ℕ) → Bytes s → Says s out → length out ≤ 10927
 
-part-length : (section : Section) {s out : List ℕ} → Bytes s → Part (shown section) s out → length out ≤ most section
+part-length : (section : Section) {s out : List ℕ} → Bytes s → Part (style section) s out → length out ≤ most section
 part-length section {s} bytes (listed chain l e) =
-    omega (arith, ap length e, section-length section s chain (chain-maximum (kindOf section) s bytes chain (rw (shown-list section) l)))
+    omega (arith, ap length e, section-length section s chain (chain-maximum (kindOf section) s bytes chain (rw (style-list section) l)))
 part-length section bytes (broken n e) = omega (arith, ap length e, refused-length section 7)
 
 pub none-longer : NoneLonger

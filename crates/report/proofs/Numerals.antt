@@ -8,7 +8,7 @@ use native.Mathlib.Omega.{arith}
 use borrow.Author.Tests.{lt-ltb, le-ltb}
 use lib.Dec.{ltb, lit≤}
 use lib.ListN.{length}
-use Rattle.report.specs.Text.{digit, digits, decimal, places}
+use Rattle.report.specs.Text.{digit, digits, decimal, figures}
 
 module _ (n : ℕ) where
   pub decimal-one : n < 10 → decimal n ≡ digit (n % 10) ∷ []
@@ -27,20 +27,20 @@ digits-length : (base k n : ℕ) → length (digits base k n) ≡ k
 digits-length base zero n = refl
 digits-length base (suc k) n = ap suc (digits-length base k n)
 
-pub decimal-length : (n : ℕ) → length (decimal n) ≡ places n
+pub decimal-length : (n : ℕ) → length (decimal n) ≡ figures n
 unfolding decimal
-decimal-length n = digits-length 10 (places n) n
+decimal-length n = digits-length 10 (figures n) n
 
-pub places-most : (n : ℕ) → places n ≤ 3
-places-most n = go (ltb n 10) (ltb n 100)
+pub figures-most : (n : ℕ) → figures n ≤ 3
+figures-most n = go (ltb n 10) (ltb n 100)
   where
     go : (a b : Bool) → cond a 1 (cond b 2 3) ≤ 3
     go true b = lit≤ tt
     go false true = lit≤ tt
     go false false = lit≤ tt
 
-pub places-few : (n : ℕ) → n < 100 → places n ≤ 2
-places-few n h = rw (lt-ltb n 100 h) (go (ltb n 10))
+pub figures-few : (n : ℕ) → n < 100 → figures n ≤ 2
+figures-few n h = rw (lt-ltb n 100 h) (go (ltb n 10))
   where
     go : (a : Bool) → cond a 1 2 ≤ 2
     go true = lit≤ tt

@@ -6,15 +6,12 @@ use native.Mathlib.Nat.{zero-add}
 use native.Mathlib.Omega.{arith}
 use lib.Dec.{lit≤}
 use lib.ListN.{length, drop, length-append}
-use Rattle.answers.specs.declared.Answer.the-variants.{Done}
-use Rattle.answers.specs.Numbers.{answerOf}
 use Rattle.lists.specs.Walks.{WholeSpace}
-use Rattle.report.specs.declared.Written.{Written}
 use Rattle.report.specs.declared.section.Section.the-variants.{Compatible, Extended}
 use Rattle.report.specs.Text.{ascii, line, decimal}
 use Rattle.report.specs.Listing.{compatible, extended, refused, Part, Says, Says.other, Says.parts}
-use Rattle.report.specs.Prints.{longest, Prints, Prints.printed, Prints.roomless}
-use Rattle.report.specs.Inner.{most, Added, Told, Fits}
+use Rattle.report.specs.Prints.{Prints}
+use Rattle.report.specs.Inner.{longest, most, Added, Told, Fits}
 use Rattle.report.proofs.Adding.{added-then}
 
 module _ {s text : List ℕ} (space : WholeSpace s) (fits : Fits longest text 0) where
@@ -36,17 +33,15 @@ pub other-told : {s text after : List ℕ} {r : ℕ} → (WholeSpace s → ⊥) 
 unfolding refused decimal
 other-told n added = record { bytes = refused (ascii "input") 1; known = other n refl; short = lit≤ tt; added = added }
 
--- a listing at the start of a text that has room for the longest
-pub told-prints : {s text after : List ℕ} {n : ℕ} (r : Written) → longest ≤ length text → Told (Says s) longest text 0 n after
-    → (r .answer ≡ Done) × (r .length ≡ n) → Prints s text r after
-told-prints {s} {text} {after} {n} r room told e = printed room (told .bytes) (told .known) (record {
-  given = ap answerOf (e .0);
-  counted = e .1 ∙ told .added .next ∙ zero-add (length (told .bytes));
+-- a listing at the start of a text
+pub told-prints : {s text after : List ℕ} {r : ℕ} → Told (Says s) longest text 0 r after → Prints s text r after
+told-prints {text = text} told = record {
+  out = told .bytes;
+  says = told .known;
+  counted = told .added .next ∙ zero-add (length (told .bytes));
   written = told .added .left ∙ ap (λ (k : ℕ). told .bytes ++ drop k text) (zero-add (length (told .bytes)));
-})
+}
 
 -- what was written lies in the text, as a caller that reads it needs
-pub prints-inside : {s text after : List ℕ} {r : Written} → Prints s text r after → r .length ≤ length after
-prints-inside (roomless h p) = omega (arith, p .none)
-prints-inside {text = text} (printed h out says p) =
-    omega (arith, p .counted, ap length (p .written), length-append out (drop (length out) text))
+pub prints-inside : {s text after : List ℕ} {r : ℕ} → Prints s text r after → r ≤ length after
+prints-inside {text = text} p = omega (arith, p .counted, ap length (p .written), length-append (p .out) (drop (length (p .out)) text))

@@ -12,7 +12,7 @@ use Rattle.lists.specs.Table.{compatibleStart, extendedStart, compatibleNext, e
 use Rattle.lists.specs.Chain.{HasChain, Legal.ends, Legal.goes, first, follows}
 use Rattle.report.specs.Text.{ascii, line, digit, decimal}
 use Rattle.report.specs.Listing.{compatible, extended, compatibleEntry, extendedEntry, heading, Part, Part.listed, Says, Says.parts}
-use Rattle.report.proofs.Unique.{listing-unique}
+use Rattle.report.proofs.Unique.{says-unique}
 
 -- `09 00 0C 00 C0 1E C0 00 02 00 02 03` at 040h, and `23 00 01 00 C0 1E 00 01 02 00` at 100h
 pub sample : List ℕ
@@ -51,4 +51,4 @@ says-five = parts refl _ _ compatible-part extended-part refl
 
 pub sample-listing : SampleListing
 sample-listing out =
-    ((λ says. listing-unique sample out fiveLines says says-five), (λ e. subst (λ (o : List ℕ). Says sample o) (sym e) says-five))
+    ((λ says. says-unique sample out fiveLines says says-five), (λ e. subst (λ (o : List ℕ). Says sample o) (sym e) says-five))

@@ -20,7 +20,7 @@ use Rattle.lists.proofs.Pointers.{Bytes, Within, span, first-within, follows-wi
 use Rattle.report.specs.declared.section.Section.{Section}
 use Rattle.report.specs.declared.section.Section.the-variants.{Compatible, Extended}
 use Rattle.report.specs.Listing.{Part, Part.listed, Part.broken, heading, refused, entries}
-use Rattle.report.specs.Inner.{kindOf, shown, most, Added, Told, Inside, Chained, Roomed}
+use Rattle.report.specs.Inner.{kindOf, style, most, Added, Told, Inside, Chained, Roomed}
 use Rattle.report.proofs.Writing.{section-length, refused-length}
 
 -- ---- the offsets of a chain
@@ -63,9 +63,9 @@ module _ {kind : Kind} {s room : List ℕ} {r : Walked} {after : List ℕ} (size
 -- ---- the part that is written of it
 
 -- the list that a section shows is the one that is walked
-pub shown-list : (section : Section) → describe (kindOf section) ≡ shown section .list
-shown-list Compatible = refl
-shown-list Extended = refl
+pub style-list : (section : Section) → describe (kindOf section) ≡ style section .list
+style-list Compatible = refl
+style-list Extended = refl
 
 module _ {section : Section} {s room text : List ℕ} {place : ℕ} (ready : Roomed section s room text place) {kind : Kind} {r : Walked} {after : List ℕ}
     (is : kind ≡ kindOf section) (walks : Walks kind s room r after) (kept : length after ≡ length room) where
@@ -87,22 +87,22 @@ module _ {section : Section} {s room text : List ℕ} {place : ℕ} (ready : Roo
         record { space = ready .space; inside = chain-inside (kindOf section) s bytes (chain .1); few = few; fits = ready .fits }
 
     pub walked-listed : {q : ℕ} {next : List ℕ}
-        → Added (heading (shown section .name) (length (take (r .count) after)) ++ entries (shown section) s (take (r .count) after)) text place q next
-        → Told (Part (shown section) s) (most section) text place q next
+        → Added (heading (style section .name) (length (take (r .count) after)) ++ entries (style section) s (take (r .count) after)) text place q next
+        → Told (Part (style section) s) (most section) text place q next
     walked-listed added = record {
-      bytes = heading (shown section .name) (length (take (r .count) after)) ++ entries (shown section) s (take (r .count) after);
-      known = listed (take (r .count) after) (rw (← shown-list section) (chain .1)) refl;
+      bytes = heading (style section .name) (length (take (r .count) after)) ++ entries (style section) s (take (r .count) after);
+      known = listed (take (r .count) after) (rw (← style-list section) (chain .1)) refl;
       short = section-length section s (take (r .count) after) few;
       added = added;
     }
 
   pub walked-broken : {refusal : Refusal} → r .answer ≡ Refused refusal → {q : ℕ} {next : List ℕ}
-      → Added (refused (shown section .name) (numberOf refusal)) text place q next → Told (Part (shown section) s) (most section) text place q next
+      → Added (refused (style section .name) (numberOf refusal)) text place q next → Told (Part (style section) s) (most section) text place q next
   walked-broken {refusal} e added =
       let none = unfound (ready .space) (omega (arith, ready .whole)) kept walks-shown e in
       record {
-        bytes = refused (shown section .name) (numberOf refusal);
-        known = broken (rw (← shown-list section) (none .0)) (ap (refused (shown section .name)) (none .1));
+        bytes = refused (style section .name) (numberOf refusal);
+        known = broken (rw (← style-list section) (none .0)) (ap (refused (style section .name)) (none .1));
         short = refused-length section (numberOf refusal);
         added = added;
       }

@@ -12,10 +12,10 @@ use Rattle.report.specs.declared.section.Section.{Section}
 use Rattle.report.specs.declared.section.Section.the-variants.{Compatible, Extended}
 use Rattle.report.specs.Text.{ascii, line, decimal}
 use Rattle.report.specs.Listing.{heading, refused, entries}
-use Rattle.report.specs.Inner.{kindOf, shown, width, title, most, Added, Fits, Ready, Chained}
+use Rattle.report.specs.Inner.{kindOf, style, width, title, most, Added, Fits, Ready, Chained}
 use Rattle.report.proofs.Adding.{added-length, added-then, added-as}
 use Rattle.report.proofs.Lines.{line-length, entries-length, entries-more, heading-line, refused-line, name-length, heading-length}
-use Rattle.report.proofs.Numerals.{decimal-length, places-most}
+use Rattle.report.proofs.Numerals.{decimal-length, figures-most}
 
 -- ---- a line for each offset
 
@@ -27,12 +27,12 @@ one-more Extended from done count size h k = omega arith
 
 -- so many lines were written from a place of a text on
 abbrev pub Passed : Section → List ℕ → List ℕ → List ℕ → ℕ → ℕ → ℕ → List ℕ → Type 0
-Passed section s offsets text from done place after = Added (entries (shown section) s (take done offsets)) text from place after
+Passed section s offsets text from done place after = Added (entries (style section) s (take done offsets)) text from place after
 
 module _ {section : Section} {s offsets text : List ℕ} {from : ℕ} (ready : Ready section s offsets text from) where
   module _ (done place : ℕ) (after : List ℕ) (more : done < length offsets) (passed : Passed section s offsets text from done place after)
     where
-      passed-length : length (entries (shown section) s (take done offsets)) ≡ width section * done
+      passed-length : length (entries (style section) s (take done offsets)) ≡ width section * done
       passed-length =
           entries-length section s (take done offsets) ∙ ap (λ (n : ℕ). width section * n) (length-take-le done offsets (le-of-lt more))
 
@@ -46,10 +46,10 @@ module _ {section : Section} {s offsets text : List ℕ} {from : ℕ} (ready : R
             added-length passed (omega (arith, one-more section from done (length offsets) (length text) (ready .fits) more, passed-length)),
           )
 
-      pub line-more : {r : ℕ} {next : List ℕ} → Added (line (shown section .entry s (getD offsets done 0))) after place r next
+      pub line-more : {r : ℕ} {next : List ℕ} → Added (line (style section .entry s (getD offsets done 0))) after place r next
           → Passed section s offsets text from (done + 1) r next
       line-more written =
-          added-as (entries-more (shown section) s offsets done more)
+          added-as (entries-more (style section) s offsets done more)
           (added-then passed written
           (omega (
             arith,
@@ -59,10 +59,10 @@ module _ {section : Section} {s offsets text : List ℕ} {from : ℕ} (ready : R
           )))
 
   pub all-written : (done : ℕ) {place : ℕ} {after : List ℕ} → done ≡ length offsets → Passed section s offsets text from done place after
-      → Added (entries (shown section) s offsets) text from place after
-  all-written done e passed = added-as (ap (entries (shown section) s) (ap (λ (n : ℕ). take n offsets) e ∙ take-length offsets)) passed
+      → Added (entries (style section) s offsets) text from place after
+  all-written done e passed = added-as (ap (entries (style section) s) (ap (λ (n : ℕ). take n offsets) e ∙ take-length offsets)) passed
 
-  pub lines-length : {place : ℕ} {after : List ℕ} → Added (entries (shown section) s offsets) text from place after
+  pub lines-length : {place : ℕ} {after : List ℕ} → Added (entries (style section) s offsets) text from place after
       → length after ≡ length text
   lines-length written = added-length written (omega (arith, ready .fits, entries-length section s offsets))
 
@@ -78,31 +78,31 @@ name-room Compatible = lit≤ tt
 name-room Extended = lit≤ tt
 
 pub section-length : (section : Section) (s offsets : List ℕ) → length offsets ≤ describe (kindOf section) .maximum
-    → length (heading (shown section .name) (length offsets) ++ entries (shown section) s offsets) ≤ most section
+    → length (heading (style section .name) (length offsets) ++ entries (style section) s offsets) ≤ most section
 section-length section s offsets few =
     omega (
       arith,
-      length-append (heading (shown section .name) (length offsets)) (entries (shown section) s offsets),
+      length-append (heading (style section .name) (length offsets)) (entries (style section) s offsets),
       heading-length section (length offsets) few,
       entries-length section s offsets,
       lines-room section (length offsets) few,
     )
 
 module _ {section : Section} {s offsets text : List ℕ} {place : ℕ} (ready : Chained section s offsets text place) where
-  heading-fits : Fits (length (heading (shown section .name) (length offsets)) + width section * length offsets) text place
+  heading-fits : Fits (length (heading (style section .name) (length offsets)) + width section * length offsets) text place
   heading-fits =
       omega (arith, ready .fits, lines-room section (length offsets) (ready .few), heading-length section (length offsets) (ready .few))
 
-  pub headed : {named at : ℕ} {middle after : List ℕ} → Added (shown section .name) text place named middle
+  pub headed : {named at : ℕ} {middle after : List ℕ} → Added (style section .name) text place named middle
       → Added (ascii " " ++ decimal (length offsets) ++ 0x0a ∷ []) middle named at after
-      → Added (heading (shown section .name) (length offsets)) text place at after
+      → Added (heading (style section .name) (length offsets)) text place at after
   headed first second =
-      let whole = length-append (shown section .name) (ascii " " ++ decimal (length offsets) ++ 0x0a ∷ []) in
-      added-as (heading-line (shown section .name) (length offsets))
+      let whole = length-append (style section .name) (ascii " " ++ decimal (length offsets) ++ 0x0a ∷ []) in
+      added-as (heading-line (style section .name) (length offsets))
       (added-then first second
-      (omega (arith, heading-fits, whole, ap length (heading-line (shown section .name) (length offsets)))))
+      (omega (arith, heading-fits, whole, ap length (heading-line (style section .name) (length offsets)))))
 
-  module _ {at : ℕ} {middle : List ℕ} (first : Added (heading (shown section .name) (length offsets)) text place at middle) where
+  module _ {at : ℕ} {middle : List ℕ} (first : Added (heading (style section .name) (length offsets)) text place at middle) where
     pub lines-ready : Ready section s offsets middle at
     lines-ready = record {
       space = ready .space;
@@ -110,8 +110,8 @@ module _ {section : Section} {s offsets text : List ℕ} {place : ℕ} (ready : 
       fits = omega (arith, heading-fits, first .next, added-length first (omega (arith, heading-fits)));
     }
 
-    pub section-listed : {r : ℕ} {after : List ℕ} → Added (entries (shown section) s offsets) middle at r after
-        → Added (heading (shown section .name) (length offsets) ++ entries (shown section) s offsets) text place r after
+    pub section-listed : {r : ℕ} {after : List ℕ} → Added (entries (style section) s offsets) middle at r after
+        → Added (heading (style section .name) (length offsets) ++ entries (style section) s offsets) text place r after
     section-listed second = added-then first second (omega (arith, heading-fits, entries-length section s offsets))
 
 -- ---- a name and that it is refused
@@ -123,7 +123,7 @@ tail-length name n h =
       length-append name (ascii " " ++ decimal n ++ line (ascii " refused")),
       length-append (decimal n) (line (ascii " refused")),
       decimal-length n,
-      places-most n,
+      figures-most n,
     )
 
 pub named-refused : (name : List ℕ) (n : ℕ) → length name ≤ 10 → {text middle after : List ℕ} {place named r : ℕ} → Fits 23 text place
@@ -134,6 +134,6 @@ named-refused name n h fits first second =
     (added-then first second
     (omega (arith, fits, tail-length name n h, length-append name (ascii " " ++ decimal n ++ line (ascii " refused")))))
 
-pub refused-length : (section : Section) (n : ℕ) → length (refused (shown section .name) n) ≤ most section
+pub refused-length : (section : Section) (n : ℕ) → length (refused (style section .name) n) ≤ most section
 refused-length section n =
-    omega (arith, ap length (refused-line (shown section .name) n), tail-length (shown section .name) n (name-length section), name-room section)
+    omega (arith, ap length (refused-line (style section .name) n), tail-length (style section .name) n (name-length section), name-room section)

@@ -10,16 +10,16 @@ use Rattle.lists.specs.Table.{describe}
 use Rattle.lists.specs.Walks.{WholeSpace}
 use Rattle.report.specs.declared.section.Section.{Section}
 use Rattle.report.specs.declared.section.Section.the-variants.{Compatible, Extended}
-use Rattle.report.specs.Listing.{Shown, compatible, extended}
+use Rattle.report.specs.Listing.{Style, compatible, extended}
 
 -- the list that a section shows, how it shows it, the bytes of a line, the most bytes of its heading, and the most bytes of all
 abbrev pub kindOf : Section → Kind
 kindOf Compatible = kind.Compatible
 kindOf Extended = kind.Extended
 
-abbrev pub shown : Section → Shown
-shown Compatible = compatible
-shown Extended = extended
+abbrev pub style : Section → Style
+style Compatible = compatible
+style Extended = extended
 
 abbrev pub width : Section → ℕ
 width Compatible = 7
@@ -30,8 +30,11 @@ title Compatible = 14
 title Extended = 13
 
 abbrev pub most : Section → ℕ
-most Compatible = 14 + 48 * 7
-most Extended = 13 + 960 * 11
+most section = title section + describe (kindOf section) .maximum * width section
+
+-- the longest listing: both sections at their longest, and "end" with its line end
+abbrev pub longest : ℕ
+longest = most Compatible + most Extended + 4
 
 -- bytes were put at a place of a text, and the place after them is answered
 pub record Added (bytes text : List ℕ) (place r : ℕ) (after : List ℕ) : Type 0 where

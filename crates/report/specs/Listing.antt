@@ -12,7 +12,7 @@ use Rattle.lists.specs.Walks.{WholeSpace}
 use Rattle.report.specs.Text.{ascii, line, hex, decimal}
 
 -- how a list is shown: which list it is, its name, and what a line says of the header at an offset of a space
-pub record Shown : Type 0 where
+pub record Style : Type 0 where
   pub list : ListRule
   pub name : List ℕ
   pub entry : List ℕ → ℕ → List ℕ
@@ -26,10 +26,10 @@ unfoldable pub extendedEntry : List ℕ → ℕ → List ℕ
 extendedEntry s at = hex 3 at ++ ascii " " ++ hex 4 (bits 15 0 (word s at)) ++ ascii " " ++ hex 1 (bits 19 16 (word s at))
 
 -- the two lists that are shown
-abbrev pub compatible : Shown
+abbrev pub compatible : Style
 compatible = record { list = describe Compatible; name = ascii "compatible"; entry = compatibleEntry }
 
-abbrev pub extended : Shown
+abbrev pub extended : Style
 extended = record { list = describe Extended; name = ascii "extended"; entry = extendedEntry }
 
 -- "`compatible 1`", "`extended 1`": the name and the count
@@ -41,15 +41,15 @@ unfoldable pub refused : List ℕ → ℕ → List ℕ
 refused name number = line (name ++ ascii " " ++ decimal number ++ ascii " refused")
 
 -- a line for each offset, in order
-abbrev pub entries : Shown → List ℕ → List ℕ → List ℕ
-entries shown s [] = []
-entries shown s (at ∷ rest) = line (shown .entry s at) ++ entries shown s rest
+abbrev pub entries : Style → List ℕ → List ℕ → List ℕ
+entries style s [] = []
+entries style s (at ∷ rest) = line (style .entry s at) ++ entries style s rest
 
 -- what is written for one list: its chain, or, where none is legal, "A broken list's lines are replaced by …"
-pub data Part (shown : Shown) (s out : List ℕ) : Type 0 where
-  listed : (chain : List ℕ) → HasChain (shown .list) s chain → out ≡ heading (shown .name) (length chain) ++ entries shown s chain
-      → Part shown s out
-  broken : NoChain (shown .list) s → out ≡ refused (shown .name) 7 → Part shown s out
+pub data Part (style : Style) (s out : List ℕ) : Type 0 where
+  listed : (chain : List ℕ) → HasChain (style .list) s chain → out ≡ heading (style .name) (length chain) ++ entries style s chain
+      → Part style s out
+  broken : NoChain (style .list) s → out ≡ refused (style .name) 7 → Part style s out
 
 -- "Input of another size writes only `input 1 refused`"; else the compatible part, the extended part and "`end`"
 pub data Says (s out : List ℕ) : Type 0 where

@@ -31,8 +31,8 @@ abbrev pub hex : ℕ → ℕ → List ℕ
 hex k n = digits 16 k n
 
 -- "Counts are decimal": in as few digits as hold the number, and no count is over 960
-abbrev pub places : ℕ → ℕ
-places n = cond (ltb n 10) 1 (cond (ltb n 100) 2 3)
+abbrev pub figures : ℕ → ℕ
+figures n = cond (ltb n 10) 1 (cond (ltb n 100) 2 3)
 
 unfoldable pub decimal : ℕ → List ℕ
-decimal n = digits 10 (places n) n
+decimal n = digits 10 (figures n) n

@@ -1,55 +1,29 @@
 // What the listing program writes, made as bytes in a lent text: the lines of the compatible and the extended list of a space.
-// `listing` answers for every input and every text. What it promises is specs/Prints.antt over specs/Listing.antt.
-use answers::Answer;
+// `listing` answers for every input, and its text has room for every listing. What it promises is specs/Prints.antt over specs/Listing.antt.
 use answers::Refusal;
+use lists::COMPATIBLE_MAXIMUM;
+use lists::EXTENDED_MAXIMUM;
 use section::Section;
-ghost use mathlib.Core.Path.{_≡_};
 ghost use Rattle.lists.specs.Walks.{WholeSpace};
 ghost use Rattle.report.specs.Text.{ascii};
 ghost use Rattle.report.specs.Listing.{compatible, extended, refused, Part, Says};
-ghost use Rattle.report.specs.Prints.{longest, Prints};
-ghost use Rattle.report.specs.Inner.{most, Added, Told, Fits};
+ghost use Rattle.report.specs.Prints.{Prints};
+ghost use Rattle.report.specs.Inner.{longest, most, Added, Told, Fits};
 
 mod section; // section.rt: one list
 mod text; // text.rt: bytes and numbers
 
-// What was written: its length is 0 where the text is refused.
-pub struct Written {
-    pub answer: Answer,
-    pub length: usize,
-}
-
-// The most headers of each list.
-const COMPATIBLE_MAXIMUM: usize = 48;
-
-const EXTENDED_MAXIMUM: usize = 960;
-
 // The longest listing: both headings, each list at its maximum with 7 and 11 bytes to a line, and the end.
 pub const LONGEST: usize = 14 + COMPATIBLE_MAXIMUM * 7 + 13 + EXTENDED_MAXIMUM * 11 + 4;
 
-// Writes the listing of an input at the start of a text.
-pub fn listing(space: &[u8], text: &mut [u8]) -> Written
+// Writes the listing of an input at the start of a text, and answers its length.
+pub fn listing(space: &[u8], text: &mut [u8; LONGEST]) -> usize
     ensures { λ r. ⌜ Prints (now (space .entry)) (now (text .entry)) r (now (text .exit)) ⌝ }
 {
-    if text.len() < LONGEST {
-        return Written {
-            answer: Answer::Refused(Refusal::NoRoom),
-            length: 0,
-        };
-    }
     if space.len() != words::SPACE {
-        return done(other(text));
+        return other(text);
     }
-    done(parts(space, text))
-}
-
-fn done(length: usize) -> Written
-    ensures { λ r. ⌜ (r .answer ≡ Answer.Done) × (r .length ≡ length) ⌝ }
-{
-    Written {
-        answer: Answer::Done,
-        length,
-    }
+    parts(space, text)
 }
 
 // An input of another size.

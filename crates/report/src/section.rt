@@ -11,7 +11,7 @@ ghost use Rattle.answers.specs.Numbers.{numberOf};
 ghost use Rattle.lists.specs.Walks.{WholeSpace};
 ghost use Rattle.report.specs.Text.{line};
 ghost use Rattle.report.specs.Listing.{compatibleEntry, extendedEntry, heading, refused, entries, Part};
-ghost use Rattle.report.specs.Inner.{kindOf, shown, width, most, Added, Told, Fits, Ready, Chained, Roomed};
+ghost use Rattle.report.specs.Inner.{kindOf, style, width, most, Added, Told, Fits, Ready, Chained, Roomed};
 
 // The lists that are shown.
 pub(crate) enum Section {
@@ -30,7 +30,7 @@ fn kind(section: Section) -> Kind
 
 fn name(section: Section, text: &mut [u8], place: usize) -> usize
     requires { ⌜ Fits 10 (now text) place ⌝ }
-    ensures { λ r. ⌜ Added (shown section .name) (now (text .entry)) place r (now (text .exit)) ⌝ }
+    ensures { λ r. ⌜ Added (style section .name) (now (text .entry)) place r (now (text .exit)) ⌝ }
 {
     match section {
         Section::Compatible => text::append(text, place, b"compatible"),
@@ -80,7 +80,7 @@ fn extended_entry(space: &[u8], text: &mut [u8], place: usize, at: usize) -> usi
 
 fn entry(section: Section, space: &[u8], text: &mut [u8], place: usize, at: usize) -> usize
     requires { ⌜ WholeSpace (now space) × (at ≤ 0xffc) × Fits (width section) (now text) place ⌝ }
-    ensures { λ r. ⌜ Added (line (shown section .entry (now (space .entry)) at)) (now (text .entry)) place r (now (text .exit)) ⌝ }
+    ensures { λ r. ⌜ Added (line (style section .entry (now (space .entry)) at)) (now (text .entry)) place r (now (text .exit)) ⌝ }
 {
     match section {
         Section::Compatible => compatible_entry(space, text, place, at),
@@ -91,7 +91,7 @@ fn entry(section: Section, space: &[u8], text: &mut [u8], place: usize, at: usiz
 // A line for each offset.
 fn entries(section: Section, space: &[u8], text: &mut [u8], from: usize, offsets: &[u16]) -> usize
     requires { ⌜ Ready section (now space) (now offsets) (now text) from ⌝ }
-    ensures { λ r. ⌜ Added (entries (shown section) (now (space .entry)) (now (offsets .entry))) (now (text .entry)) from r (now (text .exit)) ⌝ }
+    ensures { λ r. ⌜ Added (entries (style section) (now (space .entry)) (now (offsets .entry))) (now (text .entry)) from r (now (text .exit)) ⌝ }
 {
     let mut place = from;
     let mut done = 0;
@@ -105,7 +105,7 @@ fn entries(section: Section, space: &[u8], text: &mut [u8], from: usize, offsets
 // A list with a legal chain: its count, and its headers.
 fn listed(section: Section, space: &[u8], text: &mut [u8], place: usize, offsets: &[u16]) -> usize
     requires { ⌜ Chained section (now space) (now offsets) (now text) place ⌝ }
-    ensures { λ r. ⌜ Added (heading (shown section .name) (length (now (offsets .entry))) ++ entries (shown section) (now (space .entry)) (now (offsets .entry))) (now (text .entry)) place r (now (text .exit)) ⌝ }
+    ensures { λ r. ⌜ Added (heading (style section .name) (length (now (offsets .entry))) ++ entries (style section) (now (space .entry)) (now (offsets .entry))) (now (text .entry)) place r (now (text .exit)) ⌝ }
 {
     let named = name(section, text, place);
     let headed = text::numbered(text, named, offsets.len(), b"\n");
@@ -115,7 +115,7 @@ fn listed(section: Section, space: &[u8], text: &mut [u8], place: usize, offsets
 // A list without one.
 fn broken(section: Section, text: &mut [u8], place: usize, refusal: Refusal) -> usize
     requires { ⌜ Fits 23 (now text) place ⌝ }
-    ensures { λ r. ⌜ Added (refused (shown section .name) (numberOf refusal)) (now (text .entry)) place r (now (text .exit)) ⌝ }
+    ensures { λ r. ⌜ Added (refused (style section .name) (numberOf refusal)) (now (text .entry)) place r (now (text .exit)) ⌝ }
 {
     let named = name(section, text, place);
     text::refused(text, named, refusal)
@@ -130,7 +130,7 @@ pub(crate) fn write(
     room: &mut [u16],
 ) -> usize
     requires { ⌜ Roomed section (now space) (now room) (now text) place ⌝ }
-    ensures { λ r. ⌜ Told (Part (shown section) (now (space .entry))) (most section) (now (text .entry)) place r (now (text .exit)) ⌝ }
+    ensures { λ r. ⌜ Told (Part (style section) (now (space .entry))) (most section) (now (text .entry)) place r (now (text .exit)) ⌝ }
 {
     let walked = lists::walk(kind(section), space, room);
     let answer = walked.answer;

@@ -7,7 +7,7 @@ use lib.ListN.{length}
 use Rattle.board.specs.declared.Served.{Served}
 use Rattle.board.specs.Description.{Board, WellDescribed, afterReset}
 use Rattle.board.specs.Serving.{serve}
-use Rattle.board.specs.Promise.{Seen, lent, seen, shows, Serves}
+use Rattle.board.specs.Promise.{Seen, shows, Serves}
 use Rattle.board.proofs.Keeps.{serve-keeps, serve-keeps-well, reset-keeps-well}
 use Rattle.runs.specs.Run.{Event, packet, reset, next, after, outcomes}
 use Rattle.runs.specs.Calls.{Call, called, wasReset, eventOf, eventsOf, holds, held, Meets, AllMeet, Show}

@@ -24,7 +24,7 @@ eventOf (wasReset kept) = reset
 
 abbrev pub eventsOf : List Call → List Event
 eventsOf [] = []
-eventsOf (c ∷ cs) = eventOf c ∷ eventsOf cs
+eventsOf (call ∷ calls) = eventOf call ∷ eventsOf calls
 
 -- what the caller holds after a call: the capture that was handed back, and the spaces as the call left them
 abbrev pub holds : Board → Call → Board
@@ -34,7 +34,7 @@ holds d (wasReset kept) = record { description = d .description; capture = kept;
 
 abbrev pub held : Board → List Call → Board
 held d [] = d
-held d (c ∷ cs) = held (holds d c) cs
+held d (call ∷ calls) = held (holds d call) calls
 
 -- the call's result meets the entry's promise
 abbrev pub Meets : Board → Call → Type 0
@@ -44,12 +44,13 @@ Meets d (wasReset kept) = kept ≡ forgotten (d .capture)
 -- each call does, from what the caller held
 abbrev pub AllMeet : Board → List Call → Type 0
 AllMeet d [] = Unit {0}
-AllMeet d (c ∷ cs) = Meets d c × AllMeet (holds d c) cs
+AllMeet d (call ∷ calls) = Meets d call × AllMeet (holds d call) calls
 
 -- each call of `serve` showed the outcome that stands for it
 abbrev pub Show : List Call → List Outcome → Type 0
 Show [] [] = Unit {0}
 Show [] (o ∷ os) = ⊥
-Show (called bytes reply result ordinary trusted replied ∷ cs) [] = ⊥
-Show (called bytes reply result ordinary trusted replied ∷ cs) (o ∷ os) = (seen result ordinary trusted replied ≡ shows o reply) × Show cs os
-Show (wasReset kept ∷ cs) os = Show cs os
+Show (called bytes reply result ordinary trusted replied ∷ calls) [] = ⊥
+Show (called bytes reply result ordinary trusted replied ∷ calls) (o ∷ os) =
+    (seen result ordinary trusted replied ≡ shows o reply) × Show calls os
+Show (wasReset kept ∷ calls) os = Show calls os

@@ -19,14 +19,14 @@ next d reset = afterReset d
 -- the board after a run
 abbrev pub after : Board → List Event → Board
 after d [] = d
-after d (e ∷ es) = after (next d e) es
+after d (event ∷ events) = after (next d event) events
 
 -- what the packets of a run are answered, in their order
 abbrev pub outcomes : Board → List Event → List Outcome
 outcomes d [] = []
-outcomes d (packet bytes size ∷ es) = serve d bytes size ∷ outcomes (serve d bytes size .after) es
-outcomes d (reset ∷ es) = outcomes (afterReset d) es
+outcomes d (packet bytes size ∷ events) = serve d bytes size ∷ outcomes (serve d bytes size .after) events
+outcomes d (reset ∷ events) = outcomes (afterReset d) events
 
 -- "A fresh board has captured none."
 abbrev pub freshBoard : Description → Space → Space → Board
-freshBoard d ordinary trusted = record { description = d; capture = fresh; ordinary = ordinary; trusted = trusted }
+freshBoard description ordinary trusted = record { description = description; capture = fresh; ordinary = ordinary; trusted = trusted }

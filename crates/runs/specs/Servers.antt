@@ -1,130 +1,120 @@
--- Document 01, "Tried against them, and refused": servers that must not meet the promise, and the newcomers' traps that concern packets.
--- Each is serving with something else in one place. Assumes nothing.
-use Prim.Native.Nat.{ℕ, zero, suc, _%_}
-use mathlib.Core.Bool.{Bool, cond, _&&_}
+-- Document 01, "Tried against them, and refused": what each of the wrong servers does, for any server at all, and the newcomers' traps that
+-- concern packets. A server here is what a caller sees of it. Assumes nothing.
+use Prim.Native.Nat.{ℕ, _≤_}
+use mathlib.Core.Bool.{Bool, true, false}
 use mathlib.Core.List.{List, [], _∷_}
 use mathlib.Core.Path.{_≡_}
-use lib.ListN.{length}
+use lib.ListN.{length, take, drop, replicate}
+use Rattle.words.specs.Bytes.{byte, four}
 use Rattle.registers.specs.Shown.{shown}
-use Rattle.words.specs.Bytes.{four}
-use Rattle.packet.specs.declared.Request.{Request}
-use Rattle.packet.specs.Fields.{dataOf}
-use Rattle.packet.specs.Request.{requestOf, isTrusted}
-use Rattle.packet.specs.Completion.{unsupportedRequest, withData}
-use Rattle.capture.specs.declared.Capture.{Capture}
-use Rattle.capture.specs.Kept.{captured}
-use Rattle.board.specs.declared.Served.{Served}
-use Rattle.board.specs.Description.{Board, WellDescribed, afterReset}
-use Rattle.board.specs.Serving.{Outcome, completerOf, replies, respond, serveNumber, refused, serve}
-use Rattle.board.specs.Promise.{seen, shows, Serves}
-use Rattle.runs.specs.Run.{Event, packet, reset}
+use Rattle.packet.specs.declared.Target.{Target}
+use Rattle.packet.specs.declared.Target.the-variants.{Type0, Trusted}
+use Rattle.packet.specs.declared.Status.the-variants.{Unsupported}
+use Rattle.packet.specs.Request.{requestOf}
+use Rattle.packet.specs.Completion.{statusByte}
+use Rattle.capture.specs.declared.Capture.the-variants.{Nothing, Number}
+use Rattle.board.specs.Description.{Board}
+use Rattle.board.specs.Serving.{serve}
+use Rattle.board.specs.Promise.{Seen, lent, shows}
+use Rattle.runs.specs.Bench.{changed}
 
--- a server: the board, the packet and the reply's size to an outcome
+-- any server: the board, the packet and the reply as lent, and what is seen afterwards
 abbrev pub Server : Type 0
-Server = Board → List ℕ → ℕ → Outcome
+Server = Board → List ℕ → List ℕ → Seen
 
--- a well-described board, a packet and a reply with which a server does not meet the promise, whatever result it gives that shows what it
--- did
-pub record Caught (server : Server) : Type 0 where
-  pub board : Board
-  pub bytes : List ℕ
-  pub reply : List ℕ
-  pub well : WellDescribed board
-  pub caught : (r : Served) (ordinary trusted after : List ℕ) → seen r ordinary trusted after ≡ shows (server board bytes (length reply)) reply
-      → Serves board bytes reply r ordinary trusted after → ⊥
+-- what the promise of `board::serve` wants seen
+abbrev pub promised : Server
+promised d p reply = shows (serve d p (length reply)) reply
 
--- serving with another response to a packet that has no fault
-abbrev pub byAnother : (Board → Request → List ℕ → Outcome) → ℕ → Board → List ℕ → Outcome
-byAnother response zero d p = response d (requestOf p) (dataOf p)
-byAnother response (suc n) d p = refused (suc n) d
+-- a server is right about a packet, with a reply of 16 bytes
+abbrev pub untouched : List ℕ
+untouched = replicate 16 0xee
 
-abbrev pub responding : (Board → Request → List ℕ → Outcome) → Server
-responding response d p size = byAnother response (serveNumber d p size) d p
+abbrev pub RightAt : Server → Board → List ℕ → Type 0
+RightAt server d p = server d p untouched ≡ promised d p untouched
 
--- "a server that answers UR to everything"
-abbrev pub alwaysUR : Server
-alwaysUR = responding (λ d q new. replies d unsupportedRequest q)
+-- the bytes of the reply that it says it wrote
+abbrev pub completion : Seen → List ℕ
+completion x = take (x .count) (x .reply)
+
+-- ---- the wrong servers
+
+-- "a server that answers UR to everything": each completion has status 20h
+abbrev pub AnswersUR : Server → Type 0
+AnswersUR server =
+    (d : Board) (p reply : List ℕ) → server d p reply .number ≡ 0 → byte (completion (server d p reply)) 6 ≡ statusByte Unsupported
 
 -- "one fixed completion"
-abbrev pub fixedCompletion : List ℕ → Server
-fixedCompletion completion = responding (λ d q new. record { number = 0; after = d; written = completion })
+abbrev pub Always : List ℕ → Server → Type 0
+Always fixed server = (d : Board) (p reply : List ℕ) → server d p reply .number ≡ 0 → completion (server d p reply) ≡ fixed
 
--- the board with its spaces as they were before, and the capture as it is after
-abbrev pub spacesOf : Board → Board → Board
-spacesOf before after =
-    record { description = after .description; capture = after .capture; ordinary = before .ordinary; trusted = before .trusted }
+-- "a server that replies and stores nothing": it leaves the ordinary bytes as they are; it leaves the trusted bytes as they are
+abbrev pub LeavesOrdinary : Server → Type 0
+LeavesOrdinary server = (d : Board) (p reply : List ℕ) → server d p reply .ordinary ≡ d .ordinary .bytes
 
--- "a server that replies and stores nothing" (it even captures)
-abbrev pub storesNothing : Server
-storesNothing =
-    responding (λ d q new. record { number = 0; after = spacesOf d (respond d q new .after); written = respond d q new .written })
+abbrev pub LeavesTrusted : Server → Type 0
+LeavesTrusted server = (d : Board) (p reply : List ℕ) → server d p reply .trusted ≡ d .trusted .bytes
 
--- "one that serves the first packet and afterwards only replies": by what came before
-abbrev pub servesOnce : List Event → Server
-servesOnce [] = serve
-servesOnce (reset ∷ past) = servesOnce past
-servesOnce (packet bytes size₀ ∷ past) = λ d p size. record { number = serve d p size .number; after = d; written = serve d p size .written }
+-- a server with a memory of its own, of any kind: how it answers with it, and what it remembers of a packet
+pub record Remembering : Type 1 where
+  pub Memory : Type 0
+  pub start : Memory
+  pub answers : Memory → Server
+  pub remembers : Memory → Board → List ℕ → List ℕ → Memory
 
--- a run of a server that remembers what came before
-abbrev pub outcomesBy : (List Event → Server) → List Event → Board → List Event → List Outcome
-outcomesBy server past d [] = []
-outcomesBy server past d (packet bytes size ∷ es) =
-    server past d bytes size ∷ outcomesBy server (packet bytes size ∷ past) (server past d bytes size .after) es
-outcomesBy server past d (reset ∷ es) = outcomesBy server (reset ∷ past) (afterReset d) es
+-- "one that serves the first packet and afterwards only replies": once it has served a packet, it leaves the ordinary bytes as they are
+abbrev pub StoresOnce : Remembering → Type 0
+StoresOnce m =
+    (d : Board) (p reply : List ℕ) → m .answers (m .start) d p reply .number ≡ 0 → LeavesOrdinary (m .answers (m .remembers (m .start) d p reply))
 
--- "Capturing from a trusted write": the capture is the write's, whatever the write is answered. (One that succeeds names the captured two
--- already; one that is answered UR tells.)
-abbrev pub capturing : Board → Request → Board
-capturing d q =
-    record {
-      description = d .description;
-      capture = captured (d .capture) (q .bus) (q .device);
-      ordinary = d .ordinary;
-      trusted = d .trusted;
-    }
+-- what the caller holds after a packet, and what is seen over a sequence of packets: of such a server, and as promised
+abbrev pub boardAfter : Board → Seen → Board
+boardAfter d x = lent (d .description) (x .capture) (x .ordinary) (d .ordinary .rules) (x .trusted) (d .trusted .rules)
 
-abbrev pub capturesTrusted : Server
-capturesTrusted =
-    responding (λ d q new.
-    let r = respond d q new in
-    record { number = 0; after = cond (q .writes && isTrusted (q .target)) (capturing (r .after) q) (r .after); written = r .written })
+abbrev pub seenOver : (m : Remembering) → m .Memory → Board → List (List ℕ) → List Seen
+seenOver m memory d [] = []
+seenOver m memory d (p ∷ ps) =
+    let x = m .answers memory d p untouched in
+    x ∷ seenOver m (m .remembers memory d p untouched) (boardAfter d x) ps
+
+abbrev pub promisedOver : Board → List (List ℕ) → List Seen
+promisedOver d [] = []
+promisedOver d (p ∷ ps) = let x = promised d p untouched in x ∷ promisedOver (boardAfter d x) ps
+
+-- ---- the traps
+
+-- a write, poisoned or not, for the board's own function
+pub record OwnWrite (d : Board) (p : List ℕ) (target : Target) (poisoned : Bool) : Type 0 where
+  pub writes : requestOf p .writes ≡ true
+  pub own : requestOf p .function ≡ d .description .function
+  pub for : requestOf p .target ≡ target
+  pub poison : requestOf p .poisoned ≡ poisoned
+
+-- "Capturing from a trusted write": while nothing is captured, since one that succeeds names what is captured
+abbrev pub CapturesTrusted : Server → Type 0
+CapturesTrusted server =
+    (d : Board) (p reply : List ℕ) → OwnWrite d p Trusted false → d .capture ≡ Nothing → server d p reply .number ≡ 0
+    → server d p reply .capture ≡ Number (requestOf p .bus) (requestOf p .device)
 
 -- ".. or from a poisoned one"
-abbrev pub capturesPoisoned : Server
-capturesPoisoned =
-    responding (λ d q new.
-    let r = respond d q new in
-    record { number = 0; after = cond (q .writes && q .poisoned) (capturing (r .after) q) (r .after); written = r .written })
+abbrev pub CapturesPoisoned : Server → Type 0
+CapturesPoisoned server =
+    (d : Board) (p reply : List ℕ) → OwnWrite d p Type0 true → server d p reply .number ≡ 0
+    → server d p reply .capture ≡ Number (requestOf p .bus) (requestOf p .device)
 
--- "Dropping the extended register bits, so that 104h and 004h meet."
-abbrev pub shortOffset : Request → Request
-shortOffset q =
-    record {
-      target = q .target;
-      writes = q .writes;
-      poisoned = q .poisoned;
-      requester = q .requester;
-      tag = q .tag;
-      enables = q .enables;
-      bus = q .bus;
-      device = q .device;
-      function = q .function;
-      offset = q .offset % 256;
-    }
+-- "Dropping the extended register bits, so that 104h and 004h meet.": byte 10 makes no difference
+abbrev pub DropsRegisterBits : Server → Type 0
+DropsRegisterBits server = (d : Board) (p reply : List ℕ) → 12 ≤ length p → server d p reply ≡ server d (changed p 10 0x00) reply
 
-abbrev pub dropsRegisterBits : Server
-dropsRegisterBits = responding (λ d q new. respond d (shortOffset q) new)
+-- a read of the word at A, for the board's own function
+pub record ReadAtA (d : Board) (p : List ℕ) : Type 0 where
+  pub reads : requestOf p .writes ≡ false
+  pub own : requestOf p .function ≡ d .description .function
+  pub ordinary : requestOf p .target ≡ Type0
+  pub atA : requestOf p .offset ≡ d .description .a
 
--- "Letting an ordinary read at A show the stale ordinary bytes.": A is nowhere
-abbrev pub withoutA : Board → Board
-withoutA d =
-    record {
-      description = record { function = d .description .function; a = 0x1000; b = d .description .b };
-      capture = d .capture;
-      ordinary = d .ordinary;
-      trusted = d .trusted;
-    }
-
-abbrev pub showsStale : Server
-showsStale =
-    responding (λ d q new. record { number = 0; after = respond d q new .after; written = respond (withoutA d) q new .written })
+-- "Letting an ordinary read at A show the stale ordinary bytes."
+abbrev pub ShowsStale : Server → Type 0
+ShowsStale server =
+    (d : Board) (p reply : List ℕ) → ReadAtA d p → server d p reply .number ≡ 0
+    → drop 12 (completion (server d p reply)) ≡ shown (four (d .ordinary .bytes) (d .description .a)) (requestOf p .enables)

@@ -10,8 +10,10 @@ use Rattle.answers.specs.Checks.{check, firstThatApplies}
 use Rattle.packet.specs.declared.Id.{Id}
 use Rattle.packet.specs.declared.Request.{Request}
 use Rattle.packet.specs.Fields.{dataOf}
-use Rattle.packet.specs.Request.{packetChecks, requestOf, isTrusted, trusted}
-use Rattle.packet.specs.Completion.{unsupportedRequest, success, withData, withoutData}
+use Rattle.packet.specs.Request.{packetChecks, requestOf}
+use Rattle.packet.specs.declared.Status.{Status}
+use Rattle.packet.specs.declared.Status.the-variants.{Success, Unsupported}
+use Rattle.packet.specs.Completion.{withData, withoutData}
 use Rattle.capture.specs.declared.Capture.{Capture}
 use Rattle.capture.specs.declared.Capture.the-variants.{Nothing, Number}
 use Rattle.capture.specs.Kept.{completer}
@@ -19,7 +21,7 @@ use Rattle.board.specs.declared.Description.{Description}
 use Rattle.board.specs.Description.{Board, WellDescribed}
 use Rattle.board.specs.Access.{unsupported, afterWrite, readWord}
 use Rattle.board.specs.Serving.{Outcome, completerOf, replies, repliesData, respond, serveNumber, byNumber, serve}
-use Rattle.board.proofs.Outcomes.{respond-unsupported, respond-write, respond-read}
+use Rattle.board.proofs.Outcomes.{respond-unsupported, respond-write, respond-read, respond-number}
 
 -- two boards that are alike
 pub record Alike {View : Type 0} (view : Board → View) (d e : Board) : Type 0 where
@@ -61,7 +63,7 @@ module _ {View : Type 0} (view : Board → View) (d e : Board) (q : Request) whe
   completer-same : Alike view d e → completerOf d ≡ completerOf e
   completer-same a = ap₂ completer (a .captures) (a .functions)
 
-  replies-same : (status : ℕ) → Alike view d e → Same view (replies d status q) (replies e status q)
+  replies-same : (status : Status) → Alike view d e → Same view (replies d status q) (replies e status q)
   replies-same status a =
       record {
         numbers = refl;
@@ -76,10 +78,10 @@ module _ {View : Type 0} (view : Board → View) (d e : Board) (q : Request) whe
 module _ {View : Type 0} (view : Board → View) (d e : Board) (q : Request) (new : List ℕ) (a : Alike view d e) (h : Answered view d e q new) where
   by-cases : (u w : Bool) → unsupported (d .description) (d .capture) q ≡ u → unsupported (e .description) (e .capture) q ≡ u → q .writes ≡ w
       → Same view (respond d q new) (respond e q new)
-  by-cases true w ud ue wr = rw (respond-unsupported d q new ud, respond-unsupported e q new ue) (replies-same view d e q unsupportedRequest a)
+  by-cases true w ud ue wr = rw (respond-unsupported d q new ud, respond-unsupported e q new ue) (replies-same view d e q Unsupported a)
   by-cases false true ud ue wr =
       rw (respond-write d q new ud wr, respond-write e q new ue wr)
-      (replies-same view (afterWrite d q new) (afterWrite e q new) q success (h .stores))
+      (replies-same view (afterWrite d q new) (afterWrite e q new) q Success (h .stores))
   by-cases false false ud ue wr = rw (respond-read d q new ud wr, respond-read e q new ue wr) (data-same view d e q (h .reads) a)
 
   respond-same : Same view (respond d q new) (respond e q new)
@@ -92,12 +94,6 @@ module _ {View : Type 0} (view : Board → View) (d e : Board) (q : Request) (ne
 
 -- ---- a packet
 
-respond-number : (d : Board) (q : Request) (new : List ℕ) (u w : Bool) → unsupported (d .description) (d .capture) q ≡ u → q .writes ≡ w
-    → respond d q new .number ≡ 0
-respond-number d q new true w u h = rw (respond-unsupported d q new u)
-respond-number d q new false true u h = rw (respond-write d q new u h)
-respond-number d q new false false u h = rw (respond-read d q new u h)
-
 module _ {View : Type 0} (view : Board → View) (d e : Board) (p : List ℕ) where
   -- the outcomes of two numbers are the same, if what has to be known is known where both are 0
   abbrev ByNumber : ℕ → ℕ → Type 0
@@ -106,10 +102,8 @@ module _ {View : Type 0} (view : Board → View) (d e : Board) (p : List ℕ) wh
       → Same view (byNumber m d p) (byNumber n e p)
 
   by-number : (n : ℕ) → Alike view d e → ByNumber n n
-  by-number zero a h = respond-same view d e (requestOf p) (dataOf p) a (h (zero-number d) (zero-number e))
-    where
-      zero-number : (x : Board) → respond x (requestOf p) (dataOf p) .number ≡ 0
-      zero-number x = respond-number x (requestOf p) (dataOf p) _ _ refl refl
+  by-number zero a h =
+      respond-same view d e (requestOf p) (dataOf p) a (h (respond-number d (requestOf p) (dataOf p)) (respond-number e (requestOf p) (dataOf p)))
   by-number (suc n) a h = record { numbers = refl; written = refl; afters = a }
 
 pub served-alike : {View : Type 0} (view : Board → View) → ServedAlike view

@@ -9,21 +9,13 @@ use mathlib.Core.Path.{_≡_, refl, ap}
 use lib.Dec.{eqb}
 use lib.ListN.{length}
 use borrow.Author.Tests.{eqb-false}
-use Rattle.words.specs.Places.{placed}
-use Rattle.registers.specs.Merge.{mergedByte, merged}
-use Rattle.registers.specs.Shown.{shown}
 use Rattle.words.specs.Bytes.{byte}
-use Rattle.packet.specs.Fields.{typeOf}
-use Rattle.packet.specs.Request.{requestOf}
-use Rattle.packet.specs.Completion.{withData, withoutData}
 use Rattle.capture.specs.declared.Capture.{Capture}
 use Rattle.capture.specs.declared.Capture.the-variants.{Nothing, Number}
-use Rattle.capture.specs.Kept.{completer}
 use Rattle.board.specs.Description.{WellDescribed}
-use Rattle.board.specs.Access.{unsupported, storedBytes, storedOrdinary, afterWrite, shownWord}
-use Rattle.board.specs.Serving.{respond, serve}
+use Rattle.board.proofs.Computing.{computing}
 use Rattle.shares.specs.Kinds.{only}
-use Rattle.shares.specs.Views.{ordinaryState, trustedState, ordinaryEvents, trustedPackets, ordinaryShown, trustedShown, correlations, captures}
+use Rattle.shares.specs.Views.{ordinaryState, trustedState, ordinaryEvents, trustedPackets, ordinarySights, trustedSights, correlations, captures}
 use Rattle.shares.proofs.Needed.{nth, isReset}
 use Rattle.shares.proofs.Examples.{boardA, boardB, boardC, boardD, runA, runB, runC, runD}
 
@@ -41,7 +33,7 @@ pub record FirstHalfBites : Type 0 where
   pub differentBytes : Apart (boardA .trusted .bytes) (boardB .trusted .bytes)
   pub differentRules : Apart (boardA .trusted .rules) (boardB .trusted .rules)
   pub differentPackets : (length (trustedPackets runA) ≡ 1) × (length (trustedPackets runB) ≡ 4)
-  pub reply : nth 1 (ordinaryShown boardA runA) .written
+  pub reply : nth 1 (ordinarySights boardA runA) .written
       ≡ 0x4a ∷ 0x00 ∷ 0x00 ∷ 0x01 ∷ 0x05 ∷ 0x18 ∷ 0x00 ∷ 0x04 ∷ 0x01 ∷ 0x00 ∷ 0x09 ∷ 0x00 ∷ 0x5a ∷ 0x6b ∷ 0x7c ∷ 0x8d ∷ []
 
 -- and for the second: the reply to the second trusted packet, a read
@@ -57,7 +49,7 @@ pub record SecondHalfBites : Type 0 where
   pub differentCapture : Apart (boardC .capture) (boardD .capture)
   pub differentEvents : (length (ordinaryEvents runC) ≡ 1) × (length (ordinaryEvents runD) ≡ 7)
   pub differentResets : (length (only isReset runC) ≡ 0) × (length (only isReset runD) ≡ 2)
-  pub reply : nth 1 (trustedShown boardC runC) .written
+  pub reply : nth 1 (trustedSights boardC runC) .written
       ≡ 0x4a ∷ 0x00 ∷ 0x00 ∷ 0x01 ∷ 0x05 ∷ 0x18 ∷ 0x00 ∷ 0x04 ∷ 0x01 ∷ 0x00 ∷ 0x08 ∷ 0x00 ∷ 0x5a ∷ 0x6b ∷ 0x7c ∷ 0x8d ∷ []
 
 apart : {A : Type 0} {x y : A} (tell : A → ℕ) → eqb (tell x) (tell y) ≡ false → Apart x y
@@ -69,7 +61,7 @@ bus Nothing = 0
 bus (Number b device) = b
 
 pub first-half-bites : FirstHalfBites
-unfolding placed serve respond unsupported storedBytes storedOrdinary afterWrite shownWord requestOf typeOf withData withoutData completer merged mergedByte shown
+unfolding computing
 first-half-bites =
     record {
       well = (refl, refl);
@@ -84,7 +76,7 @@ first-half-bites =
     }
 
 pub second-half-bites : SecondHalfBites
-unfolding placed serve respond unsupported storedBytes storedOrdinary afterWrite shownWord requestOf typeOf withData withoutData completer merged mergedByte shown
+unfolding computing
 second-half-bites =
     record {
       well = (refl, refl);

@@ -8,15 +8,15 @@ use Rattle.board.specs.Description.{Space, Board, WellDescribed}
 use Rattle.runs.specs.Run.{Event, packet, reset, next, after}
 use Rattle.runs.proofs.Calls.{run-keeps-well}
 use Rattle.shares.specs.Kinds.{only, along}
-use Rattle.shares.specs.Views.{Shown, outcome, showing}
+use Rattle.shares.specs.Views.{Sight, outcome, sightAt}
 use Rattle.shares.proofs.TwoRuns.{Machine, Laws, final, two-runs}
 use Rattle.shares.proofs.Alike.{Same}
 
 -- the events that both runs have in common and those at which something is asked and shown, the view and the space within it, and what is
 -- asked at an event
 module _ {View Cell : Type 0} (mine seen : Event → Bool) (view : Board → View) (space : View → Space) (cell : Board → Event → Cell) where
-  abbrev shownBytes : Board → Event → Shown
-  shownBytes = showing (λ d. space (view d))
+  abbrev shownBytes : Board → Event → Sight
+  shownBytes = sightAt (λ d. space (view d))
 
   -- the statement
   abbrev pub BoardsAgree : Type 0
@@ -32,7 +32,7 @@ module _ {View Cell : Type 0} (mine seen : Event → Bool) (view : Board → Vie
     pub stepped : (d e : Board) (x : Event) → WellDescribed d → WellDescribed e → mine x ≡ true → view d ≡ view e
         → (seen x ≡ true → cell d x ≡ cell e x) → Same view (outcome d x) (outcome e x)
 
-  machine : Machine Board Event View Cell Shown
+  machine : Machine Board Event View Cell Sight
   machine = record { next = next; mine = mine; seen = seen; Good = WellDescribed; view = view; cell = cell; show = shownBytes }
 
   next-is : (d : Board) (x : Event) → outcome d x .after ≡ next d x

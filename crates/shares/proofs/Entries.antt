@@ -1,22 +1,18 @@
 -- Demand 3 of the entries: any calls of `board::serve` and `board::reset` that meet their promises obey both halves, in what the calls
 -- themselves showed and the caller then holds. Assumes nothing.
-use Prim.Native.Nat.{ℕ}
-use mathlib.Core.Bool.{Bool, cond}
+use mathlib.Core.Bool.{Bool}
 use mathlib.Core.List.{List, [], _∷_}
-use mathlib.Core.Option.{none, some}
 use mathlib.Core.Path.{_≡_, refl, sym, ap, ap₂, _∙_}
-use lib.Dec.{eqb}
 use lib.ListN.{length, take}
 use lib.Seq.{take-append-seam}
 use Rattle.board.specs.Description.{Space, Board, WellDescribed}
-use Rattle.board.specs.Access.{correlation}
 use Rattle.board.specs.Serving.{serve}
 use Rattle.board.specs.Promise.{Seen, shows}
 use Rattle.runs.specs.Run.{Event, next, after}
 use Rattle.runs.specs.Calls.{Call, called, wasReset, eventOf, eventsOf, holds, held, Meets, AllMeet}
 use Rattle.runs.proofs.Calls.{calls-give-run}
 use Rattle.shares.specs.Kinds.{keep, along}
-use Rattle.shares.specs.Views.{ordinaryPacket, trustedPacket, ordinaryEvents, trustedPackets, ordinaryState, trustedState, outcome, showing, register}
+use Rattle.shares.specs.Views.{ordinaryPacket, trustedPacket, ordinaryEvents, trustedPackets, ordinaryState, trustedState, outcome, sightAt, register}
 use Rattle.shares.specs.Calls.{answered, wrote, showed, heldRegister, alongCalls, FirstHalfOfCalls, SecondHalfOfCalls}
 use Rattle.shares.proofs.Half.{Half}
 use Rattle.shares.proofs.FirstHalf.{first-half}
@@ -39,19 +35,16 @@ number-shown d (wasReset kept) m = refl
 written-shown : (d : Board) (c : Call) → Meets d c → wrote c ≡ outcome d (eventOf c) .written
 unfolding shows
 written-shown d (called bytes reply r o t replied) m =
-    ap (λ (x : Seen). take (x .length) (x .reply)) m ∙ take-append-seam (serve d bytes (length reply) .written) _
+    ap (λ (x : Seen). take (x .count) (x .reply)) m ∙ take-append-seam (serve d bytes (length reply) .written) _
 written-shown d (wasReset kept) m = refl
 
 bytes-shown : (space : Board → Space) (d : Board) (c : Call) → Meets d c → space (holds d c) .bytes ≡ space (outcome d (eventOf c) .after) .bytes
 bytes-shown space d (called bytes reply r o t replied) m = ap (λ (x : Board). space x .bytes) (holds-next d (called bytes reply r o t replied) m)
 bytes-shown space d (wasReset kept) m = ap (λ (x : Board). space x .bytes) (holds-next d (wasReset kept) m)
 
-showed-is : (space : Board → Space) (d : Board) (c : Call) → Meets d c → showed space d c ≡ showing space d (eventOf c)
+showed-is : (space : Board → Space) (d : Board) (c : Call) → Meets d c → showed space d c ≡ sightAt space d (eventOf c)
 showed-is space d c m =
     λ i. record { number = number-shown d c m i; written = written-shown d c m i; bytes = bytes-shown space d c m i }
-
-register-is : (d : Board) (c : Call) → Meets d c → heldRegister d c ≡ register d (eventOf c)
-register-is d c m = ap (λ (n : ℕ). cond (eqb n 0) (some (correlation d)) none) (number-shown d c m)
 
 -- ---- a row of calls
 
@@ -68,11 +61,11 @@ along-calls counts value ofCall is d (c ∷ cs) m =
 
 module _ {State Common Shared : Type 0} (counts : Event → Bool) (state : Board → State) (common : List Event → Common) (space : Board → Space)
     (cell : Board → Event → Shared) (ofCall : Board → Call → Shared) (is : (d : Board) (c : Call) → Meets d c → ofCall d c ≡ cell d (eventOf c)) where
-  of-calls : Half (λ d es. WellDescribed d) state common (along counts next cell) (along counts next (showing space)) after
+  of-calls : Half (λ d es. WellDescribed d) state common (along counts next cell) (along counts next (sightAt space)) after
       → Half (λ d cs. WellDescribed d × AllMeet d cs) state (λ cs. common (eventsOf cs)) (alongCalls counts ofCall) (alongCalls counts (showed space)) held
   of-calls half d e cs gs wd we v o k =
       let shared = along-calls counts cell ofCall is in
-      let shown = along-calls counts (showing space) (showed space) (showed-is space) in
+      let shown = along-calls counts (sightAt space) (showed space) (showed-is space) in
       let r = half d e (eventsOf cs) (eventsOf gs) (wd .0) (we .0) v o (sym (shared d cs (wd .1)) ∙ k ∙ shared e gs (we .1)) in (
         shown d cs (wd .1) ∙ r .0 ∙ sym (shown e gs (we .1)),
         ap state (calls-give-run d cs (wd .1) .0) ∙ r .1 ∙ sym (ap state (calls-give-run e gs (we .1) .0)),
@@ -80,6 +73,6 @@ module _ {State Common Shared : Type 0} (counts : Event → Bool) (state : Board
 
 pub both-halves-of-calls : BothHalvesOfCalls
 both-halves-of-calls = (
-  of-calls ordinaryPacket ordinaryState ordinaryEvents (λ x. x .ordinary) register heldRegister register-is first-half,
+  of-calls ordinaryPacket ordinaryState ordinaryEvents (λ x. x .ordinary) register heldRegister (λ d c m. refl) first-half,
   of-calls trustedPacket trustedState trustedPackets (λ x. x .trusted) (λ d x. d .capture) (λ d c. d .capture) (λ d c m. refl) second-half,
 )

@@ -6,12 +6,9 @@ use Rattle.capture.specs.declared.Capture.{Capture}
 use Rattle.capture.specs.declared.Capture.the-variants.{Nothing, Number}
 use Rattle.board.specs.Description.{Space, Board}
 use Rattle.runs.specs.Run.{Event, packet, reset}
-use Rattle.runs.specs.Bench.{zeros, holding, benchRules, p2, changed}
+use Rattle.runs.specs.Bench.{zeros, holding, benchRules, p2, readAt, changed}
 
 -- ---- packets, by bytes 10 and 11, and for a write its enables and data
-
-abbrev pub readAt : ℕ → ℕ → List ℕ
-readAt ten eleven = 0x04 ∷ 0x00 ∷ 0x00 ∷ 0x01 ∷ 0x01 ∷ 0x00 ∷ 0x09 ∷ 0x0f ∷ 0x05 ∷ 0x18 ∷ ten ∷ eleven ∷ []
 
 abbrev pub trustedReadAt : ℕ → ℕ → List ℕ
 trustedReadAt ten eleven = 0x1b ∷ 0x00 ∷ 0x00 ∷ 0x01 ∷ 0x01 ∷ 0x00 ∷ 0x08 ∷ 0x0f ∷ 0x05 ∷ 0x18 ∷ ten ∷ eleven ∷ []

@@ -17,6 +17,7 @@ use Rattle.runs.specs.Run.{Event, packet, reset, next}
 use Rattle.shares.specs.Views.{OrdinaryState, ordinaryState, ordinaryPacket, trustedPacket, outcome, register}
 use Rattle.shares.specs.Statements.{FirstHalf}
 use Rattle.packet.proofs.Laws.{trusted-target}
+use Rattle.shares.proofs.Served.{served-iff}
 use Rattle.shares.proofs.Alike.{Alike, Same, Answered, served-alike}
 use Rattle.shares.proofs.Boards.{boards-agree}
 
@@ -64,9 +65,11 @@ answered d e q new t v c =
 -- ---- the two laws
 
 -- what the register holds when an ordinary packet is served
-served-register : (d e : Board) (bytes : List ℕ) (size : ℕ) → register d (packet bytes size) ≡ register e (packet bytes size)
-    → serve d bytes size .number ≡ 0 → serve e bytes size .number ≡ 0 → correlation d ≡ correlation e
-served-register d e bytes size k m n = let c : some (correlation d) ≡ some (correlation e) = rw (m, n) at k in cc
+served-register : (d e : Board) (bytes : List ℕ) (size : ℕ) → WellDescribed d → register d (packet bytes size) ≡ register e (packet bytes size)
+    → serve d bytes size .number ≡ 0 → correlation d ≡ correlation e
+served-register d e bytes size w k m =
+    let c : some (correlation d) ≡ some (correlation e) = rw (served-iff d bytes size w .0 m) at k in
+    cc
 
 within : (x : Event) → not (trustedPacket x) ≡ false → ordinaryPacket x ≡ false
 within (packet bytes size) h = h
@@ -83,7 +86,7 @@ stepped : (d e : Board) (x : Event) → WellDescribed d → WellDescribed e → 
 stepped d e (packet bytes size) w u h v k =
     served-alike ordinaryState d e bytes size w u (alike d e v) (λ m n.
     answered d e (requestOf bytes) (dataOf bytes) (trusted-target bytes ∙ not-true (trusted bytes) h) v
-    (served-register d e bytes size (k h) m n))
+    (served-register d e bytes size w (k h) m))
 stepped d e reset w u h v k =
     record {
       numbers = refl;

@@ -1,7 +1,9 @@
 pub mod TwoRuns
+pub mod Served
 pub mod Alike
 pub mod Boards
 pub mod FirstHalf
+pub mod AtEach
 pub mod SecondHalf
 pub mod Half
 pub mod Entries

@@ -9,27 +9,19 @@ use mathlib.Core.Path.{_≡_, refl, ap}
 use lib.Dec.{eqb}
 use lib.ListN.{getD}
 use borrow.Author.Tests.{eqb-false}
-use Rattle.words.specs.Places.{placed}
-use Rattle.registers.specs.Merge.{mergedByte, merged}
-use Rattle.registers.specs.Shown.{shown}
 use Rattle.words.specs.Bytes.{byte}
-use Rattle.packet.specs.Fields.{typeOf}
-use Rattle.packet.specs.Request.{requestOf}
-use Rattle.packet.specs.Completion.{withData, withoutData}
 use Rattle.capture.specs.declared.Capture.{Capture}
 use Rattle.capture.specs.declared.Capture.the-variants.{Nothing, Number}
-use Rattle.capture.specs.Kept.{completer}
 use Rattle.board.specs.Description.{Space, Board, WellDescribed}
-use Rattle.board.specs.Access.{unsupported, storedBytes, storedOrdinary, afterWrite, shownWord}
-use Rattle.board.specs.Serving.{respond, serve}
 use Rattle.runs.specs.Run.{Event, packet, reset, after}
-use Rattle.runs.specs.Bench.{zeros, holding, benchRules, p1, p2}
+use Rattle.runs.specs.Bench.{zeros, holding, benchRules, p1, p2, readAt}
+use Rattle.board.proofs.Computing.{computing}
 use Rattle.shares.specs.Kinds.{only}
-use Rattle.shares.specs.Views.{OrdinaryState, TrustedState, Shown, ordinaryState, trustedState, ordinaryEvents, trustedPackets, ordinaryShown, trustedShown, correlations, captures}
+use Rattle.shares.specs.Views.{OrdinaryState, TrustedState, Sight, ordinaryState, trustedState, ordinaryEvents, trustedPackets, ordinarySights, trustedSights, correlations, captures}
 use Rattle.shares.proofs.Half.{Half}
 use Rattle.shares.proofs.FirstHalf.{first-half}
 use Rattle.shares.proofs.SecondHalf.{second-half}
-use Rattle.shares.proofs.Examples.{readAt, trustedReadAt, trustedWriteAt, sent, boardOf, spaceOf, usual, ones}
+use Rattle.shares.proofs.Examples.{trustedReadAt, trustedWriteAt, sent, boardOf, spaceOf, usual, ones}
 
 -- ---- the statements
 
@@ -38,13 +30,13 @@ pub record About (State Shared : Type 0) : Type 0 where
   pub state : Board → State
   pub events : List Event → List Event
   pub cells : Board → List Event → Shared
-  pub shows : Board → List Event → List Shown
+  pub shows : Board → List Event → List Sight
 
 abbrev pub ordinary : About OrdinaryState (List (Option (List ℕ)))
-ordinary = record { state = ordinaryState; events = ordinaryEvents; cells = correlations; shows = ordinaryShown }
+ordinary = record { state = ordinaryState; events = ordinaryEvents; cells = correlations; shows = ordinarySights }
 
 abbrev pub trusted : About TrustedState (List Capture)
-trusted = record { state = trustedState; events = trustedPackets; cells = captures; shows = trustedShown }
+trusted = record { state = trustedState; events = trustedPackets; cells = captures; shows = trustedSights }
 
 -- a half of demand 3 that asks something of each board, and compares a part of the states, of the events and of the shared values
 abbrev pub Asking : {State Shared S E C : Type 0} → About State Shared → (Board → Type 0) → (State → S) → (List Event → E) → (Shared → C) → Type 0
@@ -133,18 +125,18 @@ SecondPremisesNeeded =
 -- it is false if two runs meet what is asked and one number tells what they show apart
 refuted : {State Shared S E C : Type 0} (half : About State Shared) (fit : Board → Type 0) (states : State → S) (events : List Event → E)
     (shared : Shared → C) (d e : Board) (es fs : List Event) → fit d → fit e → states (half .state d) ≡ states (half .state e)
-    → events (half .events es) ≡ events (half .events fs) → shared (half .cells d es) ≡ shared (half .cells e fs) → (tell : List Shown → ℕ)
+    → events (half .events es) ≡ events (half .events fs) → shared (half .cells d es) ≡ shared (half .cells e fs) → (tell : List Sight → ℕ)
     → eqb (tell (half .shows d es)) (tell (half .shows e fs)) ≡ false → ¬ Asking half fit states events shared
 refuted half fit states events shared d e es fs w u v o k tell differ h = eqb-false _ _ differ (ap tell (h d e es fs w u v o k .0))
 
 -- the n-th answer, and a byte of the n-th reply
-abbrev pub nth : ℕ → List Shown → Shown
+abbrev pub nth : ℕ → List Sight → Sight
 nth n l = getD l n (record { number = 0; written = []; bytes = [] })
 
-abbrev answer : ℕ → List Shown → ℕ
+abbrev answer : ℕ → List Sight → ℕ
 answer n l = nth n l .number
 
-abbrev replied : ℕ → ℕ → List Shown → ℕ
+abbrev replied : ℕ → ℕ → List Sight → ℕ
 replied n at l = byte (nth n l .written) at
 
 -- a space of zeros with the bench sheet's rules, one with FFh in four places, one where nothing is writable; runs of one or two packets
@@ -173,7 +165,7 @@ abbrev stored4 : List Event
 stored4 = sent (trustedWriteAt 0x0f 0x00 0x04 ones) ∷ trusted4
 
 pub first-premises-needed : FirstPremisesNeeded
-unfolding placed serve respond unsupported storedBytes storedOrdinary afterWrite shownWord requestOf typeOf withData withoutData completer merged mergedByte shown
+unfolding computing
 first-premises-needed = (
   first-half,
   refuted ordinary WellDescribed whole whole nothing (usual zero zero) (usual zero (full 0x00c)) atA atA
@@ -200,7 +192,7 @@ first-premises-needed = (
 )
 
 pub second-premises-needed : SecondPremisesNeeded
-unfolding placed serve respond unsupported storedBytes storedOrdinary afterWrite shownWord requestOf typeOf withData withoutData completer merged mergedByte shown
+unfolding computing
 second-premises-needed = (
   second-half,
   refuted trusted WellDescribed whole whole nothing (usual zero zero) (boardOf 0 0x104 0x00c Nothing zero zero) trusted4 trusted4

@@ -8,25 +8,25 @@ use Rattle.shares.specs.Kinds.{keep, only, along}
 
 -- what is compared: a step, the events that both runs have in common (`mine`), those at which something is asked and shown (`seen`), the
 -- states that are admitted, the view, and what is asked and what is shown at an event
-pub record Machine (State Event View Cell Shown : Type 0) : Type 1 where
+pub record Machine (State Event View Cell Sight : Type 0) : Type 1 where
   pub next : State → Event → State
   pub mine : Event → Bool
   pub seen : Event → Bool
   pub Good : State → Type 0
   pub view : State → View
   pub cell : State → Event → Cell
-  pub show : State → Event → Shown
+  pub show : State → Event → Sight
 
 -- the state after a run
 abbrev pub final : {State Event : Type 0} → (State → Event → State) → State → List Event → State
 final next s [] = s
 final next s (e ∷ es) = final next (next s e) es
 
-module _ {State Event View Cell Shown : Type 0} (m : Machine State Event View Cell Shown) where
+module _ {State Event View Cell Sight : Type 0} (m : Machine State Event View Cell Sight) where
   abbrev pub cells : State → List Event → List Cell
   cells = along (m .seen) (m .next) (m .cell)
 
-  abbrev pub shows : State → List Event → List Shown
+  abbrev pub shows : State → List Event → List Sight
   shows = along (m .seen) (m .next) (m .show)
 
   -- what the machine owes
@@ -67,7 +67,7 @@ module _ {A : Type 0} (x y : A) (xs ys : List A) where
 
 -- ---- the proof
 
-module _ {State Event View Cell Shown : Type 0} (m : Machine State Event View Cell Shown) (laws : Laws m) where
+module _ {State Event View Cell Sight : Type 0} (m : Machine State Event View Cell Sight) (laws : Laws m) where
   swapped : (s t : State) (es fs : List Event) → Claim m s es t fs → Claim m t fs s es
   swapped s t es fs c gt gs v o k = let r = c gs gt (sym v) (sym o) (sym k) in (sym (r .0), sym (r .1))
 

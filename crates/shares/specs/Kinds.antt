@@ -4,7 +4,7 @@ use mathlib.Core.Bool.{Bool, true, false}
 use mathlib.Core.List.{List, [], _∷_}
 
 -- x in front of the list, if it counts
-abbrev pub keep : {A : Type 0} → Bool → A → List A → List A
+abbrev pub keep : {Element : Type 0} → Bool → Element → List Element → List Element
 keep true x xs = x ∷ xs
 keep false x xs = xs
 
@@ -12,9 +12,10 @@ module _ {Event : Type 0} (counts : Event → Bool) where
   -- the events that count, in their order
   abbrev pub only : List Event → List Event
   only [] = []
-  only (e ∷ es) = keep (counts e) e (only es)
+  only (event ∷ events) = keep (counts event) event (only events)
 
   -- a value for each event that counts, in their order, made of the state before it and the event; `next` gives the state after it
   abbrev pub along : {State Value : Type 0} (next : State → Event → State) (value : State → Event → Value) → State → List Event → List Value
-  along next value s [] = []
-  along next value s (e ∷ es) = keep (counts e) (value s e) (along next value (next s e) es)
+  along next value state [] = []
+  along next value state (event ∷ events) =
+      keep (counts event) (value state event) (along next value (next state event) events)

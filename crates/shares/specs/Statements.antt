@@ -3,7 +3,7 @@ use mathlib.Core.List.{List}
 use mathlib.Core.Path.{_≡_}
 use Rattle.board.specs.Description.{Board, WellDescribed}
 use Rattle.runs.specs.Run.{Event, after}
-use Rattle.shares.specs.Views.{ordinaryEvents, trustedPackets, ordinaryState, trustedState, ordinaryShown, trustedShown, correlations, captures}
+use Rattle.shares.specs.Views.{ordinaryEvents, trustedPackets, ordinaryState, trustedState, ordinarySights, trustedSights, correlations, correlationsAtEach, captures}
 
 -- "Take two runs of a well-described board from the same ordinary state, with the same ordinary packets, reply sizes for them and resets
 -- in the same order. Let trusted bytes, trusted write rules and trusted packets differ in any way. If the correlation register holds the
@@ -11,19 +11,28 @@ use Rattle.shares.specs.Views.{ordinaryEvents, trustedPackets, ordinaryS
 -- ordinary packet, and at the end, with the rest of the ordinary state. "B may differ between the two runs in its first half".
 abbrev pub FirstHalf : Type 0
 FirstHalf =
-    (d e : Board) (es fs : List Event) → WellDescribed d → WellDescribed e
+    (d e : Board) (run other : List Event) → WellDescribed d → WellDescribed e
     → ordinaryState d ≡ ordinaryState e
-    → ordinaryEvents es ≡ ordinaryEvents fs
-    → correlations d es ≡ correlations e fs
-    → (ordinaryShown d es ≡ ordinaryShown e fs) × (ordinaryState (after d es) ≡ ordinaryState (after e fs))
+    → ordinaryEvents run ≡ ordinaryEvents other
+    → correlations d run ≡ correlations e other
+    → (ordinarySights d run ≡ ordinarySights e other) × (ordinaryState (after d run) ≡ ordinaryState (after e other))
+
+-- The same with the register's value asked at every ordinary packet, and not only where one is served: more is asked, so this follows.
+abbrev pub FirstHalfAtEach : Type 0
+FirstHalfAtEach =
+    (d e : Board) (run other : List Event) → WellDescribed d → WellDescribed e
+    → ordinaryState d ≡ ordinaryState e
+    → ordinaryEvents run ≡ ordinaryEvents other
+    → correlationsAtEach d run ≡ correlationsAtEach e other
+    → (ordinarySights d run ≡ ordinarySights e other) × (ordinaryState (after d run) ≡ ordinaryState (after e other))
 
 -- "The other way round, with the same function number, trusted packets, their reply sizes, trusted bytes and rules, and equal capture at
 -- each trusted packet, all trusted answers, written reply bytes and trusted bytes agree": at each trusted packet, and at the end. "A, B
 -- and all ordinary bytes, rules, packets and resets may differ in its second [half]."
 abbrev pub SecondHalf : Type 0
 SecondHalf =
-    (d e : Board) (es fs : List Event) → WellDescribed d → WellDescribed e
+    (d e : Board) (run other : List Event) → WellDescribed d → WellDescribed e
     → trustedState d ≡ trustedState e
-    → trustedPackets es ≡ trustedPackets fs
-    → captures d es ≡ captures e fs
-    → (trustedShown d es ≡ trustedShown e fs) × (trustedState (after d es) ≡ trustedState (after e fs))
+    → trustedPackets run ≡ trustedPackets other
+    → captures d run ≡ captures e other
+    → (trustedSights d run ≡ trustedSights e other) × (trustedState (after d run) ≡ trustedState (after e other))

@@ -2,10 +2,11 @@
 -- Assumes nothing.
 use Prim.Native.Nat.{ℕ}
 use mathlib.Core.Bool.{Bool, false, not, cond}
-use mathlib.Core.List.{List, []}
+use mathlib.Core.List.{List, [], _∷_}
 use mathlib.Core.Option.{Option, none, some}
-use lib.Dec.{eqb}
-use Rattle.packet.specs.Request.{trusted}
+use lib.Dec.{eqb, ltb}
+use Rattle.answers.specs.Checks.{check, firstThatApplies}
+use Rattle.packet.specs.Request.{trusted, packetChecks}
 use Rattle.capture.specs.declared.Capture.{Capture}
 use Rattle.board.specs.Description.{Space, Board, afterReset}
 use Rattle.board.specs.Access.{correlation}
@@ -27,11 +28,11 @@ ordinaryPacket reset = false
 
 -- "the same ordinary packets, reply sizes for them and resets in the same order": the run without its trusted packets
 abbrev pub ordinaryEvents : List Event → List Event
-ordinaryEvents es = only (λ e. not (trustedPacket e)) es
+ordinaryEvents events = only (λ event. not (trustedPacket event)) events
 
 -- "the same [..] trusted packets, their reply sizes": the run with nothing but its trusted packets
 abbrev pub trustedPackets : List Event → List Event
-trustedPackets es = only trustedPacket es
+trustedPackets events = only trustedPacket events
 
 -- ---- the states
 
@@ -56,7 +57,7 @@ trustedState d = record { function = d .description .function; space = d .truste
 -- ---- what a run shows
 
 -- at a packet: its answer, the written reply bytes ("demand 3 compares written bytes only"), and the bytes of a space after it
-pub record Shown : Type 0 where
+pub record Sight : Type 0 where
   pub number : ℕ
   pub written : List ℕ
   pub bytes : List ℕ
@@ -66,28 +67,38 @@ abbrev pub outcome : Board → Event → Outcome
 outcome d (packet bytes size) = serve d bytes size
 outcome d reset = record { number = 0; after = afterReset d; written = [] }
 
-abbrev pub showing : (Board → Space) → Board → Event → Shown
-showing space d e = record { number = outcome d e .number; written = outcome d e .written; bytes = space (outcome d e .after) .bytes }
+abbrev pub sightAt : (Board → Space) → Board → Event → Sight
+sightAt space d event =
+    record { number = outcome d event .number; written = outcome d event .written; bytes = space (outcome d event .after) .bytes }
 
 -- at the first ordinary packet, at the second, and so on
-abbrev pub ordinaryShown : Board → List Event → List Shown
-ordinaryShown d es = along ordinaryPacket next (showing (λ x. x .ordinary)) d es
+abbrev pub ordinarySights : Board → List Event → List Sight
+ordinarySights d events = along ordinaryPacket next (sightAt (λ x. x .ordinary)) d events
 
 -- at the first trusted packet, at the second, and so on
-abbrev pub trustedShown : Board → List Event → List Shown
-trustedShown d es = along trustedPacket next (showing (λ x. x .trusted)) d es
+abbrev pub trustedSights : Board → List Event → List Sight
+trustedSights d events = along trustedPacket next (sightAt (λ x. x .trusted)) d events
 
 -- ---- what the spaces share
 
--- "the correlation register's value is the four trusted bytes at B": its value when a packet is served ("0 served; the completion may
--- still say UR"), and nothing where a packet is answered with another number
+-- a well-described board serves a packet ("0 served; the completion may still say UR") exactly if none of the checks 2 to 6 applies: by the
+-- packet and the reply's size alone
+abbrev pub isServed : List ℕ → ℕ → Bool
+isServed bytes size = eqb (firstThatApplies (check 2 (ltb size 16) ∷ packetChecks bytes)) 0
+
+-- "the correlation register's value is the four trusted bytes at B": its value when a packet is served, and nothing where it is not
 abbrev pub register : Board → Event → Option (List ℕ)
-register d e = cond (eqb (outcome d e .number) 0) (some (correlation d)) none
+register d (packet bytes size) = cond (isServed bytes size) (some (correlation d)) none
+register d reset = none
 
 -- at each ordinary packet
 abbrev pub correlations : Board → List Event → List (Option (List ℕ))
-correlations d es = along ordinaryPacket next register d es
+correlations d events = along ordinaryPacket next register d events
+
+-- its value at each ordinary packet, served or not
+abbrev pub correlationsAtEach : Board → List Event → List (List ℕ)
+correlationsAtEach d events = along ordinaryPacket next (λ x event. correlation x) d events
 
 -- "capture at each trusted packet"
 abbrev pub captures : Board → List Event → List Capture
-captures d es = along trustedPacket next (λ x e. x .capture) d es
+captures d events = along trustedPacket next (λ x event. x .capture) d events

@@ -1,16 +1,17 @@
--- Document 01, "Bench sheet": "The twelve marked P". For each, what the written rules give and what the sheet says, as numbers: the answer
--- and what it tells. Assumes nothing.
+-- Document 01, "Bench sheet": "The twelve marked P". For P1 to P11, what the written rules give and what the sheet says, as numbers: the
+-- answer and what it tells. P12 is about every walk. Assumes nothing.
 use Prim.Native.Nat.{ℕ}
 use mathlib.Core.List.{List, [], _∷_}
+use mathlib.Core.Path.{_≡_}
 use lib.ListN.{length, take}
-use Rattle.registers.specs.Merge.{mergedByte}
+use Rattle.registers.specs.Merge.{merged}
 use Rattle.board.specs.Serving.{Outcome, serve}
 use Rattle.runs.specs.Bench.{zeros, holding, bench, p1, p2, changed}
 use Rattle.records.specs.DvsecRule.{dvsecSays, dvsecBody}
 use Rattle.records.specs.DualRule.{dualSays}
 use Rattle.lists.specs.declared.Kind.the-variants.{Extended}
-use Rattle.lists.specs.Table.{describe}
-use Rattle.sheet.specs.Walked.{walkNumber}
+use Rattle.lists.specs.declared.Walked.{Walked}
+use Rattle.lists.specs.Walks.{Roomy, Walks, numberGiven}
 
 -- the number and the written reply bytes; a reply of 16 bytes is lent
 abbrev pub answer : Outcome → List ℕ
@@ -29,7 +30,7 @@ vendor = holding 0x100 (0x23 ∷ 0x00 ∷ 0x01 ∷ 0x00 ∷ 0xc0 ∷ 0x1e ∷ 0x
 abbrev pub circle : List ℕ
 circle = holding 0x100 (0x23 ∷ 0x00 ∷ 0x01 ∷ 0x10 ∷ [])
 
--- P3's board: P2's packet has been served, and the trusted bytes at 004h are 08 00 00 00
+-- P3: P2's packet has been served, the trusted bytes at 004h are 08 00 00 00, and P1's packet comes
 abbrev pub third : Outcome
 third = serve (serve (bench (holding 0x004 (0x08 ∷ 0x00 ∷ 0x00 ∷ 0x00 ∷ []))) p2 16 .after) p1 16
 
@@ -43,11 +44,10 @@ rules =
     ∷ answer (serve (bench zeros) (take 15 p2) 16)
     ∷ answer (serve (bench zeros) (changed p1 0 0x00) 16)
     ∷ answer (serve (bench zeros) (changed p1 7 0x1f) 16)
-    ∷ (mergedByte 0x0f 0xf0 0xa5 ∷ [])
+    ∷ merged (0x0f ∷ 0x0f ∷ 0x0f ∷ 0x0f ∷ []) (0xf0 ∷ 0xf0 ∷ 0xf0 ∷ 0xf0 ∷ []) (0xa5 ∷ 0xa5 ∷ 0xa5 ∷ 0xa5 ∷ []) 0x5
     ∷ (dualSays (dual 0x02) 0x040 .number ∷ dualSays (dual 0x02) 0x040 .function ∷ dualSays (dual 0x02) 0x040 .device ∷ [])
     ∷ (dualSays (dual 0x03) 0x040 .number ∷ [])
     ∷ (dvsecSays vendor 0x100 .number ∷ dvsecSays vendor 0x100 .length ∷ length (dvsecBody vendor 0x100) ∷ [])
-    ∷ (walkNumber (describe Extended) circle ∷ [])
     ∷ []
 
 -- what the sheet says
@@ -62,9 +62,12 @@ sheet =
     ∷ {- P5 -} (5 ∷ [])
     ∷ {- P6 -} (4 ∷ [])
     ∷ {- P7 -} (6 ∷ [])
-    ∷ {- P8 -} (0xaf ∷ [])
+    ∷ {- P8, of the bytes that are enabled -} (0xaf ∷ 0x0f ∷ 0xaf ∷ 0x0f ∷ [])
     ∷ {- P9: function 1, device 3 -} (0 ∷ 1 ∷ 3 ∷ [])
     ∷ {- P10 -} (10 ∷ [])
     ∷ {- P11: length 10h, body 6 bytes -} (0 ∷ 0x10 ∷ 6 ∷ [])
-    ∷ {- P12 -} (7 ∷ [])
     ∷ []
+
+-- P12: with any room that is not under the maximum, a walk of that list that meets its promise is answered 7
+abbrev pub TwelfthHolds : Type 0
+TwelfthHolds = (room : List ℕ) (r : Walked) (after : List ℕ) → Roomy Extended room → Walks Extended circle room r after → numberGiven r ≡ 7

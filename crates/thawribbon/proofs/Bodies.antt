@@ -16,7 +16,7 @@ use Rattle.records.specs.declared.DvsecRead.the-variants.{Refused}
 use Rattle.records.specs.DvsecRule.{DvsecTold, tellsDvsec, dvsecSays, dvsecNumber, dvsecBody, bodyFrom, headerAt}
 use Rattle.records.proofs.Told.{dvsec-inside}
 use Rattle.thawribbon.specs.declared.HostPart.{HostPart}
-use Rattle.thawribbon.specs.Structures.{bodyPart}
+use Rattle.thawribbon.specs.Records.{bodyPart}
 
 -- the statement
 abbrev pub PartIsBody : Type 0

@@ -1,3 +1,5 @@
 pub mod Told
 pub mod Bodies
+pub mod Numbers
+pub mod Sequence
 pub mod Unique

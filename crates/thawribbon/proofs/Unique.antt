@@ -15,7 +15,7 @@ use Rattle.thawribbon.specs.declared.HostPart.{HostPart}
 use Rattle.thawribbon.specs.declared.HostServed.{HostServed}
 use Rattle.thawribbon.specs.declared.HostWalked.{HostWalked}
 use Rattle.thawribbon.specs.Packets.{HostSeen, hostSeen, HostServes, keptBy, toldCapture}
-use Rattle.thawribbon.specs.Structures.{toldDvsec, toldDual, bodyPart}
+use Rattle.thawribbon.specs.Records.{toldDvsec, toldDual, bodyPart}
 use Rattle.thawribbon.specs.Walks.{HostWalks, toldWalk}
 
 -- the statements
@@ -32,7 +32,7 @@ HostWalkUnique =
 pub host-serve-unique : HostServeUnique
 host-serve-unique d kept ordinary ordinaryRules trusted trustedRules p reply r q o t after o′ t′ after′ e f =
     let s : hostSeen r o t after ≡ hostSeen q o′ t′ after′ = e ∙ sym f in (
-      ap (λ (x : HostSeen). record { length = x .length; number = x .number; capture = x .capture }) s,
+      ap (λ (x : HostSeen). record { length = x .count; number = x .number; capture = x .capture }) s,
       ap (λ (x : HostSeen). x .ordinary) s,
       ap (λ (x : HostSeen). x .trusted) s,
       ap (λ (x : HostSeen). x .reply) s,

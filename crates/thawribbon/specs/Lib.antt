@@ -1,4 +1,4 @@
 pub mod Packets
 pub mod Walks
-pub mod Structures
+pub mod Records
 pub mod Inner

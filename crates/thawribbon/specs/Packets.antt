@@ -17,7 +17,7 @@ use Rattle.thawribbon.specs.declared.HostServed.{HostServed}
 
 -- the description that a host gives
 abbrev pub described : HostDescription → Description
-described d = record { function = d .function; a = d .a; b = d .b }
+described description = record { function = description .function; a = description .a; b = description .b }
 
 -- the capture that a host has kept: nothing where `captured` is 0, and the bus and device number with any other value
 abbrev pub keptBy : HostCapture → Capture
@@ -35,7 +35,7 @@ handedBack number kept after = cond (eqb number 0) (toldCapture after) kept
 -- what a host sees after a call: the result, and the three lent buffers that can be written
 pub record HostSeen : Type 0 where
   pub number : ℕ
-  pub length : ℕ
+  pub count : ℕ
   pub capture : HostCapture
   pub ordinary : List ℕ
   pub trusted : List ℕ
@@ -43,29 +43,29 @@ pub record HostSeen : Type 0 where
 
 abbrev pub hostSeen : HostServed → List ℕ → List ℕ → List ℕ → HostSeen
 hostSeen r ordinary trusted reply =
-    record { number = r .number; length = r .length; capture = r .capture; ordinary = ordinary; trusted = trusted; reply = reply }
+    record { number = r .number; count = r .length; capture = r .capture; ordinary = ordinary; trusted = trusted; reply = reply }
 
 -- what it should see, by what a caller of `board::serve` should
 abbrev pub hostShows : HostCapture → Seen → HostSeen
-hostShows kept s =
+hostShows kept shown =
     record {
-      number = s .number;
-      length = s .length;
-      capture = handedBack (s .number) kept (s .capture);
-      ordinary = s .ordinary;
-      trusted = s .trusted;
-      reply = s .reply;
+      number = shown .number;
+      count = shown .count;
+      capture = handedBack (shown .number) kept (shown .capture);
+      ordinary = shown .ordinary;
+      trusted = shown .trusted;
+      reply = shown .reply;
     }
 
 -- the board that a host lends: its description and capture, the ordinary bytes and rules, the trusted bytes and rules
 abbrev pub hostBoard : HostDescription → HostCapture → List ℕ → List ℕ → List ℕ → List ℕ → Board
-hostBoard d kept ordinary ordinaryRules trusted trustedRules =
-    lent (described d) (keptBy kept) ordinary ordinaryRules trusted trustedRules
+hostBoard description kept ordinary ordinaryRules trusted trustedRules =
+    lent (described description) (keptBy kept) ordinary ordinaryRules trusted trustedRules
 
 -- the promise of `thawribbon_serve`: what it is lent (description, capture, the four buffers of the board, packet, reply), the result, and
 -- the three buffers at its end
 abbrev pub HostServes : HostDescription → HostCapture → List ℕ → List ℕ → List ℕ → List ℕ → List ℕ → List ℕ → HostServed → List ℕ → List ℕ
     → List ℕ → Type 0
-HostServes d kept ordinary ordinaryRules trusted trustedRules p reply r ordinaryAfter trustedAfter replyAfter =
+HostServes description kept ordinary ordinaryRules trusted trustedRules p reply r ordinaryAfter trustedAfter replyAfter =
     hostSeen r ordinaryAfter trustedAfter replyAfter
-    ≡ hostShows kept (shows (serve (hostBoard d kept ordinary ordinaryRules trusted trustedRules) p (lib.ListN.length reply)) reply)
+    ≡ hostShows kept (shows (serve (hostBoard description kept ordinary ordinaryRules trusted trustedRules) p (length reply)) reply)

@@ -2,14 +2,14 @@
 // Each function answers for every input and keeps nothing; what it promises is in specs/, over the promises of the entries that it calls.
 // A slice is a pointer and a length. Where the length is 0 the pointer is not followed. No struct has more than 16 bytes.
 mod packets; // packets.rt: a packet served, a reset
-mod structures; // structures.rt: a DVSEC record and its body, a Dual-BDF record
+mod reading; // reading.rt: a DVSEC record and its body, a Dual-BDF record
 mod walks; // walks.rt: the three lists
 
 pub use packets::thawribbon_reset;
 pub use packets::thawribbon_serve;
-pub use structures::thawribbon_dual_bdf;
-pub use structures::thawribbon_dvsec;
-pub use structures::thawribbon_dvsec_body;
+pub use reading::thawribbon_dual_bdf;
+pub use reading::thawribbon_dvsec;
+pub use reading::thawribbon_dvsec_body;
 pub use walks::thawribbon_walk_compatible;
 pub use walks::thawribbon_walk_extended;
 pub use walks::thawribbon_walk_trusted;

@@ -3,6 +3,7 @@
 use Prim.Native.Nat.{ℕ, _+_, _-_, _%_, _≤_, _<_}
 use mathlib.Core.Bool.{Bool, true, false, cond, _&&_}
 use mathlib.Core.List.{List, [], _∷_, _++_}
+use mathlib.Core.Logic.{_⊎_, inl, inr, ⊎-elim}
 use mathlib.Core.Path.{_≡_, refl, sym, ap, _∙_, subst}
 use native.Mathlib.Nat.{add-zero}
 use native.Mathlib.Omega.{arith}
@@ -84,19 +85,49 @@ module _ (s : List ℕ) (at : ℕ) (bytes : List ℕ) where
         split : k ≡ (at + length bytes) + (k - (at + length bytes))
         split = omega arith
 
--- another word of the space is as it was: no two offsets that are multiples of 4 reach the same byte
+-- a byte outside the word at an offset
+abbrev pub Outside : ℕ → ℕ → Type 0
+Outside at k = (k < at) ⊎ (at + 4 ≤ k)
+
+-- spaces that agree outside a word have their other words in common: no two offsets that are multiples of 4 reach the same byte
+pub words-agree : (s t : List ℕ) (at o : ℕ) → at % 4 ≡ 0 → o % 4 ≡ 0 → (o ≡ at → ⊥) → ((k : ℕ) → Outside at k → byte s k ≡ byte t k)
+    → four s o ≡ four t o
+words-agree s t at o a b apart agree = go (ltb o at) refl
+  where
+    each : ((k : ℕ) → k < 4 → Outside at (o + k)) → four s o ≡ four t o
+    each f =
+        λ i. subst (λ (n : ℕ). byte s n ≡ byte t n) (add-zero o) (agree (o + 0) (f 0 (omega arith))) i
+        ∷ agree (o + 1) (f 1 (omega arith)) i ∷ agree (o + 2) (f 2 (omega arith)) i ∷ agree (o + 3) (f 3 (omega arith)) i ∷ []
+
+    go : (less : Bool) → ltb o at ≡ less → four s o ≡ four t o
+    go true e = each (λ k small. inl (omega (arith, ltb-true o at e)))
+    go false e = each (λ k small. inr (omega (arith, ltb-false o at e)))
+
 pub four-elsewhere : (s : List ℕ) (at : ℕ) (bytes : List ℕ) (o : ℕ) → at + length bytes ≤ length s → length bytes ≡ 4 → at % 4 ≡ 0 → o % 4 ≡ 0
     → (o ≡ at → ⊥) → four (put s at bytes) o ≡ four s o
-four-elsewhere s at bytes o h size a b apart = go (ltb o at) refl
-  where
-    each : ((k : ℕ) → k < 4 → byte (put s at bytes) (o + k) ≡ byte s (o + k)) → four (put s at bytes) o ≡ four s o
-    each f =
-        λ i. subst (λ (n : ℕ). byte (put s at bytes) n ≡ byte s n) (add-zero o) (f 0 (omega arith)) i
-        ∷ f 1 (omega arith) i ∷ f 2 (omega arith) i ∷ f 3 (omega arith) i ∷ []
+four-elsewhere s at bytes o h size a b apart =
+    words-agree (put s at bytes) s at o a b apart
+    (λ k. ⊎-elim (put-before s at bytes h k) (λ large. put-after s at bytes h k (omega arith)))
 
-    go : (less : Bool) → ltb o at ≡ less → four (put s at bytes) o ≡ four s o
-    go true e = each (λ k small. put-before s at bytes h (o + k) (omega (arith, ltb-true o at e)))
-    go false e = each (λ k small. put-after s at bytes h (o + k) (omega (arith, ltb-false o at e)))
+-- spaces that agree at a place agree there with the same bytes put into both
+pub puts-agree : (s t : List ℕ) (at : ℕ) (bytes : List ℕ) → at + length bytes ≤ length s → at + length bytes ≤ length t → (k : ℕ)
+    → byte s k ≡ byte t k → byte (put s at bytes) k ≡ byte (put t at bytes) k
+puts-agree s t at bytes hs ht k same = go (ltb k at) (ltb k (at + length bytes)) refl refl
+  where
+    there : (l : List ℕ) → at + length bytes ≤ length l → at ≤ k → k < at + length bytes → byte (put l at bytes) k ≡ byte bytes (k - at)
+    there l h low high =
+        let split : k ≡ at + (k - at) = omega arith in
+        ap (byte (put l at bytes)) split ∙ put-there l at bytes h (k - at) (omega arith)
+
+    go : (less within : Bool) → ltb k at ≡ less → ltb k (at + length bytes) ≡ within → byte (put s at bytes) k ≡ byte (put t at bytes) k
+    go true within e f = let h = ltb-true k at e in put-before s at bytes hs k h ∙ same ∙ sym (put-before t at bytes ht k h)
+    go false true e f =
+        let h = ltb-false k at e in
+        let j = ltb-true k (at + length bytes) f in
+        there s hs h j ∙ sym (there t ht h j)
+    go false false e f =
+        let j = ltb-false k (at + length bytes) f in
+        put-after s at bytes hs k j ∙ same ∙ sym (put-after t at bytes ht k j)
 
 -- ---- where something may stand
 

@@ -8,7 +8,7 @@ use types.Run.{OneOf, miss}
 use denote.Enum.Declared.{tagOf}
 use Rattle.lists.specs.declared.chase.Chased.{Chased}
 use Rattle.lists.specs.declared.chase.Chased.the-variants.{Full}
-use Rattle.lists.specs.Chase.{Chases}
+use Rattle.lists.specs.Inner.{Chases}
 use Rattle.lists.proofs.chase.Chased.{the-type}
 use Rattle.lists.proofs.Walking.{maximum-bounds, refuses, chases-logged, underway-start, walks-answered}
 use Rattle.lists.proofs.walk_short.Statement.{statement}

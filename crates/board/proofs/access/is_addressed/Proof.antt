@@ -1,8 +1,5 @@
 -- `board::is_addressed` meets its contract: each way out is a case of `addressed`. Assumes nothing.
-use Rattle.board.specs.Access.{addressed}
-use Rattle.capture.specs.declared.Capture.{Capture}
 use borrow.Author.Tests.{eq-eqb, ne-eqb}
-use mathlib.Core.Path.{refl, sym, ap, _∙_}
 use borrow.Author.Needs.{needs}
 use Rattle.board.proofs.access.is_addressed.Statement.{statement}
 use Rattle.board.proofs.access.is_addressed.Tie as tie

@@ -1,7 +1,7 @@
 -- `board::is_unsupported` meets its contract: each way out is a case of `unsupported`. Assumes nothing.
 use Rattle.board.proofs.Laws.{unsupported-poisoned, unsupported-type0, unsupported-type1, unsupported-trusted}
 use mathlib.Core.Bool.{not}
-use mathlib.Core.Path.{refl, sym, ap, _∙_}
+use mathlib.Core.Path.{sym, ap, _∙_}
 use borrow.Author.Needs.{needs}
 use Rattle.board.proofs.access.is_unsupported.Statement.{statement}
 use Rattle.board.proofs.access.is_unsupported.Tie as tie

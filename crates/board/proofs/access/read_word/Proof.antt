@@ -1,6 +1,6 @@
 -- `board::read_word` meets its contract: one of the three words that a read can show. Assumes nothing.
 use denote.Ref.{now}
-use mathlib.Core.Path.{refl, sym, ap, _∙_}
+use mathlib.Core.Path.{sym, _∙_}
 use Rattle.board.proofs.Laws.{shown-trusted, shown-correlation, shown-ordinary}
 use borrow.Author.Needs.{needs}
 use Rattle.board.proofs.access.read_word.Statement.{statement}

@@ -1,6 +1,5 @@
 -- `board::store_ordinary` meets its contract: at A nothing is stored. Assumes nothing.
-use denote.Ref.{now}
-use mathlib.Core.Path.{refl, sym, ap, _∙_}
+use mathlib.Core.Path.{sym, _∙_}
 use Rattle.board.proofs.Laws.{stored-at-a, stored-ordinary}
 use borrow.Author.Needs.{needs}
 use Rattle.board.proofs.access.store_ordinary.Statement.{statement}

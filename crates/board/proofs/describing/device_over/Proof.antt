@@ -1,6 +1,6 @@
 -- `board::device_over` meets its contract: each arm is a case of `deviceOver`. Assumes nothing.
 use Rattle.capture.specs.Kept.{deviceOver}
-use mathlib.Core.Path.{refl, sym, ap, _∙_}
+use mathlib.Core.Path.{sym, ap}
 use borrow.Author.Needs.{needs}
 use Rattle.board.proofs.describing.device_over.Statement.{statement}
 use Rattle.board.proofs.describing.device_over.Tie as tie

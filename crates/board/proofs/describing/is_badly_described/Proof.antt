@@ -1,6 +1,6 @@
 -- `board::is_badly_described` meets its contract: the first cause that is there decides. Assumes nothing.
 use mathlib.Core.Bool.{or-false}
-use mathlib.Core.Path.{refl, sym, ap, _∙_, subst}
+use mathlib.Core.Path.{sym, _∙_}
 use borrow.Author.Needs.{needs}
 use Rattle.board.proofs.describing.is_badly_described.Statement.{statement}
 use Rattle.board.proofs.describing.is_badly_described.Tie as tie

@@ -1,7 +1,7 @@
 -- `board::out_of_range` meets its contract: the first cause that is there decides. Assumes nothing.
 use borrow.Author.Tests.{lt-ltb, le-ltb, not-true, not-false}
 use mathlib.Core.Bool.{or-false}
-use mathlib.Core.Path.{refl, sym, ap, _∙_}
+use mathlib.Core.Path.{sym, _∙_}
 use borrow.Author.Needs.{needs}
 use Rattle.board.proofs.describing.out_of_range.Statement.{statement}
 use Rattle.board.proofs.describing.out_of_range.Tie as tie

@@ -1,10 +1,10 @@
 -- `board::respond_to` meets its contract: unsupported, a write or a read. Assumes nothing.
 use Rattle.board.specs.Promise.{lent}
-use Rattle.packet.specs.Completion.{unsupportedRequest}
+use Rattle.packet.specs.declared.Status.the-variants.{Unsupported}
 use Rattle.packet.specs.Fields.{dataOf}
 use denote.Ref.{now}
 use Rattle.board.proofs.Outcomes.{replies-seen, data-seen, respond-unsupported, respond-write, respond-read}
-use mathlib.Core.Path.{refl, sym, ap, _∙_, subst}
+use mathlib.Core.Path.{sym, _∙_}
 use borrow.Author.Needs.{needs}
 use Rattle.board.proofs.serving.respond_to.Statement.{statement}
 use Rattle.board.proofs.serving.respond_to.Tie as tie
@@ -21,7 +21,7 @@ same-length c = search needs
 returns : tie.Need-returns
 returns c =
     let a = c .before .before .before .before .before .before .before .before .before .before .before .before .args in
-    rw (respond-unsupported (lent (a .description) (a .kept) (now (a .ordinary)) (now (a .ordinary-rules)) (now (a .trusted)) (now (a .trusted-rules))) (a .request) (dataOf (now (a .packet))) (sym (c .before .before .before .before .before .is-unsupported .ensures) ∙ c .before .before .before .before .if1 .taken)) (replies-seen (lent (a .description) (a .kept) (now (a .ordinary)) (now (a .ordinary-rules)) (now (a .trusted)) (now (a .trusted-rules))) (a .request) (now (a .reply)) _ _ unsupportedRequest (c .before .before .reply-status .ensures .0) (c .before .before .reply-status .ensures .1))
+    rw (respond-unsupported (lent (a .description) (a .kept) (now (a .ordinary)) (now (a .ordinary-rules)) (now (a .trusted)) (now (a .trusted-rules))) (a .request) (dataOf (now (a .packet))) (sym (c .before .before .before .before .before .is-unsupported .ensures) ∙ c .before .before .before .before .if1 .taken)) (replies-seen (lent (a .description) (a .kept) (now (a .ordinary)) (now (a .ordinary-rules)) (now (a .trusted)) (now (a .trusted-rules))) (a .request) (now (a .reply)) _ _ Unsupported (c .before .before .reply-status .ensures .0) (c .before .before .reply-status .ensures .1))
 
 write-requires : tie.Need-write-requires
 write-requires c κs = (c .before .before .before .before .before .before .before .before .before .before .before .before .pre .0, c .before .before .before .before .before .before .before .before .before .before .before .before .pre .1 (c .before .before .before .if2 .taken))

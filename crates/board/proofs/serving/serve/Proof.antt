@@ -1,14 +1,9 @@
 -- `board::serve` meets its contract: the checks, lowest number first, then the request. Assumes nothing.
-use native.Mathlib.Omega.{arith}
-use Rattle.packet.specs.Fields.{dataOf}
-use Rattle.board.specs.Serving.{respond}
-use Rattle.board.specs.Promise.{lent, shows}
-use Rattle.packet.proofs.Laws.{offset-inside, write-long}
-use Rattle.packet.specs.Request.{Decodes, requestOf}
+use Rattle.board.specs.Promise.{lent}
+use Rattle.packet.specs.Request.{Decodes}
 use denote.Ref.{now}
-use Rattle.board.proofs.Laws.{well-described}
 use Rattle.board.proofs.Outcomes.{refused-seen, bad-number, room-number, packet-number, ready, served-seen}
-use mathlib.Core.Path.{refl, sym, ap, _∙_, subst}
+use mathlib.Core.Path.{sym, _∙_, subst}
 use borrow.Author.Needs.{needs}
 use Rattle.board.proofs.serving.serve.Statement.{statement}
 use Rattle.board.proofs.serving.serve.Tie as tie

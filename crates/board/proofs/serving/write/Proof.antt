@@ -1,7 +1,7 @@
 -- `board::write` meets its contract: a trusted write, or an ordinary one with its capture. Assumes nothing.
 use denote.Ref.{now}
 use Rattle.board.proofs.Outcomes.{written-trusted, written-ordinary}
-use mathlib.Core.Path.{refl, sym, ap, _∙_, subst}
+use mathlib.Core.Path.{sym, _∙_}
 use borrow.Author.Needs.{needs}
 use Rattle.board.proofs.serving.write.Statement.{statement}
 use Rattle.board.proofs.serving.write.Tie as tie

@@ -11,7 +11,7 @@ use denote.Enum.Declared.{tagOf}
 use Rattle.lists.specs.declared.chase.Step.{Step}
 use Rattle.lists.specs.declared.chase.Step.the-variants.{Next, End, Fault}
 use Rattle.lists.specs.Table.{describe}
-use Rattle.lists.specs.Chase.{Underway, Leads}
+use Rattle.lists.specs.Inner.{Underway, Leads}
 use Rattle.lists.proofs.chase.Step.{the-type}
 use Rattle.lists.proofs.Reaching.{chase-ends, chase-breaks, next-inside, chase-full, chase-goes}
 use Rattle.lists.proofs.chase.chase.Statement.{statement}

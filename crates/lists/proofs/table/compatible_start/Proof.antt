@@ -9,7 +9,7 @@ use lib.Bits.{bitAnd, and-mask}
 use Rattle.words.specs.Bytes.{byte}
 use Rattle.words.specs.Fields.{bit}
 use Rattle.lists.specs.Table.{compatibleStart}
-use Rattle.lists.specs.Chase.{Raw}
+use Rattle.lists.specs.Inner.{Raw}
 use Rattle.lists.proofs.table.compatible_start.Statement.{statement}
 use Rattle.lists.proofs.table.compatible_start.Tie as tie
 

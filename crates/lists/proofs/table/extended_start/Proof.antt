@@ -10,7 +10,7 @@ use Rattle.words.specs.Fields.{bits, word, wordOrZero}
 use Rattle.words.proofs.Laws.{word-inside}
 use Rattle.lists.specs.Table.{extendedStart}
 use Rattle.lists.specs.Walks.{WholeSpace}
-use Rattle.lists.specs.Chase.{Raw}
+use Rattle.lists.specs.Inner.{Raw}
 use Rattle.lists.proofs.table.extended_start.Statement.{statement}
 use Rattle.lists.proofs.table.extended_start.Tie as tie
 

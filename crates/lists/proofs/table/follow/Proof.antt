@@ -1,7 +1,6 @@
 -- `lists::table::follow` meets its contract. Assumes nothing.
 use borrow.Author.Needs.{needs}
-use Prim.Native.Nat.{_*_, _<_}
-use mathlib.Core.Path.{sym}
+use Prim.Native.Nat.{_*_}
 use Rattle.lists.proofs.Pointers.{pointer-small, follows-word}
 use Rattle.lists.proofs.table.follow.Statement.{statement}
 use Rattle.lists.proofs.table.follow.Tie as tie

@@ -9,7 +9,7 @@ use Rattle.words.specs.Fields.{word, wordOrZero}
 use Rattle.words.proofs.Laws.{word-inside}
 use Rattle.lists.specs.Table.{trustedStart}
 use Rattle.lists.specs.Walks.{WholeSpace}
-use Rattle.lists.specs.Chase.{Raw}
+use Rattle.lists.specs.Inner.{Raw}
 use Rattle.lists.proofs.table.trusted_start.Statement.{statement}
 use Rattle.lists.proofs.table.trusted_start.Tie as tie
 

@@ -6,7 +6,7 @@ use mathlib.Core.Path.{_≡_}
 use native.Mathlib.Omega.{arith}
 use Rattle.words.specs.Bytes.{byte}
 use Rattle.words.specs.Fields.{word}
-use Rattle.lists.specs.Chase.{Header}
+use Rattle.lists.specs.Inner.{Header}
 use Rattle.lists.proofs.table.word_of.Statement.{statement}
 use Rattle.lists.proofs.table.word_of.Tie as tie
 

@@ -1,5 +1,5 @@
 -- `packet::decode` meets its contract: the checks 3 and 4 are its own, the rest `decode_known`'s. Assumes nothing.
-use mathlib.Core.Path.{sym, ap, _∙_}
+use mathlib.Core.Path.{sym, _∙_}
 use denote.Ref.{now}
 use native.Mathlib.Omega.{arith}
 use Rattle.packet.proofs.Laws.{number-short, number-unknown}

@@ -1,5 +1,5 @@
 -- `packet::decode_known` meets its contract: the checks 5 and 6, each way out a case of the lowest number. Assumes nothing.
-use mathlib.Core.Path.{sym, ap, _∙_}
+use mathlib.Core.Path.{sym, _∙_}
 use denote.Ref.{now}
 use Rattle.packet.proofs.Laws.{number-length, number-past}
 use borrow.Author.Needs.{needs}

@@ -2,7 +2,7 @@
 use borrow.Author.Needs.{needs}
 use native.Mathlib.Omega.{arith}
 use Rattle.answers.specs.Numbers.{numberOf}
-use Rattle.report.specs.Inner.{shown}
+use Rattle.report.specs.Inner.{style}
 use Rattle.report.proofs.Lines.{name-length}
 use Rattle.report.proofs.Writing.{named-refused}
 use Rattle.report.proofs.section.broken.Statement.{statement}
@@ -23,7 +23,7 @@ same-length c = search needs
 returns : tie.Need-returns
 returns c =
     let a = c .before .before .before .before .before .before .before .before .before in
-    named-refused (shown (a .args .section) .name) (numberOf (a .args .refusal)) (name-length (a .args .section)) (a .pre)
+    named-refused (style (a .args .section) .name) (numberOf (a .args .refusal)) (name-length (a .args .section)) (a .pre)
     (c .before .before .before .before .before .before .name .ensures) (c .before .before .refused .ensures)
 
 pub broken-spec : {M : Type 1} → statement M

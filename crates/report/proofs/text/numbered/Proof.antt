@@ -2,7 +2,7 @@
 use borrow.Author.Needs.{needs}
 use native.Mathlib.Omega.{arith}
 use Rattle.report.proofs.Adding.{added-then}
-use Rattle.report.proofs.Numerals.{decimal-length, places-most}
+use Rattle.report.proofs.Numerals.{decimal-length, figures-most}
 use Rattle.report.proofs.text.numbered.Statement.{statement}
 use Rattle.report.proofs.text.numbered.Tie as tie
 
@@ -28,7 +28,7 @@ append-requires-2 c κs =
       second .ensures .next,
       second .kept .0,
       decimal-length (a .args .number),
-      places-most (a .args .number),
+      figures-most (a .args .number),
     )
 
 same-length : tie.Need-same-length
@@ -39,9 +39,9 @@ returns c =
     let a = c .before .before .before .before .before .before .before .before .before .before .before .before .before .before .before in
     added-then
     (added-then (c .before .before .before .before .before .before .before .before .before .before .append .ensures) (c .before .before .before .before .before .before .decimal .ensures)
-    (omega (arith, a .pre, decimal-length (a .args .number), places-most (a .args .number))))
+    (omega (arith, a .pre, decimal-length (a .args .number), figures-most (a .args .number))))
     (c .before .before .append2 .ensures)
-    (omega (arith, a .pre, decimal-length (a .args .number), places-most (a .args .number)))
+    (omega (arith, a .pre, decimal-length (a .args .number), figures-most (a .args .number)))
 
 pub numbered-spec : {M : Type 1} → statement M
 numbered-spec =

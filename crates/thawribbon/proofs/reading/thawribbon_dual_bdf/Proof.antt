@@ -3,9 +3,9 @@ use borrow.Author.Needs.{needs}
 use mathlib.Core.Path.{_≡_, ap, subst}
 use Rattle.records.specs.declared.DualRead.{DualRead}
 use Rattle.records.specs.DualRule.{tellsDual, dualSays}
-use Rattle.thawribbon.specs.Structures.{toldDual}
-use Rattle.thawribbon.proofs.structures.thawribbon_dual_bdf.Statement.{statement}
-use Rattle.thawribbon.proofs.structures.thawribbon_dual_bdf.Tie as tie
+use Rattle.thawribbon.specs.Records.{toldDual}
+use Rattle.thawribbon.proofs.reading.thawribbon_dual_bdf.Statement.{statement}
+use Rattle.thawribbon.proofs.reading.thawribbon_dual_bdf.Tie as tie
 
 dual-bdf-requires : tie.Need-dual-bdf-requires
 dual-bdf-requires c κs = search needs

@@ -14,7 +14,7 @@ toldDvsec t = record { number = t .number; revision = t .revision; vendor = t .v
 
 -- "the register body itself, as it lies in the lent space": where it begins there, and how long it is; 0 and 0 where refused
 unfoldable pub bodyPart : List ℕ → ℕ → HostPart
-bodyPart s at = record { start = bodyFrom s at; length = lib.ListN.length (dvsecBody s at) }
+bodyPart s at = record { start = bodyFrom s at; length = length (dvsecBody s at) }
 
 -- "that bit's place as alternate function, and device"
 abbrev pub toldDual : DualTold → HostAlternate

@@ -6,8 +6,8 @@ use Rattle.records.specs.declared.DvsecRead.{DvsecRead}
 use Rattle.records.specs.DvsecRule.{tellsDvsec, dvsecSays}
 use Rattle.records.proofs.Told.{Stands, found-stands}
 use Rattle.thawribbon.proofs.Bodies.{part-found, part-refused}
-use Rattle.thawribbon.proofs.structures.thawribbon_dvsec_body.Statement.{statement}
-use Rattle.thawribbon.proofs.structures.thawribbon_dvsec_body.Tie as tie
+use Rattle.thawribbon.proofs.reading.thawribbon_dvsec_body.Statement.{statement}
+use Rattle.thawribbon.proofs.reading.thawribbon_dvsec_body.Tie as tie
 
 -- where a header is found
 stands : (c : tie.After-known-told)

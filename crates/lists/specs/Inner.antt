@@ -41,14 +41,14 @@ pub record Word (pointer number : ℕ) : Type 0 where
 
 -- "A step answers the next offset, the end, or a fault."
 abbrev pub Leads : ListRule → ℕ → Step → Type 0
-Leads d pointer (Next at) = (at ≡ pointer) × (pointer ≡ 0 → ⊥) × (d .floor ≤ pointer)
-Leads d pointer End = pointer ≡ 0
-Leads d pointer Fault = (pointer ≡ 0 → ⊥) × (pointer < d .floor)
+Leads list pointer (Next at) = (at ≡ pointer) × (pointer ≡ 0 → ⊥) × (list .floor ≤ pointer)
+Leads list pointer End = pointer ≡ 0
+Leads list pointer Fault = (pointer ≡ 0 → ⊥) × (pointer < list .floor)
 
 -- past some offsets a pointer is reached: the list's chains are those offsets, and then a chain from the pointer
-pub record Reached (d : ListRule) (s passed : List ℕ) (pointer : ℕ) : Type 0 where
-  pub onward : (rest : List ℕ) → Legal d s pointer rest → HasChain d s (passed ++ rest)
-  pub back : (chain : List ℕ) → HasChain d s chain → (rest : List ℕ) × Legal d s pointer rest × (chain ≡ passed ++ rest)
+pub record Reached (list : ListRule) (s passed : List ℕ) (pointer : ℕ) : Type 0 where
+  pub onward : (rest : List ℕ) → Legal list s pointer rest → HasChain list s (passed ++ rest)
+  pub back : (chain : List ℕ) → HasChain list s chain → (rest : List ℕ) × Legal list s pointer rest × (chain ≡ passed ++ rest)
 
 -- a chase has so many offsets in its log and goes on at a pointer
 pub record Underway (kind : Kind) (s log : List ℕ) (count pointer : ℕ) : Type 0 where

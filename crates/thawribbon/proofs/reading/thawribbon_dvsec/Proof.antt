@@ -3,9 +3,9 @@ use borrow.Author.Needs.{needs}
 use mathlib.Core.Path.{_≡_, ap, subst}
 use Rattle.records.specs.declared.DvsecRead.{DvsecRead}
 use Rattle.records.specs.DvsecRule.{tellsDvsec, dvsecSays}
-use Rattle.thawribbon.specs.Structures.{toldDvsec}
-use Rattle.thawribbon.proofs.structures.thawribbon_dvsec.Statement.{statement}
-use Rattle.thawribbon.proofs.structures.thawribbon_dvsec.Tie as tie
+use Rattle.thawribbon.specs.Records.{toldDvsec}
+use Rattle.thawribbon.proofs.reading.thawribbon_dvsec.Statement.{statement}
+use Rattle.thawribbon.proofs.reading.thawribbon_dvsec.Tie as tie
 
 dvsec-requires : tie.Need-dvsec-requires
 dvsec-requires c κs = search needs

@@ -1,8 +1,8 @@
 // The records of a space that a host lends. A body is told by its place in the space, since a host gets no slice back.
 ghost use mathlib.Core.Path.{_≡_};
-ghost use Rattle.records.specs.DvsecRule.{tellsDvsec, dvsecSays};
-ghost use Rattle.records.specs.DualRule.{tellsDual, dualSays};
-ghost use Rattle.thawribbon.specs.Structures.{toldDvsec, toldDual, bodyPart};
+ghost use Rattle.records.specs.DvsecRule.{dvsecSays};
+ghost use Rattle.records.specs.DualRule.{dualSays};
+ghost use Rattle.thawribbon.specs.Records.{toldDvsec, toldDual, bodyPart};
 use super::HostAlternate;
 use super::HostDvsec;
 use super::HostPart;

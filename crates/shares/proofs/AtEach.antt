@@ -1,0 +1,65 @@
+-- The first half of demand 3 with the register asked at every ordinary packet follows from the one that asks where a packet is served: what
+-- is asked there is made of the packet and of what is asked here. Assumes nothing.
+use Prim.Native.Nat.{ℕ}
+use mathlib.Core.Bool.{Bool, true, false, not, cond}
+use mathlib.Core.List.{List, [], _∷_}
+use mathlib.Core.Option.{Option, none, some}
+use mathlib.Core.Path.{_≡_, refl, sym, ap, ap₂, _∙_}
+use Rattle.board.specs.Description.{Board}
+use Rattle.board.specs.Access.{correlation}
+use Rattle.packet.specs.Request.{trusted}
+use Rattle.runs.specs.Run.{Event, packet, reset, next}
+use Rattle.shares.specs.Kinds.{keep, only, along}
+use Rattle.shares.specs.Views.{ordinaryPacket, ordinaryEvents, isServed, register, correlations, correlationsAtEach}
+use Rattle.shares.specs.Statements.{FirstHalfAtEach}
+use Rattle.shares.proofs.FirstHalf.{first-half}
+
+-- a function of each event and of the value at it
+abbrev both : {A B C : Type 0} → (A → B → C) → List A → List B → List C
+both f [] ys = []
+both f (x ∷ xs) [] = []
+both f (x ∷ xs) (y ∷ ys) = f x y ∷ both f xs ys
+
+module _ {State Value Made : Type 0} (counts : Event → Bool) (step : State → Event → State) (value : State → Event → Value) (made : Event → Value → Made) where
+  both-kept : (b : Bool) (x : Event) (v : Value) (xs : List Event) (vs : List Value)
+      → keep b (made x v) (both made xs vs) ≡ both made (keep b x xs) (keep b v vs)
+  both-kept true x v xs vs = refl
+  both-kept false x v xs vs = refl
+
+  along-both : (s : State) (es : List Event)
+      → along counts step (λ t x. made x (value t x)) s es ≡ both made (only counts es) (along counts step value s es)
+  along-both s [] = refl
+  along-both s (x ∷ es) =
+      ap (keep (counts x) (made x (value s x))) (along-both (step s x) es) ∙ both-kept (counts x) x (value s x) (only counts es) (along counts step value (step s x) es)
+
+-- the ordinary packets are among the ordinary events
+kept-among : (b : Bool) (x : Event) (es : List Event) → ordinaryPacket x ≡ b → only ordinaryPacket (keep b x es) ≡ keep b x (only ordinaryPacket es)
+kept-among true x es e = rw e
+kept-among false x es e = refl
+
+packets-among : (es : List Event) → only ordinaryPacket (ordinaryEvents es) ≡ only ordinaryPacket es
+packets-among [] = refl
+packets-among (packet bytes size ∷ es) =
+    kept-among (not (trusted bytes)) (packet bytes size) (ordinaryEvents es) refl ∙ ap (keep (not (trusted bytes)) (packet bytes size)) (packets-among es)
+packets-among (reset ∷ es) = packets-among es
+
+-- what is asked where a packet is served
+abbrev asked : Event → List ℕ → Option (List ℕ)
+asked (packet bytes size) value = cond (isServed bytes size) (some value) none
+asked reset value = none
+
+register-is : (d : Board) (x : Event) → register d x ≡ asked x (correlation d)
+register-is d (packet bytes size) = refl
+register-is d reset = refl
+
+correlations-are : (d : Board) (es : List Event) → correlations d es ≡ both asked (only ordinaryPacket es) (correlationsAtEach d es)
+correlations-are d es =
+    ap (λ (value : Board → Event → Option (List ℕ)). along ordinaryPacket next value d es) (λ i x e. register-is x e i)
+    ∙ along-both ordinaryPacket next (λ x e. correlation x) asked d es
+
+pub first-half-at-each : FirstHalfAtEach
+first-half-at-each d e es fs w u v o k =
+    first-half d e es fs w u v o
+    (correlations-are d es
+    ∙ ap₂ (both asked) (sym (packets-among es) ∙ ap (only ordinaryPacket) o ∙ packets-among fs) k
+    ∙ sym (correlations-are e fs))

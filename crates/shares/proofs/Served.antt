@@ -1,0 +1,30 @@
+-- A well-described board serves a packet exactly if the packet and the reply's size say so. Assumes nothing.
+use Prim.Native.Nat.{ℕ}
+use mathlib.Core.Bool.{Bool, true}
+use mathlib.Core.List.{List, _∷_}
+use mathlib.Core.Logic.{_↔_}
+use mathlib.Core.Path.{_≡_, sym, ap, _∙_}
+use borrow.Author.Tests.{eq-eqb, eqb-true}
+use lib.Dec.{ltb}
+use Rattle.answers.specs.Checks.{check, firstThatApplies}
+use Rattle.packet.specs.Request.{packetChecks}
+use Rattle.board.specs.Description.{Board, WellDescribed}
+use Rattle.board.specs.Serving.{serve}
+use Rattle.board.proofs.Refusals.{outcome-number}
+use Rattle.shares.specs.Views.{isServed}
+
+-- the statement
+abbrev pub ServedIff : Type 0
+ServedIff = (d : Board) (bytes : List ℕ) (size : ℕ) → WellDescribed d → (serve d bytes size .number ≡ 0) ↔ (isServed bytes size ≡ true)
+
+-- the number is that of the packet and the reply's size
+pub number-is : (d : Board) (bytes : List ℕ) (size : ℕ) → WellDescribed d
+    → serve d bytes size .number ≡ firstThatApplies (check 2 (ltb size 16) ∷ packetChecks bytes)
+number-is d bytes size w =
+    outcome-number d bytes size ∙ ap (λ (b : Bool). firstThatApplies (check 1 b ∷ check 2 (ltb size 16) ∷ packetChecks bytes)) w
+
+pub served-iff : ServedIff
+served-iff d bytes size w = (
+  (λ z. eq-eqb _ 0 (sym (number-is d bytes size w) ∙ z)),
+  (λ t. number-is d bytes size w ∙ eqb-true _ 0 t),
+)
