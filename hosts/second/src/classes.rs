@@ -5,17 +5,20 @@
 mod access;
 mod alone;
 mod causes;
+mod chain;
 mod dual_bdf;
 mod dvsec;
 mod group;
 mod names;
 mod serve;
 mod tally;
+mod turn;
 mod walk;
 
+pub use chain::Pointers;
 pub use dual_bdf::count_dual;
 pub use dvsec::{Question, count_dvsec};
 pub use group::Group;
 pub use serve::{History, ServeView, count as count_serve, count_reset};
 pub use tally::Tally;
-pub use walk::{count as count_walk, pointers};
+pub use walk::count as count_walk;

@@ -9,6 +9,7 @@ mod dual_bdf;
 mod dvsec;
 mod fault;
 mod lengths;
+mod loops;
 mod packet;
 mod packet_fault;
 mod random;

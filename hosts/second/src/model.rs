@@ -15,6 +15,10 @@ mod walk;
 
 #[cfg(test)]
 mod bench_sheet;
+#[cfg(all(test, debug_assertions))]
+mod checked;
+#[cfg(test)]
+mod shapes;
 
 pub use description::Description;
 pub use dual_bdf::{Alternate, dual_bdf};

@@ -62,8 +62,15 @@ pub fn count_accepted(view: &ServeView<'_>, history: &mut History, tally: &mut T
         .expect("number 0 has one of the six type codes");
     let form = usize::from(bytes[0] >> 7) | usize::from(bytes[2] >> 6) << 1;
     tally.add(Group::TypeForms, 8 * code + form);
-    if view.reply[6] == 0x20 {
-        count_unsupported(view, &parts, tally);
+    let causes = unsupported_causes(view, &parts);
+    let unsupported = causes.contains(&true);
+    assert_eq!(
+        unsupported,
+        view.reply[6] == 0x20,
+        "the model and the causes disagree on Unsupported Request"
+    );
+    if unsupported {
+        count_unsupported(&causes, &parts, tally);
     } else {
         count_reserved(bytes, tally);
         count_success(view, &parts, tally);
@@ -72,25 +79,28 @@ pub fn count_accepted(view: &ServeView<'_>, history: &mut History, tally: &mut T
     }
 }
 
-/// Counts a call whose request has one cause of Unsupported Request and no other.
-fn count_unsupported(view: &ServeView<'_>, parts: &Parts, tally: &mut Tally) {
+/// The causes of Unsupported Request that a request has, in the order of the group's names.
+fn unsupported_causes(view: &ServeView<'_>, parts: &Parts) -> [bool; 7] {
     let kept = view.case.kept;
     let type1 = parts.code & 0x3F == 0x05;
     let captured = kept.captured != 0;
     let other_function = parts.function != view.case.description.function;
-    let poisoned = parts.poisoned && parts.writes;
     let compared = parts.trusted && captured;
-    let causes = [
+    [
         type1,
         !type1 && !parts.trusted && other_function,
         parts.trusted && !captured,
         compared && parts.bus != kept.bus,
         compared && parts.device != kept.device,
         parts.trusted && other_function,
-        poisoned,
-    ];
-    if let Some(cause) = only(&causes) {
-        let second = if poisoned { parts.trusted } else { parts.writes };
+        parts.poisoned && parts.writes,
+    ]
+}
+
+/// Counts a call whose request has one cause of Unsupported Request and no other.
+fn count_unsupported(causes: &[bool; 7], parts: &Parts, tally: &mut Tally) {
+    if let Some(cause) = only(causes) {
+        let second = if cause == 6 { parts.trusted } else { parts.writes };
         tally.add(Group::Unsupported, 2 * cause + usize::from(second));
     }
 }

@@ -1,4 +1,4 @@
-//! Causes that stand alone, and those that the offsets of both records share.
+//! Causes that stand alone, the first of several, and those that the offsets of both records share.
 
 /// The place of the only cause, where there is one and no other.
 pub fn only(causes: &[bool]) -> Option<usize> {
@@ -7,6 +7,12 @@ pub fn only(causes: &[bool]) -> Option<usize> {
         (Some((place, _)), None) => Some(place),
         _ => None,
     }
+}
+
+/// The number of the first part that has a cause, in document 01's order; 0 where none has.
+pub fn first_told(parts: &[(u8, &[bool])]) -> u8 {
+    let first = parts.iter().find(|(_, causes)| causes.contains(&true));
+    first.map_or(0, |(number, _)| *number)
 }
 
 /// The causes of 1 for a record, in the order of the groups' names: the space's size; an offset that is not a multiple

@@ -1,6 +1,6 @@
 //! The classes of the question for a Dual-BDF record, from the space, the offset and the model's answer.
 
-use super::alone::{offset_causes, only};
+use super::alone::{first_told, offset_causes, only};
 use super::group::Group;
 use super::tally::Tally;
 use crate::generate::{NAMED_LENGTHS, named_length_place};
@@ -73,25 +73,31 @@ pub fn count_dual(space: &[u8], at: usize, number: u8, tally: &mut Tally) {
     }
     let outside = offset_causes(space, at, 0x040, 0x0FC);
     if outside.contains(&true) {
+        assert_eq!(number, 1, "the model and the causes disagree on a Dual-BDF record");
         if let Some(cause) = only(&outside) {
             tally.add(Group::DualCauses, cause);
         }
         return;
     }
     let dual = Dual::of(space, at);
-    count_causes(&dual, at, tally);
+    count_causes(&dual, at, number, tally);
     if number == 0 {
         count_sound_dual(space, at, &dual, tally);
     }
 }
 
 /// Counts a record by its causes: the one that stands alone, or the first two in document 01's order.
-fn count_causes(dual: &Dual, at: usize, tally: &mut Tally) {
+fn count_causes(dual: &Dual, at: usize, number: u8, tally: &mut Tally) {
     let causes = dual.causes(at);
+    let [structure, length, vendor, vector] = [&causes[..1], &causes[1..5], &causes[5..10], &causes[10..]];
+    assert_eq!(
+        first_told(&[(8, structure), (9, length), (8, vendor), (10, vector)]),
+        number,
+        "the model and the causes disagree on a Dual-BDF record"
+    );
     if let Some(cause) = only(&causes) {
         tally.add(Group::DualCauses, 6 + cause);
     }
-    let [structure, length, vendor, vector] = [&causes[..1], &causes[1..5], &causes[5..10], &causes[10..]];
     let [structure, length, vendor, vector] = [structure, length, vendor, vector].map(|part| part.contains(&true));
     tally.add_if(structure && length, Group::DualOrder, 0);
     tally.add_if(!structure && length && vendor, Group::DualOrder, 1);

@@ -1,6 +1,6 @@
 //! The classes of the two questions for a DVSEC record, from the space, the offset and the model's answer.
 
-use super::alone::{offset_causes, only};
+use super::alone::{first_told, offset_causes, only};
 use super::group::Group;
 use super::tally::Tally;
 use crate::generate::{NAMED_LENGTHS, named_length_place};
@@ -32,10 +32,19 @@ pub fn count_dvsec(space: &[u8], at: usize, question: Question, number: u8, tall
     };
     let outside = offset_causes(space, at, 0x100, 0xFFC);
     if outside.contains(&true) {
+        assert_eq!(number, 1, "the model and the causes disagree on a DVSEC record");
         if let Some(cause) = only(&outside) {
             tally.add(group, cause);
         }
-    } else if let Some(cause) = only(&dvsec_causes(space, at)) {
+        return;
+    }
+    let causes = dvsec_causes(space, at);
+    assert_eq!(
+        first_told(&[(8, &causes[..2]), (9, &causes[2..])]),
+        number,
+        "the model and the causes disagree on a DVSEC record"
+    );
+    if let Some(cause) = only(&causes) {
         tally.add(group, 6 + cause);
     } else if number == 0 {
         count_sound_dvsec(space, at, question, tally);

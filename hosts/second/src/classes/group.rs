@@ -4,6 +4,7 @@ use super::names::{
     BOTTOM_BITS, CAPTURES, CORRELATION, DECLARED_EMPTY, DUAL_CAUSES, DUAL_IGNORED, DUAL_ORDER, DVSEC_BODIES,
     DVSEC_CAUSES, KEPT_FORMS, NOISE, RULES, SERVE_CAUSES, SERVE_TOGETHER, UNSUPPORTED,
 };
+use super::turn::TURN_NAMES;
 
 /// A group of classes. Its place is its line in [`TABLE`].
 #[derive(Clone, Copy, Debug, PartialEq, Eq)]
@@ -41,8 +42,10 @@ pub enum Group {
     CompatibleChains,
     ExtendedChains,
     TrustedChains,
+    CompatibleTurns,
+    ExtendedTurns,
+    TrustedTurns,
     Loops,
-    WholeLoops,
     CompatibleFloor,
     ExtendedFloor,
     TrustedFloor,
@@ -110,7 +113,7 @@ const fn named(group: Group, title: &'static str, names: &'static [&'static str]
 }
 
 /// All groups. "Alone" means that the call has no other cause for a refusal, or for Unsupported Request.
-pub const TABLE: [Line; 55] = [
+pub const TABLE: [Line; 57] = [
     numbered(Group::ServeAnswers, "serve: answers 0 to 6", 7, 1000),
     named(
         Group::ServeCauses,
@@ -219,18 +222,25 @@ pub const TABLE: [Line; 55] = [
     numbered(Group::CompatibleChains, "walks: compatible chains of 0 to 48", 49, 50),
     numbered(Group::ExtendedChains, "walks: extended chains of 0 to 960", 961, 5),
     numbered(Group::TrustedChains, "walks: trusted chains of 0 to 1,022", 1023, 5),
-    numbered(
-        Group::Loops,
-        "walks: loops, three tails, five lengths, each list",
-        45,
-        10,
+    named(
+        Group::CompatibleTurns,
+        "walks: compatible, where the last header points",
+        TURN_NAMES,
+        50,
     ),
-    numbered(
-        Group::WholeLoops,
-        "walks: loops over all offsets, without and with tail",
-        6,
-        10,
+    named(
+        Group::ExtendedTurns,
+        "walks: extended, where the last header points",
+        TURN_NAMES,
+        50,
     ),
+    named(
+        Group::TrustedTurns,
+        "walks: trusted, where the last header points",
+        TURN_NAMES,
+        50,
+    ),
+    numbered(Group::Loops, "walks: loops, five tails, six lengths, each list", 87, 20),
     numbered(
         Group::CompatibleFloor,
         "walks: compatible, below the floor after 0 to 10 steps",
@@ -249,15 +259,10 @@ pub const TABLE: [Line; 55] = [
         4,
         100,
     ),
-    named(
-        Group::BottomBits,
-        "walks: bottom bits of pointers in legal chains",
-        BOTTOM_BITS,
-        10,
-    ),
+    named(Group::BottomBits, "walks: bottom bits of pointers", BOTTOM_BITS, 10),
     named(
         Group::DeclaredEmpty,
-        "walks: lists that the table calls empty",
+        "walks: lists that the table calls empty, or nearly",
         DECLARED_EMPTY,
         100,
     ),

@@ -168,6 +168,9 @@ pub const BOTTOM_BITS: &[&str] = &[
     "trusted, last pointer of 1 to 3",
     "trusted, start pointer with some",
     "trusted, start pointer of 1 to 3",
+    "compatible, pointer that closes a loop",
+    "extended, pointer that closes a loop",
+    "trusted, pointer that closes a loop",
 ];
 
 pub const DECLARED_EMPTY: &[&str] = &[
@@ -176,6 +179,8 @@ pub const DECLARED_EMPTY: &[&str] = &[
     "extended, its pointers hold a legal chain",
     "extended, its pointers hold a broken chain",
     "extended, an ID of 0000h further on",
+    "extended, not empty by the ID's low byte alone",
+    "extended, not empty by the ID's high byte alone",
 ];
 
 pub const DVSEC_CAUSES: &[&str] = &[

@@ -147,6 +147,18 @@ mod tests {
     }
 
     #[test]
+    fn a_class_of_any_group_that_is_never_met_fails() {
+        let mut tally = after_calls(Tally::new(), 1_000_000, [0, 0]);
+        tally.counts.fill(u64::MAX);
+        assert!(tally.is_complete());
+        for class in 0..tally.counts.len() {
+            tally.counts[class] = 0;
+            assert!(!tally.is_complete(), "{tally}");
+            tally.counts[class] = u64::MAX;
+        }
+    }
+
+    #[test]
     fn a_short_run_asks_for_nothing() {
         assert!(Tally::new().is_complete());
         assert!(after_calls(Tally::new(), 999_999, [0, 0]).is_complete());

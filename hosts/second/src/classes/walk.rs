@@ -1,145 +1,57 @@
-//! The classes of a walk, from its space, its room and the model's answer.
-//!
-//! The chain is followed once more here, with a mark for each word: where a mark and the model's bound on the count
-//! disagree on a chain, the run stops.
+//! The classes of a walk, from its space, its room and the model's answer. Where the sizes and the pointers call for
+//! another answer, the run stops.
 
 use thawribbon::raw::Walked;
 
+use super::chain::{Chain, Ending, Pointers};
 use super::group::Group;
 use super::tally::Tally;
+use super::turn::turn_place;
 use crate::generate::{NAMED_LENGTHS, Shape, named_length_place};
 use crate::model::List;
-use crate::twin::word;
 
-/// Where a chain leads.
-#[derive(Clone, Copy, Debug, PartialEq, Eq)]
-enum Ending {
-    /// To an end, after so many headers.
-    End { count: usize },
-    /// Back to itself: a tail of so many headers, and then so many over and over.
-    Loop { tail: usize, length: usize },
-    /// To an offset below the floor, after so many headers.
-    Below { steps: usize, offset: usize },
-}
-
-/// A chain, and what was seen on the way.
-struct Chain {
-    ending: Ending,
-    /// The start pointer as it lies in the space; 100h for the extended list.
-    start: usize,
-    /// The last pointer as it lies in the space.
-    last: usize,
-    /// Which of the bottom bits 1, 2 and 3 a pointer to a header had, by bits 1 to 3.
-    bottom_bits: u8,
-    /// Whether a header after the first had the ID 0000h.
-    zero_id: bool,
-}
-
-/// The pointer that the list starts with, whether or not the table calls it empty.
-fn start_pointer(list: List, space: &[u8]) -> usize {
-    match list {
-        List::Compatible => space[0x34].into(),
-        List::Extended => 0x100,
-        List::Trusted => usize::from(space[4]) | usize::from(space[5] & 0x0F) << 8,
-    }
-}
-
-/// Whether the table calls the list empty.
-fn is_declared_empty(list: List, space: &[u8]) -> bool {
-    match list {
-        List::Compatible => space[0x06] >> 4 & 1 == 0,
-        List::Extended => space[0x100] == 0 && space[0x101] == 0,
-        List::Trusted => false,
-    }
-}
-
-/// The next pointer of a header, with its bottom bits.
-fn next_pointer(list: List, space: &[u8], at: usize) -> usize {
-    match list {
-        List::Compatible => space[at + 1].into(),
-        _ => (word(space, at) >> 20) as usize,
-    }
-}
-
-/// Follows the pointers from the start one, with a mark for each word.
-fn follow(shape: Shape, space: &[u8]) -> Chain {
-    let mut marks = [0_u16; 1024];
-    let start = start_pointer(shape.list, space);
-    let mut chain = Chain {
-        ending: Ending::End { count: 0 },
-        start,
-        last: start,
-        bottom_bits: 0,
-        zero_id: false,
-    };
-    for steps in 0.. {
-        let at = chain.last / 4 * 4;
-        let met = usize::from(marks[at / 4]);
-        chain.ending = if at == 0 {
-            Ending::End { count: steps }
-        } else if at < shape.floor {
-            Ending::Below { steps, offset: at }
-        } else if met != 0 {
-            Ending::Loop {
-                tail: met - 1,
-                length: steps - (met - 1),
-            }
-        } else {
-            marks[at / 4] = steps as u16 + 1;
-            chain.bottom_bits |= if steps == 0 { 0 } else { 1 << (chain.last % 4) };
-            chain.zero_id |= steps != 0 && word(space, at) & 0xFFFF == 0;
-            chain.last = next_pointer(shape.list, space, at);
-            continue;
-        };
-        break;
-    }
-    chain
-}
-
-/// The pointers of a list as they lie in the space, from the start one on, up to so many; none where the space is not
-/// whole.
-pub fn pointers(shape: Shape, space: &[u8], most: usize) -> Vec<usize> {
-    if space.len() != 4096 {
-        return Vec::new();
-    }
-    let first = start_pointer(shape.list, space);
-    let next = |pointer: &usize| {
-        let at = pointer / 4 * 4;
-        (at >= shape.floor).then(|| next_pointer(shape.list, space, at))
-    };
-    std::iter::successors(Some(first), next).take(most).collect()
-}
+/// The answers that refuse a walk.
+const REFUSED_1: Walked = Walked { number: 1, count: 0 };
+const REFUSED_2: Walked = Walked { number: 2, count: 0 };
+const REFUSED_7: Walked = Walked { number: 7, count: 0 };
 
 /// Counts a walk in all its classes.
 pub fn count(shape: Shape, space: &[u8], room_length: usize, walked: Walked, tally: &mut Tally) {
     let place = shape.place();
-    let answer = [0, 1, 2, 7].iter().position(|&number| number == walked.number);
-    tally.add(
-        Group::WalkAnswers,
-        4 * place + answer.expect("a walk answers 0, 1, 2 or 7"),
-    );
     count_sizes(shape, space.len(), room_length, tally);
     let small_room = room_length < shape.maximum;
-    if space.len() != 4096 {
-        return tally.add_if(small_room, Group::WalkTogether, 2 * place);
-    }
-    let chain = follow(shape, space);
-    let empty = is_declared_empty(shape.list, space);
-    let legal = matches!(chain.ending, Ending::End { .. }) || empty;
+    let Some(pointers) = Pointers::new(shape, space) else {
+        tally.add_if(small_room, Group::WalkTogether, 2 * place);
+        return count_answer(shape, REFUSED_1, walked, tally);
+    };
+    let chain = pointers.follow();
+    let empty = pointers.are_declared_empty();
+    let due = match chain.ending {
+        _ if empty => Walked { number: 0, count: 0 },
+        Ending::End { count } => Walked { number: 0, count },
+        _ => REFUSED_7,
+    };
     if small_room {
-        return tally.add_if(!legal, Group::WalkTogether, 2 * place + 1);
+        tally.add_if(due == REFUSED_7, Group::WalkTogether, 2 * place + 1);
+        return count_answer(shape, REFUSED_2, walked, tally);
     }
-    assert_eq!(
-        legal,
-        walked.number == 0,
-        "the model and the marks disagree on a chain: {:?}",
-        chain.ending
-    );
+    count_answer(shape, due, walked, tally);
     if empty {
         count_empty(shape, &chain, tally);
     } else {
-        count_ending(shape, &chain, walked.count, tally);
+        count_ending(shape, &chain, tally);
     }
+}
+
+/// Counts a walk by its number. Its answer must be the one that is due.
+fn count_answer(shape: Shape, due: Walked, walked: Walked, tally: &mut Tally) {
+    let list = shape.list;
+    assert_eq!(due, walked, "the model and the pointers disagree on a {list:?} list");
+    let answer = [0, 1, 2, 7].iter().position(|&number| number == due.number);
+    tally.add(
+        Group::WalkAnswers,
+        4 * shape.place() + answer.expect("a walk answers 0, 1, 2 or 7"),
+    );
 }
 
 fn count_sizes(shape: Shape, space_length: usize, room_length: usize, tally: &mut Tally) {
@@ -168,26 +80,58 @@ fn count_empty(shape: Shape, chain: &Chain, tally: &mut Tally) {
     tally.add_if(holds_something, Group::DeclaredEmpty, first + usize::from(broken));
 }
 
-fn count_ending(shape: Shape, chain: &Chain, count: usize, tally: &mut Tally) {
+fn count_ending(shape: Shape, chain: &Chain, tally: &mut Tally) {
+    count_turn(shape, chain.ending, tally);
     match chain.ending {
-        Ending::End { count: headers } => {
-            assert_eq!(headers, count, "the model and the marks disagree on a chain's length");
-            count_chain(shape, headers, tally);
-            count_bottom_bits(shape, chain, headers, tally);
-            tally.add_if(shape.list == List::Extended && chain.zero_id, Group::DeclaredEmpty, 4);
+        Ending::End { count } => {
+            count_chain(shape, count, tally);
+            count_bottom_bits(shape, chain, count, tally);
+            count_ids(shape, chain, tally);
         }
         Ending::Loop { tail, length } => {
-            let lengths = match length {
-                1..=3 => length - 1,
-                4..=15 => 3,
-                _ => 4,
-            };
-            tally.add(Group::Loops, 15 * shape.place() + 5 * tail.min(2) + lengths);
-            let whole = tail + length == shape.maximum;
-            tally.add_if(whole, Group::WholeLoops, 2 * shape.place() + tail.min(1));
+            count_loop(shape, tail, length, tally);
+            tally.add_if(chain.last % 4 != 0, Group::BottomBits, 16 + shape.place());
         }
         Ending::Below { steps, offset } => count_below(shape, steps, offset, tally),
     }
+}
+
+/// Counts an extended list by its IDs: such as would make it empty at 100h, and such as hardly keep it from that.
+fn count_ids(shape: Shape, chain: &Chain, tally: &mut Tally) {
+    if shape.list == List::Extended {
+        tally.add_if(chain.zero_id, Group::DeclaredEmpty, 4);
+        tally.add_if(chain.first_id < 0x100, Group::DeclaredEmpty, 5);
+        tally.add_if(chain.first_id % 0x100 == 0, Group::DeclaredEmpty, 6);
+    }
+}
+
+/// Counts where the last header points.
+fn count_turn(shape: Shape, ending: Ending, tally: &mut Tally) {
+    let group = match shape.list {
+        List::Compatible => Group::CompatibleTurns,
+        List::Extended => Group::ExtendedTurns,
+        List::Trusted => Group::TrustedTurns,
+    };
+    if let Some(place) = turn_place(ending, shape.maximum) {
+        tally.add(group, place);
+    }
+}
+
+/// A tail of 0, 1, 2 to 15, up to half the maximum, or more; a loop of 1, 2, 3, 4 to 15, up to half the maximum, or
+/// more. Both cannot be more than half, so the last of the thirty pairs is not there.
+fn count_loop(shape: Shape, tail: usize, length: usize, tally: &mut Tally) {
+    let half = shape.maximum / 2;
+    let tails = match tail {
+        0 | 1 => tail,
+        2..=15 => 2,
+        _ => 3 + usize::from(tail > half),
+    };
+    let lengths = match length {
+        1..=3 => length - 1,
+        4..=15 => 3,
+        _ => 4 + usize::from(length > half),
+    };
+    tally.add(Group::Loops, 29 * shape.place() + 6 * tails + lengths);
 }
 
 fn count_chain(shape: Shape, count: usize, tally: &mut Tally) {

@@ -5,7 +5,7 @@ use thawribbon::raw::Walked;
 use super::difference::Difference;
 use super::reference::Reference;
 use super::subject::Subject;
-use crate::classes::{Group, Tally, count_walk, pointers};
+use crate::classes::{Group, Pointers, Tally, count_walk};
 use crate::generate::{Random, SPACE_BYTES, Scene, Shape, WrongLengths};
 use crate::model::List;
 use crate::twin::Twin;
@@ -90,6 +90,7 @@ impl Walks {
 
     fn difference(&self, ours: Walked, theirs: Walked) -> Difference {
         let space = &self.scene.space;
+        let pointers = Pointers::new(self.scene.shape, space.ours());
         let entry = match self.scene.shape.list {
             List::Compatible => "walk_compatible",
             List::Extended => "walk_extended",
@@ -99,7 +100,9 @@ impl Walks {
             .input("length of the room", self.room.ours().len())
             .input(
                 "pointers from the start on",
-                pointers(self.scene.shape, space.ours(), MOST_POINTERS),
+                pointers
+                    .map(|pointers| pointers.first(MOST_POINTERS))
+                    .unwrap_or_default(),
             )
             .words("words 004h, 034h and 100h", space.ours(), &[0x004, 0x034, 0x100])
             .space("space", space.ours())

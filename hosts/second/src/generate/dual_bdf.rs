@@ -88,7 +88,11 @@ impl DualMaker {
                 scene.set_bits(4, 0xFFF << 20, length << 20);
             }
             Fault::Revision => scene.set_bits(4, 0xF << 16, random.pick(&[1, 2, 8, 15, any]) << 16),
-            Fault::Vendor => scene.set_bits(4, 0xFFFF, random.pick(&[0x8086, 0x1EC0, 0x8680, 0xC01E, any])),
+            Fault::Vendor => scene.set_bits(
+                4,
+                0xFFFF,
+                random.pick(&[0x8086, 0x1EC0, 0x8680, 0xC01E, 0x0086, 0x8000, 0x00C0, 0x1E00, any]),
+            ),
             Fault::Id => scene.set_bits(8, 0xFFFF, random.pick(&[0x0009, 0x0002, 0x0900, 0x0109, 0x0102, any])),
             Fault::Vector => scene.set_bits(8, 0xFF << 16, random.pick(&[0x00, 0x03, 0x81, 0xFF, any]) << 16),
         }

@@ -2,6 +2,7 @@
 
 use super::board::{LONGEST_SPACE, SPACE_BYTES};
 use super::cursor::Cursor;
+use super::loops::draw_loop;
 use super::random::Random;
 use super::shape::Shape;
 use crate::model::List;
@@ -93,7 +94,10 @@ impl Scene {
     fn declare_present(&mut self, random: &mut Random) {
         match self.shape.list {
             List::Compatible => self.edit(0x004, 1 << 20, 1 << 20),
-            List::Extended => self.edit(0x100, 0xFFFF, random.within(1, 0xFFFF) as u32),
+            List::Extended => {
+                let any = random.within(1, 0xFFFF) as u32;
+                self.edit(0x100, 0xFFFF, random.pick(&[0x0001, 0x0080, 0x0100, 0x8000, any, any]));
+            }
             List::Trusted => {}
         }
         let first = self.order[0];
@@ -128,21 +132,7 @@ impl Scene {
 
     /// A chain that comes back to itself: after a tail, so many offsets over and over.
     fn make_loop(&mut self, random: &mut Random) {
-        let maximum = self.shape.maximum;
-        let length = match random.below(8) {
-            0 | 1 => random.within(1, 3),
-            2 => maximum,
-            3 => random.within(1, maximum),
-            _ => random.within(1, 45),
-        };
-        let room = maximum - length;
-        let tail = match random.below(6) {
-            0 | 1 => 0,
-            2 => room.min(1),
-            3 => random.within(0, room),
-            4 => room,
-            _ => random.within(0, room.min(20)),
-        };
+        let (tail, length) = draw_loop(self.shape.maximum, random);
         let first = self.begin(tail + length, random);
         self.point(first + tail + length - 1, self.order[first + tail], random);
     }
@@ -155,12 +145,14 @@ impl Scene {
         } else {
             4 * random.within(1, floor / 4 - 1)
         } as u16;
-        let steps = match random.below(6) {
+        let steps = match random.below(8) {
             0 => 0,
             1 => 1,
             2 | 3 => random.within(2, 9),
             4 => random.within(10, 40),
-            _ => random.within(1, maximum),
+            5 => random.within(1, maximum),
+            6 => maximum - 1,
+            _ => maximum,
         };
         if steps == 0 && self.shape.list != List::Extended {
             self.point_start(below, random);

@@ -202,7 +202,7 @@ fn p12_header_that_points_to_itself() {
 }
 
 /// Sets a list's start where it is the list's own to set, and makes it count as not empty.
-fn set_start(list: List, space: &mut [u8; 4096], start: u16) {
+pub(super) fn set_start(list: List, space: &mut [u8; 4096], start: u16) {
     match list {
         List::Compatible => (space[0x06], space[0x34]) = (0x10, start as u8),
         List::Extended => space[0x100] = 1,
@@ -210,7 +210,7 @@ fn set_start(list: List, space: &mut [u8; 4096], start: u16) {
     }
 }
 
-fn set_next(list: List, space: &mut [u8; 4096], at: usize, next: u16) {
+pub(super) fn set_next(list: List, space: &mut [u8; 4096], at: usize, next: u16) {
     match list {
         List::Compatible => space[at + 1] = next as u8,
         _ => space[at + 2..at + 4].copy_from_slice(&(next << 4).to_le_bytes()),
@@ -218,7 +218,7 @@ fn set_next(list: List, space: &mut [u8; 4096], at: usize, next: u16) {
 }
 
 /// The lists with their floors and maxima.
-const LISTS: [(List, u16, usize); 3] = [
+pub(super) const LISTS: [(List, u16, usize); 3] = [
     (List::Compatible, 0x040, 48),
     (List::Extended, 0x100, 960),
     (List::Trusted, 0x008, 1022),

@@ -37,6 +37,7 @@ pub(super) fn write(
     outcome: Outcome,
 ) -> usize {
     let (bus, device) = capture.unwrap_or((0, 0));
+    debug_assert!(device <= 31 && function <= 7, "device and function share a byte");
     let [requester_high, requester_low] = request.requester;
     let first = if let Outcome::Read(_) = outcome {
         WITH_DATA

@@ -58,9 +58,26 @@ fn read(space: &Space, at: usize) -> Result<(u8, u8), Refusal> {
     if revision != 0 || !VENDORS_AND_IDS.contains(&(header as u16, last as u16)) {
         return Err(Refusal::Structure);
     }
-    let vector = (last >> 16) as u8;
-    if vector.count_ones() != 1 {
-        return Err(Refusal::Vector);
+    let function = only_bit((last >> 16) as u8).ok_or(Refusal::Vector)?;
+    Ok((function, (last >> 24) as u8 & 0x1F))
+}
+
+/// The place of a vector's bit, where "exactly one bit of the eight is set": it is the one power of two that the vector
+/// equals.
+fn only_bit(vector: u8) -> Option<u8> {
+    (0..8).find(|place| vector == 1 << place)
+}
+
+#[cfg(test)]
+mod tests {
+    use super::only_bit;
+
+    #[test]
+    fn one_bit_is_told_by_its_place_and_more_or_none_are_not() {
+        for vector in 0..=u8::MAX {
+            let set: Vec<u8> = (0..8).filter(|place| vector >> place & 1 == 1).collect();
+            let expected = if let [only] = set[..] { Some(only) } else { None };
+            assert_eq!(only_bit(vector), expected, "{vector:#010b}");
+        }
     }
-    Ok((vector.trailing_zeros() as u8, (last >> 24) as u8 & 0x1F))
 }

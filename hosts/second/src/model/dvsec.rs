@@ -59,6 +59,7 @@ fn read(space: &Space, at: usize) -> Result<Dvsec, Refusal> {
     if !(HEADER_BYTES..=SPACE_BYTES - at).contains(&usize::from(length)) {
         return Err(Refusal::StructureLength);
     }
+    debug_assert!(at + HEADER_BYTES <= SPACE_BYTES && at + usize::from(length) <= SPACE_BYTES);
     Ok(Dvsec {
         number: 0,
         vendor: header as u16,

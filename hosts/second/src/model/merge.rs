@@ -27,12 +27,65 @@ const fn enabled(enables: u8) -> u32 {
 
 /// "For an enabled byte, a write takes the data bit where the rule bit is 1 and keeps the old bit where it is 0. A byte
 /// not enabled stays."
-pub(super) const fn merged(old: u32, rule: u32, data: u32, enables: u8) -> u32 {
+pub(super) fn merged(old: u32, rule: u32, data: u32, enables: u8) -> u32 {
     let taken = rule & enabled(enables);
-    old & !taken | data & taken
+    let new = old & !taken | data & taken;
+    debug_assert_eq!(new, merged_bit_by_bit(old, rule, data, enables));
+    new
+}
+
+/// The same sentence once more, as it stands: each bit of each byte by itself. Only stated: no answer rests on it.
+fn merged_bit_by_bit(old: u32, rule: u32, data: u32, enables: u8) -> u32 {
+    let bit = |word: u32, place: u32| word >> place & 1;
+    let chosen = |place: u32| {
+        let byte = place / 8;
+        let source = if enables >> byte & 1 == 1 && bit(rule, place) == 1 {
+            data
+        } else {
+            old
+        };
+        bit(source, place)
+    };
+    (0..32).map(|place| chosen(place) << place).sum()
 }
 
 /// "A read returns enabled bytes as they are and others as 00h".
-pub(super) const fn shown(word: u32, enables: u8) -> u32 {
-    word & enabled(enables)
+pub(super) fn shown(word: u32, enables: u8) -> u32 {
+    let shown = word & enabled(enables);
+    debug_assert_eq!(shown.to_le_bytes(), shown_byte_by_byte(word.to_le_bytes(), enables));
+    shown
+}
+
+/// The same sentence once more, on four bytes.
+fn shown_byte_by_byte(bytes: [u8; 4], enables: u8) -> [u8; 4] {
+    [0, 1, 2, 3].map(|place| if enables >> place & 1 == 1 { bytes[place] } else { 0x00 })
+}
+
+#[cfg(test)]
+mod tests {
+    use super::{merged, merged_bit_by_bit, shown, shown_byte_by_byte};
+
+    /// A word of ones but for one bit, or of zeros but for one bit.
+    fn words(place: u32) -> [u32; 4] {
+        [0, u32::MAX, 1 << place, !(1 << place)]
+    }
+
+    #[test]
+    fn each_bit_comes_from_where_document_01_says() {
+        for place in 0..32 {
+            for (enables, word) in (0..16).flat_map(|enables| words(place).map(|word| (enables, word))) {
+                assert_eq!(
+                    shown(word, enables).to_le_bytes(),
+                    shown_byte_by_byte(word.to_le_bytes(), enables)
+                );
+                for (rule, data) in words(place)
+                    .iter()
+                    .flat_map(|&rule| words(place).map(|data| (rule, data)))
+                {
+                    let expected = merged_bit_by_bit(word, rule, data, enables);
+                    assert_eq!(merged(word, rule, data, enables), expected);
+                }
+            }
+        }
+    }
 }

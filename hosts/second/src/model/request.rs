@@ -1,6 +1,7 @@
 //! A configuration packet taken apart by document 01's section "The packet", or refused with 3, 4, 5 or 6.
 
 use super::refusal::Refusal;
+use super::space::is_word_offset;
 
 /// The bytes of every packet before its data and its digest.
 const HEADER_BYTES: usize = 12;
@@ -55,7 +56,7 @@ impl Request {
             Some(data) if writes => Access::Write(u32::from_le_bytes(*data)),
             _ => Access::Read,
         };
-        Ok(Self {
+        let request = Self {
             route,
             access,
             poisoned: header[2] & 0x40 != 0,
@@ -66,7 +67,18 @@ impl Request {
             device: header[9] >> 3,
             function: header[9] & 0x07,
             offset: usize::from(header[10] & 0x0F) << 8 | usize::from(header[11] & 0xFC),
-        })
+        };
+        debug_assert!(request.is_as_written(header));
+        Ok(request)
+    }
+
+    /// "9: bits 7:3 device, bits 2:0 function." "Offset = 256 × (byte 10 mod 16) + 4 × floor(byte 11 / 4)." Only
+    /// stated: no answer rests on it.
+    fn is_as_written(&self, header: &[u8; HEADER_BYTES]) -> bool {
+        let [.., ninth, tenth, eleventh] = header.map(usize::from);
+        usize::from(self.device) * 8 + usize::from(self.function) == ninth
+            && self.offset == 256 * (tenth % 16) + 4 * (eleventh / 4)
+            && is_word_offset(self.offset, 0x000, 0xFFC)
     }
 }
 

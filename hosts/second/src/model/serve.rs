@@ -77,7 +77,9 @@ impl<'lent> Board<'lent> {
     fn serve(mut self, packet: &[u8], reply: &mut [u8]) -> Result<Served, Refusal> {
         let reply = reply.first_chunk_mut::<LONGEST_COMPLETION>().ok_or(Refusal::Room)?;
         let request = Request::read(packet)?;
+        let kept = self.capture;
         let outcome = self.access(&request);
+        debug_assert_eq!(self.capture, captured(&request, outcome).or(kept));
         let length = completion::write(reply, &request, self.capture, self.function, outcome);
         Ok(Served {
             number: 0,
@@ -138,6 +140,13 @@ impl<'lent> Board<'lent> {
             }
         }
     }
+}
+
+/// What a request captures: "A successful Type 0 write captures its bus and device number", and nothing else does. Only
+/// stated: no answer rests on it.
+fn captured(request: &Request, outcome: Outcome) -> Option<(u8, u8)> {
+    let captures = request.route == Route::Type0 && outcome == Outcome::Written;
+    captures.then_some((request.bus, request.device))
 }
 
 /// Merges a write's data into the word of a space under its rule word and the first enables.

@@ -1,7 +1,7 @@
 //! The three capability lists: the offsets of the one legal chain, or number 7 where there is none.
 
 use super::refusal::Refusal;
-use super::space::{Space, whole, word};
+use super::space::{SPACE_BYTES, Space, is_word_offset, whole, word};
 
 /// Which list is walked.
 #[derive(Clone, Copy, Debug, PartialEq, Eq)]
@@ -20,6 +20,8 @@ pub struct Walked {
 
 /// "The bottom two bits of every pointer are dropped first."
 const POINTER_BITS: usize = 0xFFC;
+/// The words of a space.
+const WORDS: usize = SPACE_BYTES / 4;
 
 /// Writes the offsets of a list's legal chain to the start of the room. "If one exists, the answer is 0, its offsets in
 /// order are in a lent list of 16-bit numbers, the rest of the list stays, and the count of headers read is the chain's
@@ -39,8 +41,11 @@ pub fn walk(list: List, space: &[u8], room: &mut [u16]) -> Walked {
     }
 }
 
-/// Follows pointers from a start to 0. There are as many word offsets from the floor on as the maximum says, so a chain
-/// that goes on beyond the maximum has come to one of them twice, and never ends.
+/// Follows pointers from a start to 0. "A legal chain is a finite list of offsets, the first the start, each next the
+/// one its predecessor points to, none below the floor, the last pointing to 0."
+///
+/// So the pointers leave no choice, and no legal chain exists exactly where they lead below the floor, or to an offset
+/// a second time: from there they go round, and no end comes. Every word that was met has a mark. No count decides.
 ///
 /// The offsets are kept aside until the end is reached: a broken chain leaves the room as it was.
 fn follow<const FLOOR: usize, const MAXIMUM: usize>(
@@ -51,23 +56,38 @@ fn follow<const FLOOR: usize, const MAXIMUM: usize>(
     if room.len() < MAXIMUM {
         return Err(Refusal::Room);
     }
-    let mut chain = [0; MAXIMUM];
+    let mut met = [false; WORDS];
+    let mut chain = [0; WORDS];
     let mut count = 0;
-    let mut pointer = start;
-    loop {
-        let at = pointer & POINTER_BITS;
-        if at == 0 {
-            break;
-        }
-        if at < FLOOR || count == MAXIMUM {
+    let mut at = start & POINTER_BITS;
+    while at != 0 {
+        if at < FLOOR || met[at / 4] {
             return Err(Refusal::Broken);
         }
+        debug_assert!(count < MAXIMUM, "more words were met than lie from the floor on");
+        met[at / 4] = true;
         chain[count] = at as u16;
         count += 1;
-        pointer = next(at);
+        at = next(at) & POINTER_BITS;
     }
+    debug_assert!(could_be_legal(&chain[..count], FLOOR, MAXIMUM));
     room[..count].copy_from_slice(&chain[..count]);
     Ok(count)
+}
+
+/// What holds of every legal chain: it is not longer than the maximum, its offsets are words of the space from the
+/// floor on, and no two are the same. Only stated: no answer rests on it.
+fn could_be_legal(chain: &[u16], floor: usize, maximum: usize) -> bool {
+    let mut sorted = [0; WORDS];
+    let Some(sorted) = sorted.get_mut(..chain.len()) else {
+        return false;
+    };
+    sorted.copy_from_slice(chain);
+    sorted.sort_unstable();
+    let inside = sorted
+        .iter()
+        .all(|&at| is_word_offset(at.into(), floor, SPACE_BYTES - 4));
+    chain.len() <= maximum && inside && sorted.is_sorted_by(|lower, higher| lower < higher)
 }
 
 /// "byte 34h; empty if byte 06h bit 4 is 0"
@@ -97,4 +117,23 @@ fn trusted_start(space: &Space) -> usize {
 /// "ID 15:0, version 19:16, next 31:20", of the extended and of the trusted list.
 fn extended_next(space: &Space, at: usize) -> usize {
     (word(space, at) >> 20) as usize
+}
+
+#[cfg(test)]
+mod tests {
+    use super::could_be_legal;
+
+    #[test]
+    fn chains_that_could_be_legal_and_such_as_could_not() {
+        let could = |chain: &[u16]| could_be_legal(chain, 0x040, 3);
+        assert!(could(&[]) && could(&[0xFFC]) && could(&[0x044, 0x0FC, 0x040]));
+        assert!(!could(&[0x040, 0x044, 0x048, 0x04C]), "longer than the maximum");
+        assert!(!could(&[0x040, 0x03C]), "below the floor");
+        assert!(!could(&[0x042]) && !could(&[0x1000]), "no word of the space");
+        assert!(!could(&[0x080, 0x040, 0x080]), "one offset twice");
+        assert!(
+            !could_be_legal(&[0x040; 1025], 0x040, 2000),
+            "more than there are words"
+        );
+    }
 }

@@ -6,9 +6,11 @@ mod accessing;
 mod answering;
 mod capturing;
 mod harness;
+mod looping;
 mod reading;
 mod refusing;
 mod serving;
+mod walker;
 mod walking;
 
 use harness::{Wrong, expect_caught, run_fixed};

@@ -17,7 +17,18 @@ fn changed_body(change: impl Fn(Part) -> Part + 'static) -> Wrong {
     })
 }
 
-/// The record as the model tells it from a space with a few bytes changed.
+/// The DVSEC record as the model tells it from a space with a few bytes changed.
+fn dvsec_from_changed(change: impl Fn(&mut [u8], usize) + 'static) -> Wrong {
+    Wrong::dvsec(move |space, at| {
+        let mut copy = space.to_vec();
+        if space.len() == 4096 && at <= 0xFFC {
+            change(&mut copy, at);
+        }
+        Reference.dvsec(&copy, at)
+    })
+}
+
+/// The Dual-BDF record as the model tells it from a space with a few bytes changed.
 fn dual_from_changed(change: impl Fn(&mut [u8], usize) + 'static) -> Wrong {
     Wrong::dual(move |space, at| {
         let mut copy = space.to_vec();
@@ -80,14 +91,25 @@ fn offset_rounded_down() {
 
 #[test]
 fn version_not_tested() {
-    let untested = |space: &[u8], at: usize| {
-        let mut copy = space.to_vec();
-        if let Some(byte) = copy.get_mut(at.saturating_add(2)) {
-            *byte = *byte & 0xF0 | 1;
+    let untested = dvsec_from_changed(|space, at| space[at + 2] = space[at + 2] & 0xF0 | 1);
+    expect_caught(untested, "dvsec");
+}
+
+#[test]
+fn dvsec_id_tested_by_one_of_its_bytes() {
+    expect_caught(dvsec_from_changed(|space, at| space[at] = 0x23), "dvsec");
+    expect_caught(dvsec_from_changed(|space, at| space[at + 1] = 0x00), "dvsec");
+}
+
+#[test]
+fn a_dvsec_length_below_0a_taken() {
+    let taken = dvsec_from_changed(|space, at| {
+        let short = at <= 0xFF4 && space[at + 7] == 0 && space[at + 6] < 0xA0;
+        if short {
+            space[at + 6] = space[at + 6] & 0x0F | 0xA0;
         }
-        Reference.dvsec(&copy, at)
-    };
-    expect_caught(Wrong::dvsec(untested), "dvsec");
+    });
+    expect_caught(taken, "dvsec");
 }
 
 #[test]
@@ -187,6 +209,45 @@ fn either_id_taken_with_either_vendor() {
 #[test]
 fn capability_length_not_tested() {
     expect_caught(dual_from_changed(|space, at| space[at + 2] = 0x0C), "dual_bdf");
+}
+
+#[test]
+fn byte_0_of_a_dual_bdf_record_not_tested() {
+    expect_caught(dual_from_changed(|space, at| space[at] = 0x09), "dual_bdf");
+}
+
+#[test]
+fn dvsec_length_of_a_dual_bdf_record_tested_by_one_part() {
+    expect_caught(dual_from_changed(|space, at| space[at + 7] = 0x00), "dual_bdf");
+    let low_part = |space: &mut [u8], at| space[at + 6] = space[at + 6] & 0x0F | 0xC0;
+    expect_caught(dual_from_changed(low_part), "dual_bdf");
+}
+
+#[test]
+fn revision_of_a_dual_bdf_record_not_tested() {
+    expect_caught(dual_from_changed(|space, at| space[at + 6] &= 0xF0), "dual_bdf");
+}
+
+/// The vendor is taken for one of the two where one of its bytes is right.
+#[test]
+fn vendor_tested_by_one_of_its_bytes() {
+    for tested in [4, 5] {
+        let partly = dual_from_changed(move |space, at| {
+            for vendor in [[0x86, 0x80], [0xC0, 0x1E]] {
+                if space[at + tested] == vendor[tested - 4] {
+                    space[at + 4..at + 6].copy_from_slice(&vendor);
+                }
+            }
+        });
+        expect_caught(partly, "dual_bdf");
+    }
+}
+
+#[test]
+fn id_of_a_dual_bdf_record_tested_by_one_of_its_bytes() {
+    expect_caught(dual_from_changed(|space, at| space[at + 9] = 0x00), "dual_bdf");
+    let by_high_byte = |space: &mut [u8], at| space[at + 8] = if space[at + 4] == 0x86 { 0x09 } else { 0x02 };
+    expect_caught(dual_from_changed(by_high_byte), "dual_bdf");
 }
 
 #[test]

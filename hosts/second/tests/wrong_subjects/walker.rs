@@ -1,0 +1,185 @@
+//! A walk that may be wrong in some particulars: what the wrong ways to walk are made of.
+
+use second::model::List;
+use thawribbon::raw::Walked;
+
+use crate::harness::{Wrong, expect_caught, right_walk, run_fixed, word};
+
+/// The lists, each with the entry that walks it, its floor and its maximum.
+pub const LISTS: [(List, &str, usize, usize); 3] = [
+    (List::Compatible, "walk_compatible", 0x040, 48),
+    (List::Extended, "walk_extended", 0x100, 960),
+    (List::Trusted, "walk_trusted", 0x008, 1022),
+];
+
+pub const BROKEN: Walked = Walked { count: 0, number: 7 };
+
+/// Which of the offsets met are remembered, to notice one that comes again.
+#[derive(Clone, Copy)]
+pub enum Memory {
+    /// So many of the first.
+    First(usize),
+    /// So many of the last.
+    Last(usize),
+}
+
+/// What a walk makes of something.
+#[derive(Clone, Copy)]
+pub enum Verdict {
+    /// It is refused with 7.
+    Broken,
+    /// It is taken for an end: what was met is listed.
+    End,
+}
+
+/// A way to walk that may be wrong in some particulars.
+#[derive(Clone, Copy)]
+pub struct Habits {
+    /// The lowest offset that is taken.
+    pub floor: usize,
+    /// What an offset below it is taken for.
+    pub below: Verdict,
+    /// Whether the first offset is tested against the floor too.
+    pub tests_start: bool,
+    /// The longest chain that is followed, and what a longer one is taken for.
+    pub most: usize,
+    pub longer: Verdict,
+    /// Which offsets are remembered, and what one of them that comes again is taken for.
+    pub memory: Memory,
+    pub again: Verdict,
+    /// Whether the bottom bits of a pointer are dropped.
+    pub drops_bits: bool,
+    /// Whether the mark of an empty list is looked at.
+    pub looks_for_empty: bool,
+    /// Whether offsets are written before the end is known.
+    pub writes_at_once: bool,
+}
+
+/// The right habits of a list: nothing is remembered, and the count tells a loop.
+pub fn right(place: usize) -> Habits {
+    let (_, _, floor, most) = LISTS[place];
+    Habits {
+        floor,
+        below: Verdict::Broken,
+        tests_start: true,
+        most,
+        longer: Verdict::Broken,
+        memory: Memory::First(0),
+        again: Verdict::Broken,
+        drops_bits: true,
+        looks_for_empty: true,
+        writes_at_once: false,
+    }
+}
+
+/// Where a list starts, as it stands in the space, and whether the table calls it empty.
+pub fn start(list: List, space: &[u8]) -> (usize, bool) {
+    match list {
+        List::Compatible => (space[0x34].into(), space[6] & 0x10 == 0),
+        List::Extended => (0x100, word(space, 0x100) & 0xFFFF == 0),
+        List::Trusted => (word(space, 4) as usize & 0xFFF, false),
+    }
+}
+
+/// The pointer of a header, as it stands in the space.
+pub fn next(list: List, space: &[u8], at: usize) -> usize {
+    match list {
+        List::Compatible => space[at + 1].into(),
+        _ => (word(space, at) >> 20) as usize,
+    }
+}
+
+/// Writes offsets to the start of the room.
+pub fn listed(chain: &[u16], room: &mut [u16]) -> Walked {
+    room[..chain.len()].copy_from_slice(chain);
+    Walked {
+        count: chain.len(),
+        number: 0,
+    }
+}
+
+impl Habits {
+    /// What the walk makes of the next offset, if it does not go on with it.
+    fn verdict(&self, at: usize, chain: &[u16]) -> Option<Verdict> {
+        let remembered = match self.memory {
+            Memory::First(most) => &chain[..most.min(chain.len())],
+            Memory::Last(most) => &chain[chain.len().saturating_sub(most)..],
+        };
+        let tested = self.tests_start || !chain.is_empty();
+        if at == 0 {
+            Some(Verdict::End)
+        } else if tested && at < self.floor {
+            Some(self.below)
+        } else if remembered.contains(&(at as u16)) {
+            Some(self.again)
+        } else {
+            (chain.len() == self.most).then_some(self.longer)
+        }
+    }
+
+    /// Walks a list of a whole space with room enough.
+    fn walk(&self, list: List, space: &[u8], room: &mut [u16]) -> Walked {
+        let mask = if self.drops_bits { 0xFFC } else { 0xFFF };
+        let (start, empty) = start(list, space);
+        let mut at = if empty && self.looks_for_empty { 0 } else { start & mask };
+        let mut chain = Vec::new();
+        loop {
+            match self.verdict(at, &chain) {
+                Some(Verdict::Broken) => return BROKEN,
+                Some(Verdict::End) => return listed(&chain, room),
+                None => chain.push(at as u16),
+            }
+            if self.writes_at_once {
+                room[chain.len() - 1] = at as u16;
+            }
+            at = next(list, space, at & 0xFFC) & mask;
+        }
+    }
+}
+
+/// Every list walked in another way where its sizes are right, and all else as by the model.
+pub fn all_walked_by(way: impl Fn(usize, &[u8], &mut [u16]) -> Walked + 'static) -> Wrong {
+    Wrong::walk(move |list, space, room| {
+        let place = list as usize;
+        if space.len() == 4096 && room.len() >= LISTS[place].3 {
+            way(place, space, room)
+        } else {
+            right_walk(list, space, room)
+        }
+    })
+}
+
+/// One list walked in another way, and the other two as by the model.
+pub fn one_walked_by(one: usize, way: impl Fn(List, &[u8], &mut [u16]) -> Walked + 'static) -> Wrong {
+    all_walked_by(move |place, space, room| {
+        let list = LISTS[place].0;
+        if place == one {
+            way(list, space, room)
+        } else {
+            right_walk(list, space, room)
+        }
+    })
+}
+
+/// Each of the lists is caught where it is walked by changed habits.
+pub fn expect_each_caught(places: &[usize], change: impl Fn(Habits) -> Habits) {
+    for &place in places {
+        let habits = change(right(place));
+        let subject = one_walked_by(place, move |list, space, room| habits.walk(list, space, room));
+        expect_caught(subject, LISTS[place].1);
+    }
+}
+
+/// None of the lists is caught where it is walked by changed habits.
+pub fn expect_none_caught(change: impl Fn(Habits) -> Habits + 'static) {
+    expect_not_caught(all_walked_by(move |place, space, room| {
+        change(right(place)).walk(LISTS[place].0, space, room)
+    }));
+}
+
+/// Fails where a subject is caught.
+pub fn expect_not_caught(mut subject: Wrong) {
+    if let Err(failure) = run_fixed(&mut subject) {
+        panic!("{failure}");
+    }
+}
