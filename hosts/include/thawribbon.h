@@ -3,6 +3,10 @@
  *
  * Document 01 of the project fixes what every function answers; its words are used here. Numbers ending in h are hexadecimal.
  *
+ * There are two parts. The first declares the functions of libthawribbon.a, which are compiled from proved code. The second, from
+ * "Helpers" on, is inline C over them, tried and not proved: a board in one struct, what became of a packet, and texts. A program that
+ * answers packets begins with thawribbon_board_serve, in the second part.
+ *
  * Any bytes, of any length, get an answer: every function tests what it is given, and returns. A number in an answer says how it went;
  * the numbers are named below. Each but 0 is a refusal, and after a refusal no byte of any buffer has changed.
  *
@@ -14,9 +18,9 @@
  * - While a call runs, no other thread writes to its buffers, or reads those that it writes.
  *
  * Nothing is kept: no function stores a pointer, allocates, or has a state of its own. What a board has captured goes in and comes back
- * by value. So any thread may call any function at any time on buffers of its own.
+ * by value, or is kept in the board that the caller owns. So any thread may call any function at any time on buffers of its own.
  *
- * Link with libthawribbon.a. It calls memcpy and memset of the C library, and nothing else.
+ * Link with the libthawribbon.a of the same version. It calls memcpy and memset of the C library, and nothing else.
  */
 #ifndef THAWRIBBON_H
 #define THAWRIBBON_H
@@ -26,6 +30,19 @@
 
 #ifdef __cplusplus
 extern "C" {
+#endif
+
+/* The version of this header, and of the archive that came with it. */
+#define THAWRIBBON_VERSION "0.2.0"
+#define THAWRIBBON_VERSION_MAJOR 0
+#define THAWRIBBON_VERSION_MINOR 2
+#define THAWRIBBON_VERSION_PATCH 0
+
+/* An answer that is dropped is an answer that nobody looked at: compilers that can, warn. */
+#if defined(__GNUC__)
+#define THAWRIBBON_MUST_USE __attribute__((warn_unused_result))
+#else
+#define THAWRIBBON_MUST_USE
 #endif
 
 /* The answer numbers of document 01, and when each is given. */
@@ -58,6 +75,8 @@ enum thawribbon_number {
 #define THAWRIBBON_SPACE 4096
 /* The bytes that a reply must have; 12 or 16 of them are written. */
 #define THAWRIBBON_REPLY 16
+/* Where a completion has its data, if it has 16 bytes. */
+#define THAWRIBBON_DATA 12
 /* Byte 6 of a completion, its status byte: the access was done, or it is an Unsupported Request and was not. */
 #define THAWRIBBON_STATUS 6
 #define THAWRIBBON_SUCCESS 0x00
@@ -81,7 +100,8 @@ typedef struct thawribbon_capture {
     uint8_t device; /* 0 to 31 */
 } thawribbon_capture;
 
-/* The capture of a fresh board: thawribbon_capture capture = THAWRIBBON_FRESH; */
+/* The capture of a fresh board, where one is declared: thawribbon_capture capture = THAWRIBBON_FRESH;
+ * thawribbon_fresh() of the helpers is the same as a value, which can be assigned. */
 #define THAWRIBBON_FRESH {0, 0, 0}
 
 /* The answer to a packet. */
@@ -136,20 +156,20 @@ typedef struct thawribbon_alternate {
  *   6  TC, Attr or the last enables aren't 0, or Length isn't 1.
  * Any number but 0 leaves spaces and reply unchanged, and gives length 0 and `kept` back, byte for byte.
  */
-thawribbon_served thawribbon_serve(thawribbon_description description, thawribbon_capture kept,
-                                   uint8_t *ordinary, size_t ordinary_length,
-                                   const uint8_t *ordinary_rules, size_t ordinary_rules_length,
-                                   uint8_t *trusted, size_t trusted_length,
-                                   const uint8_t *trusted_rules, size_t trusted_rules_length,
-                                   const uint8_t *packet, size_t packet_length,
-                                   uint8_t *reply, size_t reply_length);
+THAWRIBBON_MUST_USE thawribbon_served thawribbon_serve(thawribbon_description description, thawribbon_capture kept,
+                                                       uint8_t *ordinary, size_t ordinary_length,
+                                                       const uint8_t *ordinary_rules, size_t ordinary_rules_length,
+                                                       uint8_t *trusted, size_t trusted_length,
+                                                       const uint8_t *trusted_rules, size_t trusted_rules_length,
+                                                       const uint8_t *packet, size_t packet_length,
+                                                       uint8_t *reply, size_t reply_length);
 
 /*
  * Resets a board: forgets what it has captured.
  *
  * Takes any capture, also one with a device over 31, and gives {0, 0, 0}. No byte of a space changes: none is lent.
  */
-thawribbon_capture thawribbon_reset(thawribbon_capture kept);
+THAWRIBBON_MUST_USE thawribbon_capture thawribbon_reset(thawribbon_capture kept);
 
 /*
  * Walks the compatible list of a space: it starts at byte 34h, and is empty if byte 06h bit 4 is 0.
@@ -162,7 +182,8 @@ thawribbon_capture thawribbon_reset(thawribbon_capture kept);
  *   7  no finite legal chain leads from the start to an end.
  * Any number but 0 leaves the room unchanged and gives count 0. The space is only read.
  */
-thawribbon_walked thawribbon_walk_compatible(const uint8_t *space, size_t space_length, uint16_t *room, size_t room_length);
+THAWRIBBON_MUST_USE thawribbon_walked thawribbon_walk_compatible(const uint8_t *space, size_t space_length,
+                                                                 uint16_t *room, size_t room_length);
 
 /*
  * Walks the extended list of a space: it starts at 100h, and is empty if the ID there is 0000h.
@@ -170,7 +191,8 @@ thawribbon_walked thawribbon_walk_compatible(const uint8_t *space, size_t space_
  * Takes, gives and leaves unchanged what thawribbon_walk_compatible does, with the numbers 0, 1, 2 and 7 of the same meanings; the room
  * must have THAWRIBBON_EXTENDED_MAXIMUM numbers.
  */
-thawribbon_walked thawribbon_walk_extended(const uint8_t *space, size_t space_length, uint16_t *room, size_t room_length);
+THAWRIBBON_MUST_USE thawribbon_walked thawribbon_walk_extended(const uint8_t *space, size_t space_length,
+                                                               uint16_t *room, size_t room_length);
 
 /*
  * Walks the trusted list of a space: it starts where bits 11:0 of the word at 004h say.
@@ -178,7 +200,8 @@ thawribbon_walked thawribbon_walk_extended(const uint8_t *space, size_t space_le
  * Takes, gives and leaves unchanged what thawribbon_walk_compatible does, with the numbers 0, 1, 2 and 7 of the same meanings; the room
  * must have THAWRIBBON_TRUSTED_MAXIMUM numbers.
  */
-thawribbon_walked thawribbon_walk_trusted(const uint8_t *space, size_t space_length, uint16_t *room, size_t room_length);
+THAWRIBBON_MUST_USE thawribbon_walked thawribbon_walk_trusted(const uint8_t *space, size_t space_length,
+                                                              uint16_t *room, size_t room_length);
 
 /*
  * Reads the header of the DVSEC record at an offset of a space: vendor, revision, ID and length.
@@ -190,7 +213,7 @@ thawribbon_walked thawribbon_walk_trusted(const uint8_t *space, size_t space_len
  *   0  otherwise: the fields are the record's.
  * Any number but 0 gives 0 for every field. The space is only read.
  */
-thawribbon_dvsec_header thawribbon_dvsec(const uint8_t *space, size_t space_length, size_t at);
+THAWRIBBON_MUST_USE thawribbon_dvsec_header thawribbon_dvsec(const uint8_t *space, size_t space_length, size_t at);
 
 /*
  * Tells where the register body of the DVSEC record at an offset lies: from space + start, which is at + 0Ah, `length` bytes, which is
@@ -199,7 +222,7 @@ thawribbon_dvsec_header thawribbon_dvsec(const uint8_t *space, size_t space_leng
  * Takes what thawribbon_dvsec takes, and is refused in the same cases, by {0, 0}; thawribbon_dvsec gives the number. A record that is
  * nothing but its header has length 0 and a start that is not 0. The space is only read.
  */
-thawribbon_part thawribbon_dvsec_body(const uint8_t *space, size_t space_length, size_t at);
+THAWRIBBON_MUST_USE thawribbon_part thawribbon_dvsec_body(const uint8_t *space, size_t space_length, size_t at);
 
 /*
  * Reads the Dual-BDF record at an offset of a space: the alternate function and the device.
@@ -213,7 +236,173 @@ thawribbon_part thawribbon_dvsec_body(const uint8_t *space, size_t space_length,
  *   0  otherwise: the function is that bit's place, and the device is bits 28:24.
  * Any number but 0 gives 0 for both. The space is only read.
  */
-thawribbon_alternate thawribbon_dual_bdf(const uint8_t *space, size_t space_length, size_t at);
+THAWRIBBON_MUST_USE thawribbon_alternate thawribbon_dual_bdf(const uint8_t *space, size_t space_length, size_t at);
+
+/* ---- Helpers: inline, over the functions above, and not proved. ---- */
+
+/* The 4,096 bytes of a space, or of its rules. A type of its own, so that a compiler sees a buffer of another size. */
+typedef struct thawribbon_bytes {
+    uint8_t at[THAWRIBBON_SPACE];
+} thawribbon_bytes;
+
+/* A space and its rules, lent to a board. One that is NULL counts as a buffer without bytes: answer 1. */
+typedef struct thawribbon_space {
+    thawribbon_bytes *bytes;       /* what accesses read and write */
+    const thawribbon_bytes *rules; /* a bit that is 1 marks a bit that can be written; spaces may have the same rules */
+} thawribbon_space;
+
+/*
+ * A board, which keeps what it captures. Every member may be read and set between packets. In C, with each member's name:
+ *   static thawribbon_bytes ordinary, trusted, rules;
+ *   static thawribbon_board board = {
+ *       .description = {.function = 0, .a = 0x104, .b = 0x00C},
+ *       .capture = THAWRIBBON_FRESH,
+ *       .ordinary = {.bytes = &ordinary, .rules = &rules},
+ *       .trusted = {.bytes = &trusted, .rules = &rules},
+ *   };
+ */
+typedef struct thawribbon_board {
+    thawribbon_description description;
+    thawribbon_capture capture;
+    thawribbon_space ordinary;
+    thawribbon_space trusted;
+} thawribbon_board;
+
+/* What became of a packet. */
+typedef enum thawribbon_outcome {
+    /* the access was done. A write changed what the enables and the rules let it change, which may be nothing */
+    THAWRIBBON_DONE = 0,
+    /* Unsupported Request: the access was not done, and nothing but the completion has changed */
+    THAWRIBBON_UNSUPPORTED_REQUEST = 1,
+    /* there is no completion, nothing has changed, and the number says why */
+    THAWRIBBON_REFUSED = 2
+} thawribbon_outcome;
+
+/* A board's answer to a packet. */
+typedef struct thawribbon_answer {
+    thawribbon_outcome outcome;
+    uint8_t number;                       /* why it is refused: 1, or 3 to 6; 0 where it is not */
+    size_t length;                        /* the bytes of the completion: 12 or 16; 0 where refused */
+    uint8_t completion[THAWRIBBON_REPLY]; /* what goes back to the requester, also an Unsupported Request; 00h past its length */
+} thawribbon_answer;
+
+/* The capture of a fresh board. */
+THAWRIBBON_MUST_USE static inline thawribbon_capture thawribbon_fresh(void)
+{
+    const thawribbon_capture nothing = THAWRIBBON_FRESH;
+    return nothing;
+}
+
+/* What became of a packet, by what thawribbon_serve gave and the reply that it was lent. */
+THAWRIBBON_MUST_USE static inline thawribbon_outcome thawribbon_outcome_of(thawribbon_served served, const uint8_t *reply)
+{
+    if (served.number != THAWRIBBON_SERVED) {
+        return THAWRIBBON_REFUSED;
+    }
+    return reply[THAWRIBBON_STATUS] == THAWRIBBON_SUCCESS ? THAWRIBBON_DONE : THAWRIBBON_UNSUPPORTED_REQUEST;
+}
+
+/* A board's buffers on their way to thawribbon_serve: those that are written, those that are read, and how long they are. */
+static inline uint8_t *thawribbon_bytes_written(thawribbon_bytes *bytes)
+{
+    return bytes == NULL ? NULL : bytes->at;
+}
+
+static inline const uint8_t *thawribbon_bytes_read(const thawribbon_bytes *bytes)
+{
+    return bytes == NULL ? NULL : bytes->at;
+}
+
+static inline size_t thawribbon_bytes_length(const thawribbon_bytes *bytes)
+{
+    return bytes == NULL ? 0 : sizeof bytes->at;
+}
+
+/*
+ * Has a board answer a packet, and keeps what it captures: thawribbon_serve over a board.
+ *
+ * Gives what became of the packet, and sets every member of the answer. Only THAWRIBBON_DONE means that the access was done. The completion
+ * goes back to the requester in both cases that have one, THAWRIBBON_DONE and THAWRIBBON_UNSUPPORTED_REQUEST. The packet may be any
+ * bytes of any length; the board and the answer are not NULL.
+ */
+THAWRIBBON_MUST_USE static inline thawribbon_outcome thawribbon_board_serve(thawribbon_board *board,
+                                                                            const uint8_t *packet, size_t packet_length,
+                                                                            thawribbon_answer *answer)
+{
+    static const thawribbon_answer none = {THAWRIBBON_REFUSED, 0, 0, {0}};
+    const thawribbon_space ordinary = board->ordinary, trusted = board->trusted;
+    thawribbon_served served;
+    *answer = none;
+    served = thawribbon_serve(board->description, board->capture,
+                              thawribbon_bytes_written(ordinary.bytes), thawribbon_bytes_length(ordinary.bytes),
+                              thawribbon_bytes_read(ordinary.rules), thawribbon_bytes_length(ordinary.rules),
+                              thawribbon_bytes_written(trusted.bytes), thawribbon_bytes_length(trusted.bytes),
+                              thawribbon_bytes_read(trusted.rules), thawribbon_bytes_length(trusted.rules),
+                              packet, packet_length, answer->completion, sizeof answer->completion);
+    board->capture = served.capture;
+    answer->number = served.number;
+    answer->length = served.length;
+    answer->outcome = thawribbon_outcome_of(served, answer->completion);
+    return answer->outcome;
+}
+
+/* Resets a board: forgets what it has captured, and changes no byte. */
+static inline void thawribbon_board_reset(thawribbon_board *board)
+{
+    board->capture = thawribbon_reset(board->capture);
+}
+
+/* The four bytes that a read gave; NULL where the answer has none: a write, an Unsupported Request, a refusal. */
+THAWRIBBON_MUST_USE static inline const uint8_t *thawribbon_data(const thawribbon_answer *answer)
+{
+    return answer->length > THAWRIBBON_DATA ? answer->completion + THAWRIBBON_DATA : NULL;
+}
+
+/* What an answer number says, in words; they stay as long as the program runs. */
+THAWRIBBON_MUST_USE static inline const char *thawribbon_text(unsigned number)
+{
+    switch (number) {
+    case THAWRIBBON_SERVED:
+        return "served, though the completion may say Unsupported Request";
+    case THAWRIBBON_BAD_DESCRIPTION:
+        return "a space or rule space is not 4,096 bytes, a captured device is over 31, "
+               "or a function number or offset is outside its range";
+    case THAWRIBBON_NO_ROOM:
+        return "the reply is under 16 bytes, or the list room is under the list's maximum";
+    case THAWRIBBON_SHORT_PACKET:
+        return "the packet has fewer than 12 bytes";
+    case THAWRIBBON_UNKNOWN_TYPE:
+        return "the packet's type code is not one of the six that are served";
+    case THAWRIBBON_WRONG_LENGTH:
+        return "the packet's length does not fit its type and digest bit";
+    case THAWRIBBON_WRONG_FIELD:
+        return "a fixed field of the packet's header has another value";
+    case THAWRIBBON_BROKEN_CHAIN:
+        return "the chain is broken: no finite legal chain leads from the list's start to an end";
+    case THAWRIBBON_OTHER_STRUCTURE:
+        return "this is not the structure asked for";
+    case THAWRIBBON_WRONG_EXTENT:
+        return "the structure has a wrong length, or runs out of its space";
+    case THAWRIBBON_NOT_ONE_FUNCTION:
+        return "the function vector does not have exactly one bit";
+    default:
+        return "a number that document 01 does not have";
+    }
+}
+
+/* What became of a packet, in words. */
+THAWRIBBON_MUST_USE static inline const char *thawribbon_answer_text(const thawribbon_answer *answer)
+{
+    switch (answer->outcome) {
+    case THAWRIBBON_DONE:
+        return "the access was done";
+    case THAWRIBBON_UNSUPPORTED_REQUEST:
+        return "Unsupported Request: the access was not done";
+    case THAWRIBBON_REFUSED:
+        return thawribbon_text(answer->number);
+    }
+    return "no answer of a board";
+}
 
 #ifdef __cplusplus
 }

@@ -1,7 +1,11 @@
 //! A board: its description, what it has captured, its two spaces and their rules, and its answers to packets.
 
+use crate::completion::{Completion, Status};
+use crate::constants::REPLY;
+use crate::not_done::NotDone;
 use crate::raw;
-use crate::refusal::{Refusal, served};
+use crate::refusal::served;
+use std::fmt;
 
 /// What stays while a board runs.
 ///
@@ -25,6 +29,27 @@ pub struct Capture {
     pub device: u8,
 }
 
+/// A space of a board, and its rules, both lent.
+///
+/// The sizes are tested by [`Board::serve`]. The rules are only read, so both spaces may have the same ones.
+pub struct Space<'a> {
+    /// The space, 4,096 bytes.
+    pub bytes: &'a mut [u8],
+    /// Its rules, 4,096 bytes: a bit that is 1 marks a bit that can be written.
+    pub rules: &'a [u8],
+}
+
+/// How long they are, and not what they hold: a board has 16 KiB.
+impl fmt::Debug for Space<'_> {
+    fn fmt(&self, formatter: &mut fmt::Formatter<'_>) -> fmt::Result {
+        formatter
+            .debug_struct("Space")
+            .field("bytes", &format_args!("{} bytes", self.bytes.len()))
+            .field("rules", &format_args!("{} bytes", self.rules.len()))
+            .finish()
+    }
+}
+
 /// A board over lent buffers. It stays between packets, so that what one packet captures is there for the next.
 ///
 /// Every field may be read and set between packets.
@@ -34,119 +59,151 @@ pub struct Board<'a> {
     pub description: Description,
     /// What the board has captured.
     pub capture: Option<Capture>,
-    /// The ordinary space, 4,096 bytes.
-    pub ordinary: &'a mut [u8],
-    /// The ordinary space's rules, 4,096 bytes: a bit that is 1 marks a bit that can be written.
-    pub ordinary_rules: &'a [u8],
-    /// The trusted space, 4,096 bytes.
-    pub trusted: &'a mut [u8],
-    /// The trusted space's rules, 4,096 bytes.
-    pub trusted_rules: &'a [u8],
+    /// The ordinary space.
+    pub ordinary: Space<'a>,
+    /// The trusted space.
+    pub trusted: Space<'a>,
 }
 
 impl<'a> Board<'a> {
-    /// A fresh board: it has captured none. The buffers are taken as they are, and their sizes are tested by
-    /// [`Board::serve`].
-    ///
-    /// The rules are only read, so both spaces may have the same ones.
+    /// A fresh board: it has captured none. The spaces are taken as they are.
     ///
     /// ```
-    /// use thawribbon::{Board, Description};
+    /// use thawribbon::{Board, Description, SPACE, Space};
     ///
-    /// let (mut ordinary, mut trusted, rules) = ([0; 4096], [0; 4096], [0xFF; 4096]);
-    /// let description = Description { function: 0, a: 0x104, b: 0x00C };
-    /// let board = Board::fresh(description, &mut ordinary, &rules, &mut trusted, &rules);
+    /// let (mut ordinary, mut trusted, rules) = ([0; SPACE], [0; SPACE], [0xFF; SPACE]);
+    /// let board = Board::fresh(
+    ///     Description { function: 0, a: 0x104, b: 0x00C },
+    ///     Space { bytes: &mut ordinary, rules: &rules },
+    ///     Space { bytes: &mut trusted, rules: &rules },
+    /// );
     /// assert_eq!(board.capture, None);
     /// ```
-    pub fn fresh(
-        description: Description,
-        ordinary: &'a mut [u8],
-        ordinary_rules: &'a [u8],
-        trusted: &'a mut [u8],
-        trusted_rules: &'a [u8],
-    ) -> Self {
+    #[must_use]
+    pub fn fresh(description: Description, ordinary: Space<'a>, trusted: Space<'a>) -> Self {
         Board {
             description,
             capture: None,
             ordinary,
-            ordinary_rules,
             trusted,
-            trusted_rules,
         }
     }
 
-    /// Answers a packet: does the access, writes the completion into the reply, and gives the written bytes, 12 or 16.
+    /// Answers a packet: does the access, and gives the completion.
     ///
-    /// Byte 6 of the completion is 00h where the access was done, and 20h where it is an Unsupported Request: then
-    /// nothing but the reply has changed. Reply bytes past the written ones stay as lent.
+    /// `Ok` means that the access was done: a write has changed what its enables and the rules let it change. So `?`
+    /// stops at a write that was not made.
     ///
     /// ```
-    /// use thawribbon::{Board, Capture, Description, Refusal};
+    /// use thawribbon::{Board, Capture, Description, Id, NotDone, Refusal, SPACE, Space, Status};
     ///
-    /// let (mut ordinary, mut trusted, rules) = ([0x51; 4096], [0x72; 4096], [0xFF; 4096]);
-    /// let description = Description { function: 0, a: 0x104, b: 0x00C };
-    /// let mut board = Board::fresh(description, &mut ordinary, &rules, &mut trusted, &rules);
-    /// let mut reply = [0xEE; 18];
+    /// let (mut ordinary, mut trusted, rules) = ([0x51; SPACE], [0x72; SPACE], [0xFF; SPACE]);
+    /// let mut board = Board::fresh(
+    ///     Description { function: 0, a: 0x104, b: 0x00C },
+    ///     Space { bytes: &mut ordinary, rules: &rules },
+    ///     Space { bytes: &mut trusted, rules: &rules },
+    /// );
     ///
-    /// // A write of the two lowest bytes at FFCh, for bus 0, device 31, function 0.
+    /// // A write of the two lowest bytes at FFCh, for bus 0, device 31, function 0; asked by 01:00.0, with tag 7.
     /// let write = [0x44, 0x00, 0x00, 0x01, 0x01, 0x00, 0x07, 0x03, 0x00, 0xF8, 0x0F, 0xFC, 1, 2, 3, 4];
-    /// let completion = board.serve(&write, &mut reply)?;
-    /// assert_eq!(completion, [0x0A, 0x00, 0x00, 0x00, 0x00, 0xF8, 0x00, 0x04, 0x01, 0x00, 0x07, 0x00]);
-    /// assert_eq!(board.ordinary[0xFFC..], [1, 2, 0x51, 0x51]);
+    /// let completion = board.serve(&write)?;
+    /// assert_eq!(board.ordinary.bytes[0xFFC..], [1, 2, 0x51, 0x51]);
     /// assert_eq!(board.capture, Some(Capture { bus: 0, device: 31 }));
+    /// assert_eq!(completion.completer(), Id { bus: 0, device: 31, function: 0 });
+    /// assert_eq!((completion.requester().to_string(), completion.tag()), ("01:00.0".to_string(), 7));
     ///
-    /// // A refusal: the packet lost its last byte on the way. Nothing has changed.
-    /// assert_eq!(board.serve(&write[..15], &mut reply), Err(Refusal::WrongLength));
-    /// assert_eq!(board.capture, Some(Capture { bus: 0, device: 31 }));
-    /// assert_eq!(reply[12..], [0xEE; 6]);
-    /// # Ok::<(), Refusal>(())
+    /// // The same for function 1, which this board is not: the completion says so, and nothing has changed.
+    /// let mut other = write;
+    /// other[9] = 0xF9;
+    /// let Err(NotDone::Unsupported(completion)) = board.serve(&other) else { panic!("it was done") };
+    /// assert_eq!((completion.status(), completion.data()), (Status::Unsupported, None));
+    ///
+    /// // The packet lost its last byte on the way: it is refused, and nothing has changed.
+    /// assert_eq!(board.serve(&write[..15]), Err(NotDone::Refused(Refusal::WrongLength)));
+    /// # Ok::<(), NotDone>(())
     /// ```
+    ///
+    /// A program that stands on the bus sends a completion back in both cases that have one:
+    ///
+    /// ```
+    /// use thawribbon::{Board, NotDone};
+    ///
+    /// fn answer(board: &mut Board, packet: &[u8], send: impl Fn(&[u8])) {
+    ///     match board.serve(packet) {
+    ///         Ok(completion) | Err(NotDone::Unsupported(completion)) => send(completion.bytes()),
+    ///         Err(NotDone::Refused(refusal)) => eprintln!("dropped a packet: {refusal}"),
+    ///     }
+    /// }
+    /// ```
+    ///
+    /// The compiler warns of an answer that nobody looks at. The completion has bytes of its own; [`raw::serve`] writes
+    /// into a reply that is lent.
     ///
     /// # Errors
     ///
-    /// The lowest of these that applies; it leaves the board and the reply as they were.
+    /// [`NotDone::Unsupported`]: the answer is Unsupported Request, and nothing has changed. It is given for a Type 1
+    /// request, a Type 0 request for another function, a trusted request while nothing is captured or for another bus,
+    /// device or function than the captured two and the board's own, and a poisoned write.
+    ///
+    /// [`NotDone::Refused`], with the lowest of these that applies; nothing has changed.
     ///
     /// - [`Refusal::BadDescription`]: a space or rule space isn't 4,096 bytes, the captured device is over 31, the
     ///   function number is over 7, or A or B is outside its range.
-    /// - [`Refusal::NoRoom`]: the reply is under 16 bytes, also where 12 would be written.
     /// - [`Refusal::ShortPacket`]: the packet has fewer than 12 bytes.
     /// - [`Refusal::UnknownType`]: the type code isn't one of the six.
     /// - [`Refusal::WrongLength`]: the packet isn't 12 bytes, plus 4 for a write, plus 4 if the digest bit is set.
     /// - [`Refusal::WrongField`]: TC, Attr or the last enables aren't 0, or Length isn't 1.
-    pub fn serve<'r>(&mut self, packet: &[u8], reply: &'r mut [u8]) -> Result<&'r [u8], Refusal> {
+    ///
+    /// [`Refusal::BadDescription`]: crate::Refusal::BadDescription
+    /// [`Refusal::ShortPacket`]: crate::Refusal::ShortPacket
+    /// [`Refusal::UnknownType`]: crate::Refusal::UnknownType
+    /// [`Refusal::WrongLength`]: crate::Refusal::WrongLength
+    /// [`Refusal::WrongField`]: crate::Refusal::WrongField
+    #[inline]
+    pub fn serve(&mut self, packet: &[u8]) -> Result<Completion, NotDone> {
+        let mut reply = [0; REPLY];
         let answer = raw::serve(
             described(self.description),
             linked(self.capture),
-            self.ordinary,
-            self.ordinary_rules,
-            self.trusted,
-            self.trusted_rules,
+            self.ordinary.bytes,
+            self.ordinary.rules,
+            self.trusted.bytes,
+            self.trusted.rules,
             packet,
-            reply,
+            &mut reply,
         );
         served(answer.number)?;
         self.capture = kept(answer.capture);
-        Ok(&reply[..answer.length])
+        let completion = Completion::written(reply, answer.length);
+        match completion.status() {
+            Status::Successful => Ok(completion),
+            Status::Unsupported => Err(NotDone::Unsupported(completion)),
+        }
     }
 
     /// Resets the board: forgets the capture, and changes no byte.
     ///
     /// ```
-    /// use thawribbon::{Board, Capture, Description};
+    /// use thawribbon::{Board, Capture, Description, SPACE, Space};
     ///
-    /// let (mut ordinary, mut trusted, rules) = ([0; 4096], [0; 4096], [0xFF; 4096]);
-    /// let description = Description { function: 0, a: 0x104, b: 0x00C };
-    /// let mut board = Board::fresh(description, &mut ordinary, &rules, &mut trusted, &rules);
+    /// let (mut ordinary, mut trusted, rules) = ([0; SPACE], [0; SPACE], [0xFF; SPACE]);
+    /// let mut board = Board::fresh(
+    ///     Description { function: 0, a: 0x104, b: 0x00C },
+    ///     Space { bytes: &mut ordinary, rules: &rules },
+    ///     Space { bytes: &mut trusted, rules: &rules },
+    /// );
     /// board.capture = Some(Capture { bus: 0x05, device: 3 });
     /// board.reset();
     /// assert_eq!(board.capture, None);
     /// ```
+    #[inline]
     pub fn reset(&mut self) {
         self.capture = kept(raw::reset(linked(self.capture)));
     }
 }
 
 /// A description as the linked functions take it.
+#[inline]
 fn described(description: Description) -> raw::Description {
     raw::Description {
         function: description.function,
@@ -156,6 +213,7 @@ fn described(description: Description) -> raw::Description {
 }
 
 /// A capture as the linked functions take it.
+#[inline]
 fn linked(capture: Option<Capture>) -> raw::Capture {
     match capture {
         None => raw::Capture {
@@ -172,6 +230,7 @@ fn linked(capture: Option<Capture>) -> raw::Capture {
 }
 
 /// A capture as the linked functions give it.
+#[inline]
 fn kept(capture: raw::Capture) -> Option<Capture> {
     (capture.captured != 0).then_some(Capture {
         bus: capture.bus,

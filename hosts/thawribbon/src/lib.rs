@@ -2,11 +2,35 @@
 //! libthawribbon.a.
 //!
 //! Document 01 of the project fixes what every function answers, and its words are used here. Any bytes, of any length,
-//! get an answer: a value, or a [`Refusal`], after which no lent byte and no capture has changed. Nothing is kept
-//! between calls, nothing but [`chain`] allocates, and with the archive that `./library` writes nothing panics.
+//! get an answer. After a [`Refusal`] no lent byte and no capture has changed.
 //!
-//! [`Board`] answers packets, [`walk`] and [`chain`] list offsets, [`dvsec`], [`dvsec_body`] and [`dual_bdf`] read
-//! records. [`raw`] has the same functions with the numbers and structs of thawribbon.h.
+//! | You want to | Use |
+//! |---|---|
+//! | have a board answer a packet | [`Board::serve`], which gives a [`Completion`] or says why it is [`NotDone`] |
+//! | list the capabilities of a space | [`headers`]; [`chain`] and [`walk`] give bare offsets |
+//! | read a record | [`dvsec`], [`dvsec_body`], [`dual_bdf`] |
+//! | have the functions of thawribbon.h as they are | [`raw`] |
+//!
+//! # A write that must land
+//!
+//! `?` stops at whatever was not done: a packet that was refused, and one that was answered Unsupported Request.
+//!
+//! ```
+//! use thawribbon::{Board, Description, NotDone, SPACE, Space};
+//!
+//! fn main() -> Result<(), NotDone> {
+//!     let (mut ordinary, mut trusted, rules) = ([0; SPACE], [0; SPACE], [0xFF; SPACE]);
+//!     let mut board = Board::fresh(
+//!         Description { function: 0, a: 0x104, b: 0x00C },
+//!         Space { bytes: &mut ordinary, rules: &rules },
+//!         Space { bytes: &mut trusted, rules: &rules },
+//!     );
+//!     let write = [0x44, 0x00, 0x00, 0x01, 0x01, 0x00, 0x07, 0x0F, 0x05, 0x18, 0x00, 0x04, 0x11, 0x22, 0x33, 0x44];
+//!     board.serve(&write)?;
+//!     assert_eq!(board.ordinary.bytes[0x004..0x008], [0x11, 0x22, 0x33, 0x44]);
+//!     Ok(())
+//! }
+//! ```
 //!
 //! # A board's first three packets
 //!
@@ -14,49 +38,62 @@
 //! trusted register. An ordinary write tells it, and then it answers.
 //!
 //! ```
-//! use thawribbon::{Board, Capture, Description};
+//! use thawribbon::{Board, Capture, Description, NotDone, SPACE, Space};
 //!
-//! let mut ordinary = [0; 4096];
-//! let mut trusted = [0; 4096];
-//! let mut rules = [0; 4096];
+//! let (mut ordinary, mut trusted, mut rules) = ([0; SPACE], [0; SPACE], [0; SPACE]);
 //! rules[0x004..0x008].fill(0xFF);
 //! trusted[0x004] = 0x08;
+//! let mut board = Board::fresh(
+//!     Description { function: 0, a: 0x104, b: 0x00C },
+//!     Space { bytes: &mut ordinary, rules: &rules },
+//!     Space { bytes: &mut trusted, rules: &rules },
+//! );
 //!
-//! let description = Description { function: 0, a: 0x104, b: 0x00C };
-//! let mut board = Board::fresh(description, &mut ordinary, &rules, &mut trusted, &rules);
-//! let mut reply = [0; 16];
-//!
-//! // P1: a trusted read, and nothing is captured: Unsupported Request, which is status 20h.
+//! // P1: a trusted read, and nothing is captured.
 //! let trusted_read = [0x1B, 0x00, 0x00, 0x01, 0x01, 0x00, 0x08, 0x0F, 0x05, 0x18, 0x00, 0x04];
-//! let completion = board.serve(&trusted_read, &mut reply)?;
-//! assert_eq!(completion, [0x0A, 0x00, 0x00, 0x00, 0x00, 0x00, 0x20, 0x04, 0x01, 0x00, 0x08, 0x00]);
+//! let Err(NotDone::Unsupported(completion)) = board.serve(&trusted_read) else { panic!("it was done") };
+//! assert_eq!(completion.bytes(), [0x0A, 0x00, 0x00, 0x00, 0x00, 0x00, 0x20, 0x04, 0x01, 0x00, 0x08, 0x00]);
 //!
 //! // P2: an ordinary write. It lands, and the board captures bus 05h and device 3.
 //! let write = [0x44, 0x00, 0x00, 0x01, 0x01, 0x00, 0x07, 0x0F, 0x05, 0x18, 0x00, 0x04, 0x11, 0x22, 0x33, 0x44];
-//! let completion = board.serve(&write, &mut reply)?;
-//! assert_eq!(completion, [0x0A, 0x00, 0x00, 0x00, 0x05, 0x18, 0x00, 0x04, 0x01, 0x00, 0x07, 0x00]);
-//! assert_eq!(board.ordinary[0x004..0x008], [0x11, 0x22, 0x33, 0x44]);
+//! let completion = board.serve(&write)?;
+//! assert_eq!(completion.bytes(), [0x0A, 0x00, 0x00, 0x00, 0x05, 0x18, 0x00, 0x04, 0x01, 0x00, 0x07, 0x00]);
 //! assert_eq!(board.capture, Some(Capture { bus: 0x05, device: 3 }));
 //!
 //! // P3: P1's packet once more, and now the trusted bytes at 004h come back.
-//! let completion = board.serve(&trusted_read, &mut reply)?;
-//! assert_eq!(
-//!     completion,
-//!     [0x4A, 0x00, 0x00, 0x01, 0x05, 0x18, 0x00, 0x04, 0x01, 0x00, 0x08, 0x00, 0x08, 0x00, 0x00, 0x00]
-//! );
-//! # Ok::<(), thawribbon::Refusal>(())
+//! let completion = board.serve(&trusted_read)?;
+//! assert_eq!(completion.data(), Some([0x08, 0x00, 0x00, 0x00]));
+//! # Ok::<(), NotDone>(())
 //! ```
+//!
+//! # What is promised, and what is not
+//!
+//! The linked functions are compiled from proved code. This crate over them is not proved; it is tried, with every length
+//! of every slice. Nothing is kept between calls but what a [`Board`] holds, nothing but [`chain`] and [`headers`]
+//! allocates, and with the archive that `./library` writes nothing panics. Boards in different threads do not meet.
+//!
+//! The archive must be of this crate's version, [`VERSION`]. The build looks for it in `target/library` of the repository,
+//! or in the folder that the environment variable `THAWRIBBON_LIBRARY` names, and ends with a line that says what to do
+//! where it is not there or of another version.
 #![deny(missing_docs)]
 #![deny(unsafe_code)]
 
 mod board;
+mod completion;
+mod constants;
 mod lists;
+mod not_done;
 #[allow(unsafe_code)]
 pub mod raw;
 mod records;
 mod refusal;
 
-pub use board::{Board, Capture, Description};
-pub use lists::{List, chain, walk};
+pub use board::{Board, Capture, Description, Space};
+pub use completion::{Completion, Id, Status};
+pub use constants::{
+    COMPATIBLE_MAXIMUM, DATA, EXTENDED_MAXIMUM, REPLY, SPACE, STATUS, SUCCESS, TRUSTED_MAXIMUM, UNSUPPORTED, VERSION,
+};
+pub use lists::{Header, List, chain, headers, walk};
+pub use not_done::NotDone;
 pub use records::{Alternate, Dvsec, dual_bdf, dvsec, dvsec_body};
 pub use refusal::Refusal;

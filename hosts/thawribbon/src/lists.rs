@@ -1,7 +1,9 @@
-//! The three capability lists, as the offsets of their headers.
+//! The three capability lists, as the offsets of their headers, and as the headers.
 
+use crate::constants::{COMPATIBLE_MAXIMUM, EXTENDED_MAXIMUM, TRUSTED_MAXIMUM};
 use crate::raw;
 use crate::refusal::{Refusal, served};
+use std::fmt;
 
 /// One of the three capability lists of a space.
 #[derive(Clone, Copy, Debug, PartialEq, Eq, Hash)]
@@ -27,9 +29,58 @@ impl List {
     #[must_use]
     pub const fn maximum(self) -> usize {
         match self {
-            List::Compatible => 48,
-            List::Extended => 960,
-            List::Trusted => 1022,
+            List::Compatible => COMPATIBLE_MAXIMUM,
+            List::Extended => EXTENDED_MAXIMUM,
+            List::Trusted => TRUSTED_MAXIMUM,
+        }
+    }
+}
+
+/// A header of a list: where it is, and what it says it is.
+///
+/// It is written as the listing program writes it, in upper-case hexadecimal digits.
+///
+/// ```
+/// use thawribbon::Header;
+///
+/// assert_eq!(Header { offset: 0x040, id: 0x09, version: None }.to_string(), "040 09");
+/// assert_eq!(Header { offset: 0x100, id: 0x23, version: Some(1) }.to_string(), "100 0023 1");
+/// ```
+#[derive(Clone, Copy, Debug, PartialEq, Eq, Hash)]
+pub struct Header {
+    /// The offset in the space, as [`dvsec`](crate::dvsec) and [`dual_bdf`](crate::dual_bdf) take it.
+    pub offset: usize,
+    /// The ID: a byte in the compatible list, bits 15:0 in the others.
+    pub id: u16,
+    /// The version, bits 19:16; a header of the compatible list has none.
+    pub version: Option<u8>,
+}
+
+impl Header {
+    /// The header at an offset that a walk of the space gave.
+    fn read(list: List, space: &[u8], offset: u16) -> Self {
+        let offset = usize::from(offset);
+        let header = &space[offset..];
+        match list {
+            List::Compatible => Header {
+                offset,
+                id: header[0].into(),
+                version: None,
+            },
+            List::Extended | List::Trusted => Header {
+                offset,
+                id: u16::from_le_bytes([header[0], header[1]]),
+                version: Some(header[2] & 0x0F),
+            },
+        }
+    }
+}
+
+impl fmt::Display for Header {
+    fn fmt(&self, formatter: &mut fmt::Formatter<'_>) -> fmt::Result {
+        match self.version {
+            None => write!(formatter, "{:03X} {:02X}", self.offset, self.id),
+            Some(version) => write!(formatter, "{:03X} {:04X} {version:X}", self.offset, self.id),
         }
     }
 }
@@ -37,7 +88,7 @@ impl List {
 /// Walks a list of a space of 4,096 bytes: puts the offsets of its legal chain, in order, at the beginning of the room,
 /// and gives them.
 ///
-/// The rest of the room stays as lent.
+/// The rest of the room stays as lent. [`chain`] needs no room, and [`headers`] tells IDs and versions too.
 ///
 /// ```
 /// use thawribbon::{List, Refusal, walk};
@@ -64,6 +115,7 @@ impl List {
 /// - [`Refusal::BadDescription`]: the space isn't 4,096 bytes.
 /// - [`Refusal::NoRoom`]: the room has fewer numbers than [`List::maximum`], also where the chain is shorter.
 /// - [`Refusal::BrokenChain`]: no finite legal chain leads from the start to an end.
+#[inline]
 pub fn walk<'r>(list: List, space: &[u8], room: &'r mut [u16]) -> Result<&'r [u16], Refusal> {
     let answer = match list {
         List::Compatible => raw::walk_compatible(space, room),
@@ -74,7 +126,7 @@ pub fn walk<'r>(list: List, space: &[u8], room: &'r mut [u16]) -> Result<&'r [u1
     Ok(&room[..answer.count])
 }
 
-/// The offsets of a list's legal chain, in order: [`walk`] with room of its own.
+/// The offsets of a list's legal chain, in order.
 ///
 /// ```
 /// use thawribbon::{List, Refusal, chain};
@@ -96,8 +148,31 @@ pub fn walk<'r>(list: List, space: &[u8], room: &'r mut [u16]) -> Result<&'r [u1
 ///
 /// [`Refusal::BadDescription`] and [`Refusal::BrokenChain`], as [`walk`] gives them.
 pub fn chain(list: List, space: &[u8]) -> Result<Vec<u16>, Refusal> {
-    let mut room = vec![0; list.maximum()];
-    let count = walk(list, space, &mut room)?.len();
-    room.truncate(count);
-    Ok(room)
+    let mut room = [0; TRUSTED_MAXIMUM];
+    walk(list, space, &mut room).map(<[u16]>::to_vec)
+}
+
+/// The headers of a list's legal chain, in order: offset, ID and version.
+///
+/// ```
+/// use thawribbon::{Header, List, Refusal, headers};
+///
+/// // P11's record at 100h, which points to a structure at 140h with version 2.
+/// let mut space = [0; 4096];
+/// space[0x100..0x10A].copy_from_slice(&[0x23, 0x00, 0x01, 0x14, 0xC0, 0x1E, 0x00, 0x01, 0x02, 0x00]);
+/// space[0x140..0x144].copy_from_slice(&[0x0C, 0x00, 0x02, 0x00]);
+///
+/// let dvsec = Header { offset: 0x100, id: 0x0023, version: Some(1) };
+/// let other = Header { offset: 0x140, id: 0x000C, version: Some(2) };
+/// assert_eq!(headers(List::Extended, &space)?, [dvsec, other]);
+/// # Ok::<(), Refusal>(())
+/// ```
+///
+/// # Errors
+///
+/// [`Refusal::BadDescription`] and [`Refusal::BrokenChain`], as [`walk`] gives them.
+pub fn headers(list: List, space: &[u8]) -> Result<Vec<Header>, Refusal> {
+    let mut room = [0; TRUSTED_MAXIMUM];
+    let offsets = walk(list, space, &mut room)?;
+    Ok(offsets.iter().map(|&at| Header::read(list, space, at)).collect())
 }

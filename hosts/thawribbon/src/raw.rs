@@ -1,9 +1,12 @@
 //! The library's functions as they are, one for each, with numbers in the place of enums: what thawribbon.h says of
 //! each holds here.
 //!
+//! Of these, only [`serve`] writes into a reply that is lent, and its number 0 does not say that the access was done:
+//! byte 6 of the reply does, which is [`SUCCESS`](crate::SUCCESS) or [`UNSUPPORTED`](crate::UNSUPPORTED).
+//!
 //! Every function is safe to call: a slice has the pointer and the length that C passes by hand, and the functions take
 //! any length. This is the one module with `unsafe` in it. The structs are laid out as C lays them out, and are held to
-//! thawribbon.h by the sizes and offsets at the end of this file and by those of hosts/c/first_day.c.
+//! thawribbon.h by the sizes and offsets at the end of this file and by those of hosts/c/layout.c.
 
 /// A board's function number, and the places of the Device Correlation word in the ordinary space (`a`) and in the
 /// trusted space (`b`).
@@ -151,6 +154,7 @@ mod linked {
 /// assert_eq!(served, Served { length: 12, number: 0, capture: Capture { captured: 1, bus: 0x05, device: 3 } });
 /// ```
 #[allow(clippy::too_many_arguments)]
+#[must_use = "it says whether the packet was served, and what the board has captured then"]
 #[inline]
 pub fn serve(
     description: Description,
@@ -190,6 +194,7 @@ pub fn serve(
 ///
 /// assert_eq!(reset(Capture { captured: 1, bus: 0x05, device: 3 }), Capture { captured: 0, bus: 0, device: 0 });
 /// ```
+#[must_use = "the capture that is given is not changed: this is the one to keep"]
 #[inline]
 pub fn reset(kept: Capture) -> Capture {
     linked::thawribbon_reset(kept)
@@ -205,6 +210,7 @@ pub fn reset(kept: Capture) -> Capture {
 /// assert_eq!(walk_compatible(&space, &mut room), Walked { count: 1, number: 0 });
 /// assert_eq!(room[0], 0x40);
 /// ```
+#[must_use]
 #[inline]
 pub fn walk_compatible(space: &[u8], room: &mut [u16]) -> Walked {
     // SAFETY: each pointer goes with its slice's length, and the room is lent once.
@@ -220,6 +226,7 @@ pub fn walk_compatible(space: &[u8], room: &mut [u16]) -> Walked {
 /// space[0x100..0x104].copy_from_slice(&[0x23, 0x00, 0x01, 0x10]); // P12: it points to itself
 /// assert_eq!(walk_extended(&space, &mut room), Walked { count: 0, number: 7 });
 /// ```
+#[must_use]
 #[inline]
 pub fn walk_extended(space: &[u8], room: &mut [u16]) -> Walked {
     // SAFETY: each pointer goes with its slice's length, and the room is lent once.
@@ -236,6 +243,7 @@ pub fn walk_extended(space: &[u8], room: &mut [u16]) -> Walked {
 /// assert_eq!(walk_trusted(&space, &mut room), Walked { count: 1, number: 0 });
 /// assert_eq!(room[0], 0x008);
 /// ```
+#[must_use]
 #[inline]
 pub fn walk_trusted(space: &[u8], room: &mut [u16]) -> Walked {
     // SAFETY: each pointer goes with its slice's length, and the room is lent once.
@@ -249,6 +257,7 @@ pub fn walk_trusted(space: &[u8], room: &mut [u16]) -> Walked {
 ///
 /// assert_eq!(dvsec(&[0; 4096], 0x100), Dvsec { number: 8, revision: 0, vendor: 0, id: 0, length: 0 });
 /// ```
+#[must_use]
 #[inline]
 pub fn dvsec(space: &[u8], at: usize) -> Dvsec {
     // SAFETY: the pointer goes with its slice's length, and nothing is written.
@@ -265,6 +274,7 @@ pub fn dvsec(space: &[u8], at: usize) -> Dvsec {
 /// assert_eq!(dvsec_body(&space, 0x100), Part { start: 0x10A, length: 6 });
 /// assert_eq!(dvsec_body(&space, 0x104), Part { start: 0, length: 0 });
 /// ```
+#[must_use]
 #[inline]
 pub fn dvsec_body(space: &[u8], at: usize) -> Part {
     // SAFETY: the pointer goes with its slice's length, and nothing is written.
@@ -280,13 +290,14 @@ pub fn dvsec_body(space: &[u8], at: usize) -> Part {
 /// space[0x040..0x04C].copy_from_slice(&[0x09, 0x00, 0x0C, 0x00, 0xC0, 0x1E, 0xC0, 0x00, 0x02, 0x00, 0x02, 0x03]);
 /// assert_eq!(dual_bdf(&space, 0x040), Alternate { number: 0, function: 1, device: 3 });
 /// ```
+#[must_use]
 #[inline]
 pub fn dual_bdf(space: &[u8], at: usize) -> Alternate {
     // SAFETY: the pointer goes with its slice's length, and nothing is written.
     unsafe { linked::thawribbon_dual_bdf(space.as_ptr(), space.len(), at) }
 }
 
-// What crosses to the linked functions: the same sizes and offsets as in hosts/c/first_day.c. A wrong one ends the
+// What crosses to the linked functions: the same sizes and offsets as in hosts/c/layout.c. A wrong one ends the
 // build here.
 const _: () = {
     use std::mem::{offset_of, size_of};

@@ -46,6 +46,7 @@ pub struct Alternate {
 /// - [`Refusal::BadDescription`]: the space isn't 4,096 bytes, or the offset isn't a multiple of 4 from 100h to FFCh.
 /// - [`Refusal::OtherStructure`]: the ID isn't 0023h, or the version isn't 1h.
 /// - [`Refusal::WrongExtent`]: fewer than 0Ah bytes are left, or DVSEC Length is under 0Ah or ends past 1000h.
+#[inline]
 pub fn dvsec(space: &[u8], at: usize) -> Result<Dvsec, Refusal> {
     let answer = raw::dvsec(space, at);
     served(answer.number)?;
@@ -73,6 +74,7 @@ pub fn dvsec(space: &[u8], at: usize) -> Result<Dvsec, Refusal> {
 /// assert_eq!(dvsec_body(&space, 0x104), []);
 /// ```
 #[must_use]
+#[inline]
 pub fn dvsec_body(space: &[u8], at: usize) -> &[u8] {
     let part = raw::dvsec_body(space, at);
     &space[part.start..][..part.length]
@@ -103,6 +105,7 @@ pub fn dvsec_body(space: &[u8], at: usize) -> &[u8] {
 /// - [`Refusal::OtherStructure`]: the revision isn't 0, or it is neither vendor 8086h with ID 0009h nor vendor 1EC0h
 ///   with ID 0002h.
 /// - [`Refusal::NotOneFunction`]: the function vector hasn't exactly one bit set.
+#[inline]
 pub fn dual_bdf(space: &[u8], at: usize) -> Result<Alternate, Refusal> {
     let answer = raw::dual_bdf(space, at);
     served(answer.number)?;

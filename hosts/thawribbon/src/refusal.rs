@@ -6,7 +6,9 @@ use std::fmt;
 /// Why nothing was done. Each variant is an answer number of document 01, and says when it is given.
 ///
 /// After a refusal no lent byte and no capture has changed.
+/// A later version can have more of them: document 02 of the project announces some.
 #[derive(Clone, Copy, Debug, PartialEq, Eq, Hash)]
+#[non_exhaustive]
 #[repr(u8)]
 pub enum Refusal {
     /// A space or rule space isn't 4,096 bytes, a captured device is over 31, or a function number or offset is outside
@@ -58,11 +60,18 @@ impl Refusal {
     pub const fn number(self) -> u8 {
         self as u8
     }
-}
 
-impl fmt::Display for Refusal {
-    fn fmt(&self, formatter: &mut fmt::Formatter<'_>) -> fmt::Result {
-        let why = match self {
+    /// What the number says, in the words that `thawribbon_text` of the C header has.
+    ///
+    /// ```
+    /// use thawribbon::Refusal;
+    ///
+    /// assert_eq!(Refusal::ShortPacket.text(), "the packet has fewer than 12 bytes");
+    /// assert_eq!(Refusal::ShortPacket.to_string(), "refused with 3: the packet has fewer than 12 bytes");
+    /// ```
+    #[must_use]
+    pub const fn text(self) -> &'static str {
+        match self {
             Refusal::BadDescription => {
                 "a space or rule space is not 4,096 bytes, a captured device is over 31, \
                  or a function number or offset is outside its range"
@@ -76,8 +85,13 @@ impl fmt::Display for Refusal {
             Refusal::OtherStructure => "this is not the structure asked for",
             Refusal::WrongExtent => "the structure has a wrong length, or runs out of its space",
             Refusal::NotOneFunction => "the function vector does not have exactly one bit",
-        };
-        write!(formatter, "refused with {}: {why}", self.number())
+        }
+    }
+}
+
+impl fmt::Display for Refusal {
+    fn fmt(&self, formatter: &mut fmt::Formatter<'_>) -> fmt::Result {
+        write!(formatter, "refused with {}: {}", self.number(), self.text())
     }
 }
 
@@ -88,6 +102,7 @@ impl Error for Refusal {}
 /// # Panics
 ///
 /// Where the number is over 10. The library of this crate gives none; only another archive under the same name could.
+#[inline]
 pub(crate) fn served(number: u8) -> Result<(), Refusal> {
     match usize::from(number) {
         0 => Ok(()),

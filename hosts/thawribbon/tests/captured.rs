@@ -4,7 +4,7 @@
 mod common;
 
 use common::{Bench, TRUSTED_READ, WRITE, WRITTEN};
-use thawribbon::{Board, Capture, Description, raw};
+use thawribbon::{Board, Capture, Description, NotDone, SPACE, Space, raw};
 
 const FIVE_THREE: Option<Capture> = Some(Capture { bus: 0x05, device: 3 });
 
@@ -89,20 +89,22 @@ fn reset_forgets_any_capture() {
 
 #[test]
 fn reset_changes_no_byte_and_the_next_trusted_read_is_unsupported() {
-    let (mut ordinary, mut trusted, rules, mut reply) = (vec![0x51; 4096], vec![0x72; 4096], vec![0xFF; 4096], [0; 16]);
+    let (mut ordinary, mut trusted, rules) = (vec![0x51; SPACE], vec![0x72; SPACE], vec![0xFF; SPACE]);
     let description = Description {
         function: 0,
         a: 0x104,
         b: 0x00C,
     };
-    let mut board = Board::fresh(description, &mut ordinary, &rules, &mut trusted, &rules);
-    board.serve(&WRITE, &mut reply).expect("P2");
+    let rules = &rules;
+    let [first, second] = [&mut ordinary, &mut trusted].map(|bytes| Space { bytes, rules });
+    let mut board = Board::fresh(description, first, second);
+    board.serve(&WRITE).expect("P2");
     assert_eq!(board.capture, FIVE_THREE);
     board.reset();
     assert_eq!(board.capture, None);
-    assert_eq!(board.serve(&TRUSTED_READ, &mut reply).expect("P1")[6], 0x20);
-    let mut expected = vec![0x51; 4096];
+    assert!(matches!(board.serve(&TRUSTED_READ), Err(NotDone::Unsupported(_))), "P1");
+    let mut expected = vec![0x51; SPACE];
     expected[0x004..0x008].copy_from_slice(&[0x11, 0x22, 0x33, 0x44]);
     assert_eq!(ordinary, expected);
-    assert_eq!(trusted, vec![0x72; 4096]);
+    assert_eq!(trusted, vec![0x72; SPACE]);
 }

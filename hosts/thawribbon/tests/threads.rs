@@ -3,36 +3,37 @@
 #![forbid(unsafe_code)]
 
 use std::thread;
-use thawribbon::{Board, Capture, Description, List, chain};
+use thawribbon::{Board, Capture, Description, List, SPACE, Space, chain};
 
 /// Sends a board 1,024 writes, one for each word, with the thread's own bus number and byte, and reads its extended
 /// list in between.
 fn busy(own: u8, rules: &[u8]) {
-    let (mut ordinary, mut trusted, mut reply) = (vec![0; 4096], vec![0; 4096], [0; 16]);
+    let (mut ordinary, mut trusted) = (vec![0; SPACE], vec![0; SPACE]);
     let description = Description {
         function: 0,
         a: 0xFFC,
         b: 0x00C,
     };
-    let mut board = Board::fresh(description, &mut ordinary, rules, &mut trusted, rules);
+    let [first, second] = [&mut ordinary, &mut trusted].map(|bytes| Space { bytes, rules });
+    let mut board = Board::fresh(description, first, second);
     for word in 0..1024_u16 {
         let [high, low] = (word * 4).to_be_bytes();
         let packet = [0x44, 0, 0, 1, own, 0, low, 0x0F, own, 0x18, high, low, own, 0, 0, 0];
         let completion = [0x0A, 0, 0, 0, own, 0x18, 0, 0x04, own, 0, low, 0];
-        assert_eq!(board.serve(&packet, &mut reply), Ok(&completion[..]));
+        assert_eq!(board.serve(&packet).expect("a write").bytes(), completion);
         assert_eq!(board.capture, Some(Capture { bus: own, device: 3 }));
         let listed: &[u16] = if word < 0x100 / 4 { &[] } else { &[0x100] };
-        assert_eq!(chain(List::Extended, board.ordinary).as_deref(), Ok(listed));
+        assert_eq!(chain(List::Extended, board.ordinary.bytes).as_deref(), Ok(listed));
     }
     let mut expected = [own, 0, 0, 0].repeat(1023);
     expected.extend([0; 4]); // at A nothing lands
     assert_eq!(ordinary, expected);
-    assert_eq!(trusted, vec![0; 4096]);
+    assert_eq!(trusted, vec![0; SPACE]);
 }
 
 #[test]
 fn boards_in_eight_threads() {
-    let rules = vec![0xFF; 4096];
+    let rules = vec![0xFF; SPACE];
     thread::scope(|scope| {
         for own in 1..=8 {
             let rules = &rules;

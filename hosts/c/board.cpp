@@ -1,0 +1,57 @@
+// thawribbon.h from C++17: the helpers over a board, P1 to P3 and P5. Prints one line, and ends with 0 only if all is as it should be.
+#include "thawribbon.h"
+
+#include <stdio.h>
+#include <string.h>
+
+namespace {
+
+thawribbon_bytes ordinary, trusted, rules;
+
+// What the board answers, by its outcome and its first data byte, or 256 where there is none.
+struct Expected {
+    const uint8_t *packet;
+    size_t length;
+    thawribbon_outcome outcome;
+    int data;
+};
+
+bool answers(thawribbon_board &board, const Expected &expected)
+{
+    thawribbon_answer answer;
+    if (thawribbon_board_serve(&board, expected.packet, expected.length, &answer) != expected.outcome) {
+        printf("FAILED: %s\n", thawribbon_answer_text(&answer));
+        return false;
+    }
+    const uint8_t *data = thawribbon_data(&answer);
+    return (data == nullptr ? 256 : data[0]) == expected.data;
+}
+
+} // namespace
+
+int main()
+{
+    const uint8_t trusted_read[12] = {0x1B, 0, 0, 1, 1, 0, 8, 0x0F, 0x05, 0x18, 0, 4};
+    const uint8_t write[16] = {0x44, 0, 0, 1, 1, 0, 7, 0x0F, 0x05, 0x18, 0, 4, 0x11, 0x22, 0x33, 0x44};
+    const Expected day[4] = {
+        {trusted_read, 12, THAWRIBBON_UNSUPPORTED_REQUEST, 256},
+        {write, 16, THAWRIBBON_DONE, 256},
+        {trusted_read, 12, THAWRIBBON_DONE, 0x08},
+        {write, 15, THAWRIBBON_REFUSED, 256},
+    };
+    thawribbon_board board = {{0, 0x104, 0x00C}, THAWRIBBON_FRESH, {&ordinary, &rules}, {&trusted, &rules}};
+    memset(rules.at + 0x004, 0xFF, 4);
+    trusted.at[0x004] = 0x08;
+    for (const Expected &expected : day) {
+        if (!answers(board, expected)) {
+            return 1;
+        }
+    }
+    thawribbon_board_reset(&board);
+    board.capture = thawribbon_fresh();
+    if (board.capture.captured != 0 || ordinary.at[0x004] != 0x11) {
+        return 1;
+    }
+    printf("ok with thawribbon %s\n", THAWRIBBON_VERSION);
+    return 0;
+}

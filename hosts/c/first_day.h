@@ -1,0 +1,11 @@
+/* The parts of a host's first day, a file each; each runs its groups. */
+#ifndef FIRST_DAY_H
+#define FIRST_DAY_H
+
+void packets(void);
+void captures(void);
+void walks(void);
+void records(void);
+void helpers(void);
+
+#endif

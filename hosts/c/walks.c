@@ -1,0 +1,189 @@
+/* The three lists through thawribbon_walk_..: P12, the longest chains, broken ones, and every length of space and room. */
+#include "first_day.h"
+
+#include "buffers.h"
+#include "groups.h"
+#include "thawribbon.h"
+
+#include <string.h>
+
+enum { LISTS = 3 };
+
+typedef struct list {
+    thawribbon_walked (*walk)(const uint8_t *, size_t, uint16_t *, size_t);
+    size_t maximum;
+    uint16_t floor, end;
+} list;
+
+static const list lists[LISTS] = {
+    {thawribbon_walk_compatible, THAWRIBBON_COMPATIBLE_MAXIMUM, 0x040, 0x100},
+    {thawribbon_walk_extended, THAWRIBBON_EXTENDED_MAXIMUM, 0x100, 0x1000},
+    {thawribbon_walk_trusted, THAWRIBBON_TRUSTED_MAXIMUM, 0x008, 0x1000},
+};
+
+static buffer space;
+static uint16_t room[MOST + 2], expected_room[MOST + 2];
+
+/* A header with an ID and a pointer: a byte in the compatible list, bits 31:20 in the others. */
+static void put_header(size_t which, uint16_t at, uint16_t next)
+{
+    const uint8_t narrow[2] = {0x09, (uint8_t)next};
+    const uint8_t wide[4] = {0x23, 0x00, (uint8_t)(0x01 | (next & 0x0F) << 4), (uint8_t)(next >> 4)};
+    if (which == 0) {
+        put(&space, at, narrow, 2);
+    } else {
+        put(&space, at, wide, 4);
+    }
+}
+
+/* A space whose list has `count` headers from its floor on, each the next word; the last points to `last`. */
+static void chain(size_t which, size_t count, uint16_t last)
+{
+    const uint8_t has_list = 0x10, start = (uint8_t)lists[which].floor;
+    size_t n;
+    fill(&space, 0x00, THAWRIBBON_SPACE);
+    if (which == 0) {
+        put(&space, 0x06, &has_list, 1);
+        put(&space, 0x34, &start, 1);
+    } else if (which == 2) {
+        put(&space, 0x004, &start, 1);
+    }
+    for (n = 0; n < count; n++) {
+        uint16_t at = (uint16_t)(lists[which].floor + 4 * n);
+        put_header(which, at, n + 1 < count ? (uint16_t)(at + 4) : last);
+    }
+}
+
+/* A walk answers this number, and lists `count` offsets from the floor on. The room is lent from room + 1 on. */
+static void walk_gives(size_t which, size_t room_length, uint8_t number, size_t count, size_t at)
+{
+    thawribbon_walked walked;
+    size_t n;
+    for (n = 0; n < MOST + 2; n++) {
+        room[n] = n == 0 || n == room_length + 1 ? 0xA7A7 : 0xEEEE;
+        expected_room[n] = room[n];
+    }
+    for (n = 0; n < count; n++) {
+        expected_room[1 + n] = (uint16_t)(lists[which].floor + 4 * n);
+    }
+    remember(&space);
+    walked = lists[which].walk(lent(&space), space.length, room + 1, room_length);
+    expect(walked.number == number, "another number", at);
+    expect(walked.count == count, "another count", at);
+    expect(memcmp(room, expected_room, sizeof room) == 0, "the room is not as it should be", at);
+    expect(is_as_expected(&space), "the space has changed", at);
+}
+
+static void p12(void)
+{
+    chain(1, 1, 0x100);
+    walk_gives(1, THAWRIBBON_EXTENDED_MAXIMUM, THAWRIBBON_BROKEN_CHAIN, 0, 0);
+}
+
+static void walk_space_lengths(void)
+{
+    size_t which, n;
+    for (which = 0; which < LISTS; which++) {
+        for (n = 0; n < LENGTHS; n++) {
+            size_t length = tried_length(n);
+            int whole = length == THAWRIBBON_SPACE;
+            chain(which, 2, 0);
+            resize(&space, length);
+            walk_gives(which, lists[which].maximum, whole ? THAWRIBBON_SERVED : THAWRIBBON_BAD_DESCRIPTION, whole ? 2 : 0, length);
+            walk_gives(which, 0, whole ? THAWRIBBON_NO_ROOM : THAWRIBBON_BAD_DESCRIPTION, 0, length);
+        }
+    }
+}
+
+static void walk_room_lengths(void)
+{
+    size_t which, n;
+    for (which = 0; which < LISTS; which++) {
+        for (n = 0; n < LENGTHS; n++) {
+            size_t length = tried_length(n);
+            int enough = length >= lists[which].maximum;
+            chain(which, 2, 0);
+            walk_gives(which, length, enough ? THAWRIBBON_SERVED : THAWRIBBON_NO_ROOM, enough ? 2 : 0, length);
+            chain(which, 2, lists[which].floor);
+            walk_gives(which, length, enough ? THAWRIBBON_BROKEN_CHAIN : THAWRIBBON_NO_ROOM, 0, length);
+        }
+    }
+}
+
+/* Each list's longest chain, in a room of exactly the maximum, of one more and of one less; and led back to its start. */
+static void walk_maximum(void)
+{
+    size_t which;
+    for (which = 0; which < LISTS; which++) {
+        size_t maximum = lists[which].maximum;
+        chain(which, maximum, 0);
+        expect(lists[which].floor + 4 * maximum == lists[which].end, "the longest chain does not reach the end", which);
+        walk_gives(which, maximum, THAWRIBBON_SERVED, maximum, which);
+        walk_gives(which, maximum + 1, THAWRIBBON_SERVED, maximum, which);
+        walk_gives(which, maximum - 1, THAWRIBBON_NO_ROOM, 0, which);
+        chain(which, maximum, lists[which].floor);
+        walk_gives(which, maximum, THAWRIBBON_BROKEN_CHAIN, 0, which);
+        walk_gives(which, maximum - 1, THAWRIBBON_NO_ROOM, 0, which);
+    }
+}
+
+/* Pointers that hold whoever follows them, and pointers 4 below the floor. */
+static void walk_broken(void)
+{
+    size_t which;
+    for (which = 0; which < LISTS; which++) {
+        size_t maximum = lists[which].maximum;
+        uint16_t lowest = lists[which].floor;
+        chain(which, 1, lowest);
+        walk_gives(which, maximum, THAWRIBBON_BROKEN_CHAIN, 0, which);
+        chain(which, 3, (uint16_t)(lowest + 4));
+        walk_gives(which, maximum, THAWRIBBON_BROKEN_CHAIN, 0, which);
+        chain(which, 3, (uint16_t)(lowest - 4));
+        walk_gives(which, maximum, THAWRIBBON_BROKEN_CHAIN, 0, which);
+        chain(which, 3, 3);
+        walk_gives(which, maximum, THAWRIBBON_SERVED, 3, which);
+    }
+}
+
+static void walk_empty(void)
+{
+    size_t which;
+    for (which = 0; which < LISTS; which++) {
+        fill(&space, 0x00, THAWRIBBON_SPACE);
+        walk_gives(which, lists[which].maximum, THAWRIBBON_SERVED, 0, which);
+    }
+}
+
+/* No space, no room, and neither, with pointers that cannot be followed. */
+static void walk_nothing(void)
+{
+    size_t which, n;
+    for (which = 0; which < LISTS; which++) {
+        for (n = 0; n < POINTERS; n++) {
+            uint8_t *nothing = pointer_to_nothing(n);
+            uint16_t *no_room = n == 0 ? NULL : (uint16_t *)(n == 1 ? (uintptr_t)2 : UINTPTR_MAX - 1);
+            thawribbon_walked walked;
+            chain(which, 2, 0);
+            lend_instead(&space, nothing);
+            walk_gives(which, lists[which].maximum, THAWRIBBON_BAD_DESCRIPTION, 0, which);
+            walked = lists[which].walk(nothing, 0, no_room, 0);
+            expect(walked.number == THAWRIBBON_BAD_DESCRIPTION && walked.count == 0, "another answer without both", which);
+            chain(which, 2, 0);
+            remember(&space);
+            walked = lists[which].walk(lent(&space), space.length, no_room, 0);
+            expect(walked.number == THAWRIBBON_NO_ROOM && walked.count == 0, "another answer without room", which);
+            expect(is_as_expected(&space), "the space has changed", which);
+        }
+    }
+}
+
+void walks(void)
+{
+    group("P12", p12);
+    group("walks, spaces of every length", walk_space_lengths);
+    group("walks, rooms of every length", walk_room_lengths);
+    group("walks, the longest chains", walk_maximum);
+    group("walks, broken chains", walk_broken);
+    group("walks, empty lists", walk_empty);
+    group("walks, NULL and other pointers with length 0", walk_nothing);
+}

@@ -1,0 +1,25 @@
+/* Every answer that may not be dropped, dropped: a compiler has to warn of each line that says so. Never linked, and never run. */
+#include "thawribbon.h"
+
+void drop(thawribbon_board *board, thawribbon_answer *answer, const uint8_t *bytes, uint8_t *reply, uint16_t *room);
+
+void drop(thawribbon_board *board, thawribbon_answer *answer, const uint8_t *bytes, uint8_t *reply, uint16_t *room)
+{
+    const thawribbon_description description = {0, 0x104, 0x00C};
+    const thawribbon_served served = {12, 0, THAWRIBBON_FRESH};
+    thawribbon_board_serve(board, bytes, 16, answer);                                                                    /* dropped */
+    thawribbon_serve(description, board->capture, reply, 16, bytes, 16, reply, 16, bytes, 16, bytes, 16, reply, 16);     /* dropped */
+    thawribbon_reset(board->capture);                                                                                    /* dropped */
+    thawribbon_walk_compatible(bytes, 16, room, 1);                                                                      /* dropped */
+    thawribbon_walk_extended(bytes, 16, room, 1);                                                                        /* dropped */
+    thawribbon_walk_trusted(bytes, 16, room, 1);                                                                         /* dropped */
+    thawribbon_dvsec(bytes, 16, 0x100);                                                                                  /* dropped */
+    thawribbon_dvsec_body(bytes, 16, 0x100);                                                                             /* dropped */
+    thawribbon_dual_bdf(bytes, 16, 0x040);                                                                               /* dropped */
+    thawribbon_fresh();                                                                                                  /* dropped */
+    thawribbon_outcome_of(served, reply);                                                                                /* dropped */
+    thawribbon_data(answer);                                                                                             /* dropped */
+    thawribbon_text(1);                                                                                                  /* dropped */
+    thawribbon_answer_text(answer);                                                                                      /* dropped */
+    thawribbon_board_reset(board);
+}

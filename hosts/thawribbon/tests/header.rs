@@ -1,0 +1,93 @@
+//! The crate says what thawribbon.h says: the same constants, and the same number and text for each refusal.
+#![forbid(unsafe_code)]
+
+use std::collections::BTreeMap;
+use thawribbon::Refusal;
+
+const HEADER: &str = include_str!("../../include/thawribbon.h");
+
+/// The refusals of the crate, under the names that the header has for them.
+const REFUSALS: [(&str, Refusal); 10] = [
+    ("THAWRIBBON_BAD_DESCRIPTION", Refusal::BadDescription),
+    ("THAWRIBBON_NO_ROOM", Refusal::NoRoom),
+    ("THAWRIBBON_SHORT_PACKET", Refusal::ShortPacket),
+    ("THAWRIBBON_UNKNOWN_TYPE", Refusal::UnknownType),
+    ("THAWRIBBON_WRONG_LENGTH", Refusal::WrongLength),
+    ("THAWRIBBON_WRONG_FIELD", Refusal::WrongField),
+    ("THAWRIBBON_BROKEN_CHAIN", Refusal::BrokenChain),
+    ("THAWRIBBON_OTHER_STRUCTURE", Refusal::OtherStructure),
+    ("THAWRIBBON_WRONG_EXTENT", Refusal::WrongExtent),
+    ("THAWRIBBON_NOT_ONE_FUNCTION", Refusal::NotOneFunction),
+];
+
+/// The header's lines between one that has a text and the next that is another.
+fn lines_between(from: &str, to: &'static str) -> impl Iterator<Item = &'static str> {
+    let after = HEADER.lines().skip_while(move |line| !line.contains(from)).skip(1);
+    after.take_while(move |line| *line != to)
+}
+
+/// The constants that the header defines: those with a value that is a number or a text.
+fn defined() -> BTreeMap<&'static str, &'static str> {
+    let lines = HEADER
+        .lines()
+        .filter_map(|line| line.strip_prefix("#define THAWRIBBON_"));
+    lines
+        .filter_map(|line| line.split_once(' '))
+        .filter(|(_, value)| value.starts_with(|first: char| first.is_ascii_digit() || first == '"'))
+        .collect()
+}
+
+#[test]
+fn the_constants_are_those_of_the_header() {
+    let version = format!("\"{}\"", thawribbon::VERSION);
+    let expected = [
+        ("VERSION", version.as_str()),
+        ("VERSION_MAJOR", env!("CARGO_PKG_VERSION_MAJOR")),
+        ("VERSION_MINOR", env!("CARGO_PKG_VERSION_MINOR")),
+        ("VERSION_PATCH", env!("CARGO_PKG_VERSION_PATCH")),
+        ("SPACE", &thawribbon::SPACE.to_string()),
+        ("REPLY", &thawribbon::REPLY.to_string()),
+        ("DATA", &thawribbon::DATA.to_string()),
+        ("STATUS", &thawribbon::STATUS.to_string()),
+        ("SUCCESS", &format!("0x{:02X}", thawribbon::SUCCESS)),
+        ("UNSUPPORTED", &format!("0x{:02X}", thawribbon::UNSUPPORTED)),
+        ("COMPATIBLE_MAXIMUM", &thawribbon::COMPATIBLE_MAXIMUM.to_string()),
+        ("EXTENDED_MAXIMUM", &thawribbon::EXTENDED_MAXIMUM.to_string()),
+        ("TRUSTED_MAXIMUM", &thawribbon::TRUSTED_MAXIMUM.to_string()),
+    ];
+    assert_eq!(defined(), BTreeMap::from(expected));
+}
+
+#[test]
+fn the_numbers_are_those_of_the_header() {
+    let numbers: BTreeMap<&str, u8> = lines_between("enum thawribbon_number {", "};")
+        .filter_map(|line| line.trim().trim_end_matches(',').split_once(" = "))
+        .map(|(name, number)| (name, number.parse().expect("a number")))
+        .collect();
+    let expected = REFUSALS.map(|(name, refusal)| (name, refusal.number()));
+    let served = [("THAWRIBBON_SERVED", 0)];
+    assert_eq!(numbers, served.into_iter().chain(expected).collect());
+}
+
+#[test]
+fn the_texts_are_those_of_the_header() {
+    let mut texts: BTreeMap<&str, String> = BTreeMap::new();
+    let mut name = "";
+    for line in lines_between("char *thawribbon_text(", "}").map(str::trim) {
+        if let Some(case) = line.strip_prefix("case ") {
+            name = case.trim_end_matches(':');
+        } else if line == "default:" {
+            name = line;
+        } else if let Some((_, text)) = line.split_once('"') {
+            let text = text.trim_end_matches([';', '"']);
+            texts.entry(name).or_default().push_str(text);
+        }
+    }
+    assert!(texts.remove("THAWRIBBON_SERVED").is_some() && texts.remove("default:").is_some());
+    assert_eq!(
+        texts,
+        REFUSALS
+            .map(|(name, refusal)| (name, refusal.text().to_string()))
+            .into()
+    );
+}
