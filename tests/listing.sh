@@ -119,10 +119,13 @@ same 'listing of zeros' "$work/empty" $?
 # Standard output that takes nothing.
 listing <samples/full.space | true
 ended 'listing into a closed pipe' "${PIPESTATUS[0]}"
-listing <samples/full.space >/dev/full
+said="listing: standard output does not take it"
+listing <samples/full.space >/dev/full 2>"$work/errors"
 ended 'listing onto a full device' $?
-listing <samples/full.space >&-
+if [ "$(cat "$work/errors")" = "$said" ]; then echo 'ok listing onto a full device says so'; else echo "FAILED listing onto a full device said $(head -c 200 "$work/errors")"; fi
+listing <samples/full.space >&- 2>"$work/errors"
 ended 'listing with standard output closed' $?
+if [ "$(cat "$work/errors")" = "$said" ]; then echo 'ok listing with standard output closed says so'; else echo "FAILED listing with standard output closed said $(head -c 200 "$work/errors")"; fi
 
 # shaped FILE: two parts, each refused or with as many lines as its heading says, and the end
 shaped() {
