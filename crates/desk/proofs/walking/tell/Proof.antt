@@ -1,0 +1,74 @@
+-- `desk::walking::tell` is safe and ends. Assumes nothing.
+use borrow.Author.Needs.{needs}
+use Prim.Native.Nat.{_-_, _≤_}
+use Rattle.desk.proofs.walking.tell.Statement.{statement}
+use Rattle.desk.proofs.walking.tell.Tie as tie
+
+abbrev Inv-loop : tie.InvT-loop
+Inv-loop kind space count room entry₀ entry = entry ≤ 1030
+
+abbrev μ-loop : tie.MeasureT-loop
+μ-loop kind space count room entry₀ entry = 1030 - entry
+
+slice-aggregate-put : tie.Need-slice-aggregate-put Inv-loop μ-loop
+slice-aggregate-put c = search needs
+
+put-requires : tie.Need-put-requires Inv-loop μ-loop
+put-requires c κs = search needs
+
+put-decimal-requires : tie.Need-put-decimal-requires Inv-loop μ-loop
+put-decimal-requires c κs = search needs
+
+slice-aggregate-put-2 : tie.Need-slice-aggregate-put-2 Inv-loop μ-loop
+slice-aggregate-put-2 c = search needs
+
+put-requires-2 : tie.Need-put-requires-2 Inv-loop μ-loop
+put-requires-2 c κs = search needs
+
+loop-holds : tie.Need-loop-holds Inv-loop μ-loop
+loop-holds c = search needs
+
+mul-tell-header : tie.Need-mul-tell-header Inv-loop μ-loop
+mul-tell-header c = search needs
+
+element-copy-out-tell-header : tie.Need-element-copy-out-tell-header Inv-loop μ-loop
+element-copy-out-tell-header c = search needs
+
+cast-tell-header : tie.Need-cast-tell-header Inv-loop μ-loop
+cast-tell-header c = search needs
+
+tell-header-requires : tie.Need-tell-header-requires Inv-loop μ-loop
+tell-header-requires c κs = search needs
+
+add-entry : tie.Need-add-entry Inv-loop μ-loop
+add-entry c = search needs
+
+loop-less : tie.Need-loop-less Inv-loop μ-loop
+loop-less c = search needs
+
+loop-again : tie.Need-loop-again Inv-loop μ-loop
+loop-again c = search needs
+
+returns : tie.Need-returns Inv-loop μ-loop
+returns c = search needs
+
+pub tell-spec : {M : Type 1} → statement M
+tell-spec =
+    tie.close
+    (tie.spec
+    Inv-loop
+    μ-loop
+    slice-aggregate-put
+    put-requires
+    put-decimal-requires
+    slice-aggregate-put-2
+    put-requires-2
+    loop-holds
+    mul-tell-header
+    element-copy-out-tell-header
+    cast-tell-header
+    tell-header-requires
+    add-entry
+    loop-less
+    loop-again
+    returns)

@@ -1,0 +1,104 @@
+// Why a line is not understood, told with the line's number and the word at fault. Nothing of such a line is done.
+use crate::saying::put;
+use crate::saying::put_line_number;
+use crate::saying::put_plain;
+use crate::slots;
+use crate::slots::Desk;
+use crate::tokens;
+
+pub const NONE: usize = 0;
+
+pub const UNKNOWN: usize = 1;
+
+pub const NO_STATEMENT: usize = 2;
+
+pub const NO_WORD: usize = 3;
+
+pub const NO_NAME: usize = 4;
+
+pub const NO_NUMBER: usize = 5;
+
+pub const TOO_MANY: usize = 6;
+
+pub const TOO_FEW: usize = 7;
+
+pub const TOO_LARGE: usize = 8;
+
+pub const NO_FIT: usize = 9;
+
+pub const NO_QUESTION: usize = 10;
+
+pub const NO_CLAUSE: usize = 11;
+
+pub const AGAIN: usize = 12;
+
+pub const ARROW_AGAIN: usize = 13;
+
+pub const COMMA: usize = 14;
+
+pub const NUMBER_FIRST: usize = 15;
+
+pub const TOO_LONG: usize = 16;
+
+pub const TOO_MANY_TOKENS: usize = 17;
+
+pub const SHEET_AGAIN: usize = 18;
+
+pub const NO_SHEET: usize = 19;
+
+pub const NO_END: usize = 20;
+
+// A line is not understood: from `from` on it does not fit.
+pub fn tell(desk: &mut Desk, line: &[u8], from: usize, what: usize) {
+    slots::count(desk, slots::FAULTS);
+    put_line_number(desk);
+    if from < line.len() {
+        let end = tokens::end_of(line, from);
+        put(b"'");
+        put_plain(&line[from..end]);
+        put(b"' ");
+    } else {
+        put(b"the line's end ");
+    }
+    put_reason(what);
+    put(b"\n");
+}
+
+// The same, of a line as a whole.
+pub fn tell_whole(desk: &mut Desk, what: usize) {
+    slots::count(desk, slots::FAULTS);
+    put_line_number(desk);
+    put_reason(what);
+    put(b"\n");
+}
+
+fn put_reason(what: usize) {
+    match what {
+        UNKNOWN => put(b"is no word of the desk, and no number of one to sixteen hexadecimal digits"),
+        NO_STATEMENT => put(b"is not a statement; help lists them"),
+        NO_WORD => put(b"stands where a word is wanted"),
+        NO_NAME => put(b"stands where the name of a list or a space is wanted"),
+        NO_NUMBER => put(b"stands where a number, a comma or the line's end is wanted"),
+        TOO_MANY => put(b"is a number too many"),
+        TOO_FEW => put(b"stands where a number is still wanted"),
+        TOO_LARGE => put(b"is too large here"),
+        NO_FIT => put(b"does not fit: a space ends at FFF"),
+        NO_QUESTION => put(b"stands behind a statement that has no answer to expect"),
+        NO_CLAUSE => put(b"cannot be expected of this"),
+        _ => put_other_reason(what),
+    }
+}
+
+fn put_other_reason(what: usize) {
+    match what {
+        AGAIN => put(b"is expected twice"),
+        ARROW_AGAIN => put(b"stands a second time"),
+        COMMA => put(b"stands outside an expectation"),
+        NUMBER_FIRST => put(b"stands where the expected number is wanted first"),
+        TOO_LONG => put(b"longer than 4,000 characters; none of it is read"),
+        TOO_MANY_TOKENS => put(b"more than 128 words and numbers; none of it is read"),
+        SHEET_AGAIN => put(b"a sheet begins before the last one has ended"),
+        NO_SHEET => put(b"a sheet ends that has not begun"),
+        _ => put(b"the sheet has no end: was it cut?"),
+    }
+}

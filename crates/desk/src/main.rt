@@ -1,0 +1,36 @@
+// The desk: statements from standard input, each answered at once. `help` lists them. What decides is the proved code of the crates
+// below; here only safety is promised, and that every session ends.
+mod doing;
+mod explaining;
+mod faults;
+mod grammar;
+mod helping;
+mod input;
+mod judging;
+mod packets;
+mod reading;
+mod saying;
+mod session;
+mod slots;
+mod spaces;
+mod tokens;
+mod vocabulary;
+mod walking;
+
+use session::PIECE;
+use spaces::LONG;
+
+fn main() {
+    let mut piece = [0; PIECE];
+    let mut ordinary = [0; LONG];
+    let mut ordinary_rules = [0; LONG];
+    let mut trusted = [0; LONG];
+    let mut trusted_rules = [0; LONG];
+    session::run(
+        &mut piece,
+        &mut ordinary,
+        &mut ordinary_rules,
+        &mut trusted,
+        &mut trusted_rules,
+    );
+}

@@ -1,0 +1,213 @@
+// A DVSEC or a Dual-BDF record of the board at the desk is asked for. Its number, its fields and its body are told, or held against what
+// is expected.
+use crate::explaining;
+use crate::judging;
+use crate::packets;
+use crate::saying::put;
+use crate::saying::put_bytes;
+use crate::saying::put_hex;
+use crate::slots;
+use crate::slots::Desk;
+use crate::spaces;
+use crate::spaces::LONG;
+use crate::tokens;
+use crate::tokens::Tokens;
+use crate::vocabulary;
+use records::Alternate;
+use records::DualRead;
+use records::DvsecHeader;
+use records::DvsecRead;
+
+// A record as it was found or is expected: its number, how many fields it has, and those.
+struct Record {
+    number: u8,
+    count: usize,
+    first: usize,
+    second: usize,
+    third: usize,
+    fourth: usize,
+}
+
+fn refused(number: u8) -> Record {
+    Record {
+        number,
+        count: 0,
+        first: 0,
+        second: 0,
+        third: 0,
+        fourth: 0,
+    }
+}
+
+fn header_record(header: DvsecHeader) -> Record {
+    Record {
+        number: 0,
+        count: 4,
+        first: header.vendor as usize,
+        second: header.revision as usize,
+        third: header.id as usize,
+        fourth: header.length as usize,
+    }
+}
+
+fn alternate_record(alternate: Alternate) -> Record {
+    Record {
+        number: 0,
+        count: 2,
+        first: alternate.function as usize,
+        second: alternate.device as usize,
+        third: 0,
+        fourth: 0,
+    }
+}
+
+fn dvsec_record(read: DvsecRead) -> Record {
+    match read {
+        DvsecRead::Refused(refusal) => refused(refusal.number()),
+        DvsecRead::Found(header) => header_record(header),
+    }
+}
+
+fn dual_record(read: DualRead) -> Record {
+    match read {
+        DualRead::Refused(refusal) => refused(refusal.number()),
+        DualRead::Found(alternate) => alternate_record(alternate),
+    }
+}
+
+pub fn ask_dvsec(desk: &mut Desk, tokens: &Tokens, count: usize, space: &[u8; LONG], size: usize) {
+    ask_dvsec_of(desk, tokens, count, space, size);
+}
+
+fn ask_dvsec_of(desk: &mut Desk, tokens: &Tokens, count: usize, space: &[u8], size: usize) {
+    let length = spaces::within(size, space);
+    let lent = &space[..length];
+    let at = tokens::at(tokens, 2);
+    let record = dvsec_record(records::dvsec(lent, at));
+    let body = records::dvsec_body(lent, at);
+    let arrow = tokens::find(tokens, 0, count, vocabulary::ARROW);
+    slots::lend_all(desk);
+    if arrow < count {
+        judging::begin(desk);
+        judge(desk, tokens, arrow, count, record, vocabulary::HEADER);
+        judge_body(desk, tokens, arrow, count, space, body);
+        if judging::end(desk) {
+            return;
+        }
+    }
+    explaining::put_number(record.number);
+    if record.count != 0 {
+        tell_header(record);
+        put(b"  body:");
+        put_bytes(body);
+        put(b"\n");
+    }
+}
+
+pub fn ask_dual(desk: &mut Desk, tokens: &Tokens, count: usize, space: &[u8; LONG], size: usize) {
+    ask_dual_of(desk, tokens, count, space, size);
+}
+
+fn ask_dual_of(desk: &mut Desk, tokens: &Tokens, count: usize, space: &[u8], size: usize) {
+    let length = spaces::within(size, space);
+    let record = dual_record(records::dual_bdf(&space[..length], tokens::at(tokens, 2)));
+    let arrow = tokens::find(tokens, 0, count, vocabulary::ARROW);
+    slots::lend_all(desk);
+    if arrow < count {
+        judging::begin(desk);
+        judge(desk, tokens, arrow, count, record, vocabulary::ALTERNATE);
+        if judging::end(desk) {
+            return;
+        }
+    }
+    explaining::put_number(record.number);
+    if record.count != 0 {
+        tell_alternate(record);
+    }
+}
+
+fn tell_header(record: Record) {
+    put(b"  vendor ");
+    put_hex(record.first, 4);
+    put(b" revision ");
+    put_hex(record.second, 1);
+    put(b" ID ");
+    put_hex(record.third, 4);
+    put(b" length ");
+    put_hex(record.fourth, 3);
+    put(b"\n");
+}
+
+fn tell_alternate(record: Record) {
+    put(b"  alternate: function ");
+    put_hex(record.first, 1);
+    put(b" device ");
+    put_hex(record.second, 2);
+    put(b"\n");
+}
+
+// The number, how many fields are told, and each of them.
+fn judge(
+    desk: &mut Desk,
+    tokens: &Tokens,
+    arrow: usize,
+    count: usize,
+    record: Record,
+    clause: usize,
+) {
+    let word = tokens::find(tokens, arrow, count, clause);
+    let from = std::num::wrapping_add_usize(word, 1);
+    let to = tokens::numbers_end(tokens, from, count);
+    let given = if word < count { std::num::wrapping_sub_usize(to, from) } else { 0 };
+    packets::judge_number(desk, tokens, arrow, count, record.number);
+    judging::number(desk, b"count of fields", record.count, given);
+    if record.count == given {
+        judge_field(desk, tokens, from, 0, given, record.first);
+        judge_field(desk, tokens, from, 1, given, record.second);
+        judge_field(desk, tokens, from, 2, given, record.third);
+        judge_field(desk, tokens, from, 3, given, record.fourth);
+    }
+}
+
+fn judge_field(
+    desk: &mut Desk,
+    tokens: &Tokens,
+    from: usize,
+    place: usize,
+    given: usize,
+    found: usize,
+) {
+    if place < given {
+        let wanted = tokens::at(tokens, std::num::wrapping_add_usize(from, place));
+        judging::value(desk, b"field", found, wanted);
+    }
+}
+
+// The body is so many bytes of the space, from an offset on: the two numbers. Without them it is empty.
+fn judge_body(
+    desk: &mut Desk,
+    tokens: &Tokens,
+    arrow: usize,
+    count: usize,
+    space: &[u8],
+    found: &[u8],
+) {
+    let word = tokens::find(tokens, arrow, count, vocabulary::BODY);
+    if count <= word {
+        judging::number(desk, b"body's length", found.len(), 0);
+        return;
+    }
+    let start = tokens::at(tokens, std::num::wrapping_add_usize(word, 1));
+    let length = tokens::at(tokens, std::num::wrapping_add_usize(word, 2));
+    judging::number(desk, b"body's length", found.len(), length);
+    let mut at = 0;
+    while at < found.len() {
+        let place = std::num::wrapping_add_usize(start, at);
+        judging::byte(desk, b"body byte", at, found[at], byte_of(space, place));
+        at += 1;
+    }
+}
+
+fn byte_of(space: &[u8], at: usize) -> u8 {
+    if at < space.len() { space[at] } else { 0 }
+}

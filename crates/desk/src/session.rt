@@ -1,0 +1,208 @@
+// A session at the desk: standard input line by line, each line answered as soon as it is there, in bounded memory. The last line tells
+// how many checks there were, how many of them were as expected, and how many lines were not understood.
+use crate::doing;
+use crate::faults;
+use crate::grammar;
+use crate::input;
+use crate::saying::put;
+use crate::saying::put_decimal;
+use crate::saying::put_plain;
+use crate::slots;
+use crate::slots::Desk;
+use crate::slots::SLOTS;
+use crate::spaces::LONG;
+use crate::tokens;
+use crate::tokens::MOST;
+use crate::tokens::Places;
+use crate::tokens::WIDTH;
+
+// A line is understood and done, or its first fault is told.
+fn take(
+    desk: &mut Desk,
+    line: &[u8],
+    ordinary: &mut [u8; LONG],
+    ordinary_rules: &mut [u8; LONG],
+    trusted: &mut [u8; LONG],
+    trusted_rules: &mut [u8; LONG],
+) {
+    let mut tokens = [0usize; WIDTH];
+    let mut places = [0usize; MOST];
+    slots::count(desk, slots::LINE);
+    if desk[slots::ECHO] != 0 {
+        put(b"> ");
+        put_plain(line);
+        put(b"\n");
+    }
+    let count = tokens::read(line, &mut tokens, &mut places);
+    if count == 0 {
+        return;
+    }
+    if MOST < count {
+        faults::tell_whole(desk, faults::TOO_MANY_TOKENS);
+        return;
+    }
+    let fault = grammar::fault_of(&tokens, count);
+    if fault.what != faults::NONE {
+        faults::tell(desk, line, begin_of(&places, fault.place, count, line), fault.what);
+        return;
+    }
+    doing::perform(
+        desk,
+        &tokens,
+        count,
+        ordinary,
+        ordinary_rules,
+        trusted,
+        trusted_rules,
+    );
+}
+
+// Where a token begins, or the line's end.
+fn begin_of(places: &Places, place: usize, count: usize, line: &[u8]) -> usize {
+    if count <= place {
+        return line.len();
+    }
+    if MOST <= place {
+        return line.len();
+    }
+    places[place]
+}
+
+// What is read at once; a line is shorter.
+pub const PIECE: usize = 4000;
+
+// A whole line, or the end of one whose beginning was given up.
+fn take_whole(
+    desk: &mut Desk,
+    line: &[u8],
+    ordinary: &mut [u8; LONG],
+    ordinary_rules: &mut [u8; LONG],
+    trusted: &mut [u8; LONG],
+    trusted_rules: &mut [u8; LONG],
+) {
+    if desk[slots::SKIPPING] == 0 {
+        take(desk, line, ordinary, ordinary_rules, trusted, trusted_rules);
+        return;
+    }
+    desk[slots::SKIPPING] = 0;
+    slots::count(desk, slots::LINE);
+    faults::tell_whole(desk, faults::TOO_LONG);
+}
+
+// Takes the lines that stand whole before `end`, and answers where the first one that does not begins.
+fn take_lines(
+    desk: &mut Desk,
+    piece: &[u8; PIECE],
+    end: usize,
+    ordinary: &mut [u8; LONG],
+    ordinary_rules: &mut [u8; LONG],
+    trusted: &mut [u8; LONG],
+    trusted_rules: &mut [u8; LONG],
+) -> usize {
+    let mut from = 0;
+    while from < end {
+        let to = input::line_end(piece, from, end);
+        if end <= to {
+            return from;
+        }
+        take_whole(
+            desk,
+            input::between(piece, from, to),
+            ordinary,
+            ordinary_rules,
+            trusted,
+            trusted_rules,
+        );
+        from = to + 1;
+    }
+    from
+}
+
+// What is left of a line, `rest` bytes of it, where the input ends or the piece is full.
+fn give_up(desk: &mut Desk, rest: usize) -> usize {
+    if rest < PIECE {
+        return rest;
+    }
+    desk[slots::SKIPPING] = 1;
+    0
+}
+
+// A line without a line end, where the input ends.
+fn take_last(
+    desk: &mut Desk,
+    piece: &[u8; PIECE],
+    rest: usize,
+    ordinary: &mut [u8; LONG],
+    ordinary_rules: &mut [u8; LONG],
+    trusted: &mut [u8; LONG],
+    trusted_rules: &mut [u8; LONG],
+) {
+    if rest == 0 {
+        if desk[slots::SKIPPING] == 0 {
+            return;
+        }
+    }
+    take_whole(
+        desk,
+        input::between(piece, 0, rest),
+        ordinary,
+        ordinary_rules,
+        trusted,
+        trusted_rules,
+    );
+}
+
+// The whole input. A proved loop has to end, and nothing says that the input does: so the turns are counted down, from a number that no
+// session uses up.
+pub fn run(
+    piece: &mut [u8; PIECE],
+    ordinary: &mut [u8; LONG],
+    ordinary_rules: &mut [u8; LONG],
+    trusted: &mut [u8; LONG],
+    trusted_rules: &mut [u8; LONG],
+) {
+    let mut desk = [0usize; SLOTS];
+    let mut rest = 0;
+    let mut turns = u64::MAX;
+    slots::begin(&mut desk);
+    while turns > 0 {
+        turns -= 1;
+        let end = input::read_more(piece, rest);
+        if end <= rest {
+            break;
+        }
+        let from = take_lines(
+            &mut desk,
+            piece,
+            end,
+            ordinary,
+            ordinary_rules,
+            trusted,
+            trusted_rules,
+        );
+        rest = give_up(&mut desk, input::keep_rest(piece, from, end));
+    }
+    take_last(
+        &mut desk,
+        piece,
+        rest,
+        ordinary,
+        ordinary_rules,
+        trusted,
+        trusted_rules,
+    );
+    tell_end(&mut desk);
+}
+
+fn tell_end(desk: &mut Desk) {
+    if desk[slots::SHEET] != 0 {
+        faults::tell_whole(desk, faults::NO_END);
+    }
+    put(b"checks ");
+    put_decimal(desk[slots::CHECKS]);
+    put(b", as expected ");
+    put_decimal(desk[slots::RIGHT]);
+    put(b", lines not understood ");
+    put_decimal(desk[slots::FAULTS]);
+    put(b"\n");
+}

@@ -1,0 +1,81 @@
+// What the desk keeps in numbers from line to line, each at a place of its own.
+pub const SLOTS: usize = 24;
+
+// The line's number; how many statements had an expectation, and how many of them were right; how many lines were not understood.
+pub const LINE: usize = 0;
+
+pub const CHECKS: usize = 1;
+
+pub const RIGHT: usize = 2;
+
+pub const FAULTS: usize = 3;
+
+// How many differences were told of the check at hand.
+pub const WRONGS: usize = 4;
+
+// The line where the sheet began, or 0 outside a sheet; and whether lines are written out as they are read.
+pub const SHEET: usize = 5;
+
+pub const ECHO: usize = 6;
+
+// The board: its function number, A and B, and the capture (1 if there is one, its bus and device).
+pub const FUNCTION: usize = 7;
+
+pub const A: usize = 8;
+
+pub const B: usize = 9;
+
+pub const CAPTURED: usize = 10;
+
+pub const BUS: usize = 11;
+
+pub const DEVICE: usize = 12;
+
+// What is lent to the next question: so much of each of the four buffers, and of the reply or the list room.
+pub const ORDINARY_SIZE: usize = 13;
+
+pub const ORDINARY_RULES_SIZE: usize = 14;
+
+pub const TRUSTED_SIZE: usize = 15;
+
+pub const TRUSTED_RULES_SIZE: usize = 16;
+
+pub const ROOM: usize = 17;
+
+// The rest of a line that is too long is being read past.
+pub const SKIPPING: usize = 18;
+
+// All of a reply's buffer, and of a list's.
+const WHOLE: usize = 0xffff;
+
+pub type Desk = [usize; SLOTS];
+
+pub fn count(desk: &mut Desk, slot: usize) {
+    if slot < SLOTS {
+        desk[slot] = std::num::wrapping_add_usize(desk[slot], 1);
+    }
+}
+
+// The bench sheet's board, with nothing captured.
+pub fn begin(desk: &mut Desk) {
+    desk[FUNCTION] = 0;
+    desk[A] = 0x104;
+    desk[B] = 0x00c;
+    desk[CAPTURED] = 0;
+    lend_all(desk);
+}
+
+pub fn capture(desk: &mut Desk, bus: usize, device: usize) {
+    desk[CAPTURED] = 1;
+    desk[BUS] = bus;
+    desk[DEVICE] = device;
+}
+
+// The next question is lent whole buffers.
+pub fn lend_all(desk: &mut Desk) {
+    desk[ORDINARY_SIZE] = words::SPACE;
+    desk[ORDINARY_RULES_SIZE] = words::SPACE;
+    desk[TRUSTED_SIZE] = words::SPACE;
+    desk[TRUSTED_RULES_SIZE] = words::SPACE;
+    desk[ROOM] = WHOLE;
+}

@@ -1,0 +1,167 @@
+// A line as tokens: words, numbers of one to sixteen hexadecimal digits, commas. Blanks part them; a comma stands for itself; what follows
+// a # is a comment.
+use crate::vocabulary;
+ghost use mathlib.Core.Path.{_≡_};
+ghost use Prim.Native.Nat.{_+_, _≤_, _<_};
+ghost use lib.ListN.{length};
+
+// No line has more tokens.
+pub const MOST: usize = 128;
+
+// The most digits of a number.
+const DIGITS: usize = 16;
+
+// What `read` answers for a line that has.
+pub const TOO_MANY: usize = 129;
+
+// The word of each token, and then the value of each that is a number.
+pub const WIDTH: usize = 256;
+
+pub type Tokens = [usize; WIDTH];
+
+// Where each token begins.
+pub type Places = [usize; MOST];
+
+// The tokens of a line, where each begins, and how many there are.
+pub fn read(line: &[u8], tokens: &mut Tokens, places: &mut Places) -> usize {
+    let mut at = 0;
+    let mut count = 0;
+    while at < line.len() {
+        let end = end_of(line, at);
+        if line[at] == b'#' {
+            return count;
+        }
+        if !is_blank(line[at]) {
+            if MOST <= count {
+                return TOO_MANY;
+            }
+            tokens[count] = token_of(&line[at..end], count);
+            tokens[MOST + count] = number_of(&line[at..end]);
+            places[count] = at;
+            count += 1;
+        }
+        at = end;
+    }
+    count
+}
+
+// A carriage return is a blank, so that a sheet from another system reads the same.
+fn is_blank(byte: u8) -> bool {
+    match byte {
+        b' ' | b'\t' | b'\r' => true,
+        _ => false,
+    }
+}
+
+fn is_parting(byte: u8) -> bool {
+    match byte {
+        b',' | b'#' => true,
+        _ => is_blank(byte),
+    }
+}
+
+// Where the token, or the single blank or comma, that begins at a place ends.
+pub fn end_of(line: &[u8], from: usize) -> usize
+    requires { ⌜ from < length (now line) ⌝ }
+    ensures { λ r. ⌜ (from < r) × (r ≤ length (now (line .entry))) ⌝ }
+{
+    let mut at = from + 1;
+    if is_parting(line[from]) {
+        return at;
+    }
+    while at < line.len() {
+        if is_parting(line[at]) {
+            return at;
+        }
+        at += 1;
+    }
+    at
+}
+
+// The first token of a line is a word, whatever it could be besides; the others are numbers where they can be.
+fn token_of(text: &[u8], place: usize) -> usize {
+    if place == 0 {
+        return vocabulary::word_of(text);
+    }
+    if is_number(text) {
+        return vocabulary::NUMERAL;
+    }
+    vocabulary::word_of(text)
+}
+
+fn is_number(text: &[u8]) -> bool {
+    let mut at = 0;
+    if DIGITS < text.len() {
+        return false;
+    }
+    while at < text.len() {
+        if 16 <= digit_of(text[at]) {
+            return false;
+        }
+        at += 1;
+    }
+    true
+}
+
+// The value of a text that is a number.
+fn number_of(text: &[u8]) -> usize {
+    let mut number = 0;
+    let mut at = 0;
+    while at < text.len() {
+        number = number << 4 | digit_of(text[at]);
+        at += 1;
+    }
+    number
+}
+
+// The value of a digit, or 16.
+fn digit_of(character: u8) -> usize {
+    match character {
+        b'0'..=b'9' => wide(std::num::wrapping_sub_u8(character, b'0')),
+        b'A'..=b'F' => wide(std::num::wrapping_sub_u8(character, b'A' - 10)),
+        b'a'..=b'f' => wide(std::num::wrapping_sub_u8(character, b'a' - 10)),
+        _ => 16,
+    }
+}
+
+fn wide(byte: u8) -> usize {
+    byte as usize
+}
+
+// The word at a place; NUMERAL where a number stands, UNKNOWN past the last.
+pub fn word(tokens: &Tokens, place: usize) -> usize {
+    if place < MOST { tokens[place] } else { vocabulary::UNKNOWN }
+}
+
+// The number at a place.
+pub fn at(tokens: &Tokens, place: usize) -> usize {
+    if place < MOST { tokens[MOST + place] } else { 0 }
+}
+
+pub fn byte(tokens: &Tokens, place: usize) -> u8 {
+    (at(tokens, place) % 256) as u8
+}
+
+// Where a word stands from a place on, or `to`.
+pub fn find(tokens: &Tokens, from: usize, to: usize, wanted: usize) -> usize {
+    let mut place = from;
+    while place < to {
+        if word(tokens, place) == wanted {
+            return place;
+        }
+        place += 1;
+    }
+    to
+}
+
+// Where the numbers that begin at a place end.
+pub fn numbers_end(tokens: &Tokens, from: usize, to: usize) -> usize {
+    let mut place = from;
+    while place < to {
+        if word(tokens, place) != vocabulary::NUMERAL {
+            return place;
+        }
+        place += 1;
+    }
+    place
+}

@@ -1,0 +1,201 @@
+// A list of the board at the desk is walked. The number, the count and every entry of the room are told, or held against what is
+// expected. The compatible and the extended list lie in the ordinary space, the trusted list in the trusted one.
+use crate::explaining;
+use crate::judging;
+use crate::packets;
+use crate::saying::put;
+use crate::saying::put_byte;
+use crate::saying::put_decimal;
+use crate::saying::put_hex;
+use crate::slots;
+use crate::slots::Desk;
+use crate::spaces;
+use crate::spaces::LONG;
+use crate::tokens;
+use crate::tokens::Tokens;
+use crate::vocabulary;
+use lists::Kind;
+use lists::Walked;
+ghost use Rattle.io.specs.Counts.{Counts};
+
+// More entries than any list may have headers, and the entry that fills a room before a walk.
+const ROOM: usize = 1030;
+
+const UNTOUCHED: u16 = 0xeeee;
+
+pub fn kind_of(name: usize) -> Kind {
+    match name {
+        vocabulary::COMPATIBLE => Kind::Compatible,
+        vocabulary::EXTENDED => Kind::Extended,
+        _ => Kind::Trusted,
+    }
+}
+
+// A list is walked in the space where it lies.
+pub fn ask(desk: &mut Desk, tokens: &Tokens, count: usize, space: &[u8; LONG], size: usize) {
+    let mut room = [UNTOUCHED; ROOM];
+    let kind = kind_of(tokens::word(tokens, 1));
+    let arrow = tokens::find(tokens, 0, count, vocabulary::ARROW);
+    let walked = walk(kind, space, size, desk[slots::ROOM], &mut room);
+    let answer = walked.answer;
+    slots::lend_all(desk);
+    if arrow < count {
+        judging::begin(desk);
+        packets::judge_number(desk, tokens, arrow, count, answer.number());
+        judge(desk, tokens, arrow, count, walked.count, &room);
+        if judging::end(desk) {
+            return;
+        }
+    }
+    explaining::put_number(answer.number());
+    tell(kind, space, walked.count, &room);
+}
+
+fn walk(kind: Kind, space: &[u8], size: usize, entries: usize, room: &mut [u16]) -> Walked {
+    let length = spaces::within(size, space);
+    let lent = within_room(entries, room);
+    lists::walk(kind, &space[..length], &mut room[..lent])
+}
+
+fn within_room(size: usize, room: &[u16]) -> usize
+    ensures { λ r. ⌜ Counts r (now (room .entry)) ⌝ }
+{
+    if room.len() < size { room.len() } else { size }
+}
+
+// The offsets that are expected one by one, and then so many by steps; the rest of the room is untouched.
+fn judge(
+    desk: &mut Desk,
+    tokens: &Tokens,
+    arrow: usize,
+    count: usize,
+    found: usize,
+    room: &[u16; ROOM],
+) {
+    let mut wanted = [UNTOUCHED; ROOM];
+    let listed = list(&mut wanted, tokens, arrow, count);
+    let stepped = step(&mut wanted, listed, tokens, arrow, count);
+    judging::number(desk, b"count", found, stepped);
+    for entry in 0..ROOM {
+        if room[entry] != wanted[entry] {
+            judging::entry(desk, entry, room[entry] as usize, wanted[entry] as usize);
+            return;
+        }
+    }
+}
+
+fn enter(room: &mut [u16; ROOM], entry: usize, offset: usize) {
+    if entry < ROOM {
+        room[entry] = (offset % 65536) as u16;
+    }
+}
+
+// The offsets behind their word; answers how many there are.
+fn list(room: &mut [u16; ROOM], tokens: &Tokens, arrow: usize, count: usize) -> usize {
+    let word = tokens::find(tokens, arrow, count, vocabulary::OFFSETS);
+    let from = std::num::wrapping_add_usize(word, 1);
+    let to = tokens::numbers_end(tokens, from, count);
+    let mut place = from;
+    let mut entry = 0;
+    while place < to {
+        enter(room, entry, tokens::at(tokens, place));
+        entry = std::num::wrapping_add_usize(entry, 1);
+        place += 1;
+    }
+    entry
+}
+
+// So many offsets more: the first, and each the one before it with a step added. Answers how many there are with those before.
+fn step(
+    room: &mut [u16; ROOM],
+    before: usize,
+    tokens: &Tokens,
+    arrow: usize,
+    count: usize,
+) -> usize {
+    let word = tokens::find(tokens, arrow, count, vocabulary::STEPS);
+    if count <= word {
+        return before;
+    }
+    let steps = tokens::at(tokens, std::num::wrapping_add_usize(word, 1));
+    let mut offset = tokens::at(tokens, std::num::wrapping_add_usize(word, 2));
+    let by = tokens::at(tokens, std::num::wrapping_add_usize(word, 3));
+    let mut done = 0;
+    while done < steps {
+        enter(room, std::num::wrapping_add_usize(before, done), offset);
+        offset = std::num::wrapping_add_usize(offset, by);
+        done += 1;
+    }
+    std::num::wrapping_add_usize(before, steps)
+}
+
+// The headers that were listed, with what each says of itself.
+fn tell(kind: Kind, space: &[u8; LONG], count: usize, room: &[u16; ROOM]) {
+    put(b"  listed: ");
+    put_decimal(count);
+    put(b"\n");
+    for entry in 0..ROOM {
+        if entry < count {
+            tell_header(kind, space, room[entry] as usize);
+        }
+    }
+}
+
+fn tell_header(kind: Kind, space: &[u8; LONG], at: usize) {
+    put(b"  ");
+    put_hex(at, 3);
+    put(b": ID ");
+    match kind {
+        Kind::Compatible => put_byte(spaces::byte_at(space, at)),
+        Kind::Extended | Kind::Trusted => {
+            put_byte(spaces::byte_at(space, std::num::wrapping_add_usize(at, 1)));
+            put_byte(spaces::byte_at(space, at));
+            put(b" version ");
+            put_hex(version_at(space, std::num::wrapping_add_usize(at, 2)), 1);
+        }
+    }
+    put(b"\n");
+}
+
+fn version_at(space: &[u8; LONG], at: usize) -> usize {
+    (spaces::byte_at(space, at) % 16) as usize
+}
+
+// Puts so many headers of a list, the first at an offset and each other at the one before it with a step added. Each points to the
+// next, and the last to a pointer of its own. The numbers are the count, the first, the step and that pointer.
+pub fn put_chain(space: &mut [u8; LONG], tokens: &Tokens) {
+    let kind = kind_of(tokens::word(tokens, 1));
+    let headers = tokens::at(tokens, 2);
+    let by = tokens::at(tokens, 4);
+    let mut at = tokens::at(tokens, 3);
+    let mut done = 1;
+    while done < headers {
+        let next = std::num::wrapping_add_usize(at, by) % 65536;
+        put_header(kind, space, at, next);
+        at = next;
+        done += 1;
+    }
+    put_header(kind, space, at, tokens::at(tokens, 5));
+}
+
+// Compatible: ID byte, next byte. Extended and trusted: ID 15:0, version 19:16, next 31:20.
+fn put_header(kind: Kind, space: &mut [u8; LONG], at: usize, next: usize) {
+    let second = std::num::wrapping_add_usize(at, 1);
+    let third = std::num::wrapping_add_usize(at, 2);
+    let fourth = std::num::wrapping_add_usize(at, 3);
+    match kind {
+        Kind::Compatible => {
+            spaces::store(space, at, 0x05);
+            spaces::store(space, second, low(next));
+        }
+        Kind::Extended | Kind::Trusted => {
+            spaces::store(space, at, 0x0b);
+            spaces::store(space, third, low(next) << 4 | 0x01);
+            spaces::store(space, fourth, low(next >> 4));
+        }
+    }
+}
+
+fn low(number: usize) -> u8 {
+    (number % 256) as u8
+}
