@@ -91,13 +91,15 @@ fn tell_changes(
 // The bytes from a place of the tokens to another.
 pub fn gather(bytes: &mut [u8], tokens: &Tokens, from: usize, to: usize) {
     let mut place = from;
-    let mut at = 0;
     while place < to {
-        if at < bytes.len() {
-            bytes[at] = tokens::byte(tokens, place);
-            at += 1;
-        }
+        set(bytes, std::num::wrapping_sub_usize(place, from), tokens::byte(tokens, place));
         place += 1;
+    }
+}
+
+fn set(bytes: &mut [u8], at: usize, byte: u8) {
+    if at < bytes.len() {
+        bytes[at] = byte;
     }
 }
 

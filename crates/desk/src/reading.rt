@@ -198,8 +198,8 @@ fn judge_body(
         return;
     }
     let start = tokens::at(tokens, std::num::wrapping_add_usize(word, 1));
-    let length = tokens::at(tokens, std::num::wrapping_add_usize(word, 2));
-    judging::number(desk, b"body's length", found.len(), length);
+    let size = tokens::at(tokens, std::num::wrapping_add_usize(word, 2));
+    judging::number(desk, b"body's length", found.len(), size);
     let mut at = 0;
     while at < found.len() {
         let place = std::num::wrapping_add_usize(start, at);

@@ -10,7 +10,6 @@ use crate::tokens;
 use crate::tokens::Tokens;
 use crate::vocabulary;
 ghost use Prim.Native.Nat.{_≤_};
-ghost use mathlib.Core.Path.{_≡_};
 ghost use Rattle.io.specs.Counts.{Counts};
 
 // A byte more than a space, so that one of another size can be lent.
@@ -53,8 +52,10 @@ pub fn store(space: &mut [u8; LONG], at: usize, byte: u8) {
     }
 }
 
-// The first place from `from` on where two spaces differ, or LONG.
-fn next_difference(one: &[u8; LONG], other: &[u8; LONG], from: usize) -> usize {
+// The first place from `from` on where two spaces differ, or LONG where they do not.
+fn next_difference(one: &[u8; LONG], other: &[u8; LONG], from: usize) -> usize
+    ensures { λ r. ⌜ from ≤ r ⌝ }
+{
     let mut at = from;
     while at < LONG {
         if one[at] != other[at] {
@@ -62,7 +63,7 @@ fn next_difference(one: &[u8; LONG], other: &[u8; LONG], from: usize) -> usize {
         }
         at += 1;
     }
-    LONG
+    at
 }
 
 // Tells every word in which two spaces differ: as it was and as it is, or as it is and as it should be. Answers how many there are.

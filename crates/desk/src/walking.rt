@@ -78,7 +78,7 @@ fn judge(
     judging::number(desk, b"count", found, stepped);
     for entry in 0..ROOM {
         if room[entry] != wanted[entry] {
-            judging::entry(desk, entry, room[entry] as usize, wanted[entry] as usize);
+            judging::entry(desk, entry, wide(room[entry]), wide(wanted[entry]));
             return;
         }
     }
@@ -136,9 +136,13 @@ fn tell(kind: Kind, space: &[u8; LONG], count: usize, room: &[u16; ROOM]) {
     put(b"\n");
     for entry in 0..ROOM {
         if entry < count {
-            tell_header(kind, space, room[entry] as usize);
+            tell_header(kind, space, wide(room[entry]));
         }
     }
+}
+
+fn wide(offset: u16) -> usize {
+    offset as usize
 }
 
 fn tell_header(kind: Kind, space: &[u8; LONG], at: usize) {

@@ -1,28 +1,28 @@
 -- `desk::packets::gather` is safe and ends. Assumes nothing.
 use borrow.Author.Needs.{needs}
-use Prim.Native.Nat.{_-_, _≤_}
+use Prim.Native.Nat.{_-_}
 use mathlib.Core.Path.{_≡_}
 use lib.ListN.{length}
 use Rattle.desk.proofs.packets.gather.Statement.{statement}
 use Rattle.desk.proofs.packets.gather.Tie as tie
 
 abbrev Inv-loop : tie.InvT-loop
-Inv-loop bytes₀ tokens from to place₀ at₀ bytes place at = (at ≤ length bytes) × (length bytes ≡ length bytes₀)
+Inv-loop bytes₀ tokens from to place₀ bytes place = length bytes ≡ length bytes₀
 
 abbrev μ-loop : tie.MeasureT-loop
-μ-loop bytes₀ tokens from to place₀ at₀ bytes place at = to - place
+μ-loop bytes₀ tokens from to place₀ bytes place = to - place
 
 loop-holds : tie.Need-loop-holds Inv-loop μ-loop
 loop-holds c = search needs
 
+wrapping-sub-usize-requires : tie.Need-wrapping-sub-usize-requires Inv-loop μ-loop
+wrapping-sub-usize-requires c κs = search needs
+
 byte-requires : tie.Need-byte-requires Inv-loop μ-loop
 byte-requires c κs = search needs
 
-slice-write-bytes : tie.Need-slice-write-bytes Inv-loop μ-loop
-slice-write-bytes c = search needs
-
-add-at : tie.Need-add-at Inv-loop μ-loop
-add-at c = search needs
+set-requires : tie.Need-set-requires Inv-loop μ-loop
+set-requires c κs = search needs
 
 add-place : tie.Need-add-place Inv-loop μ-loop
 add-place c = search needs
@@ -46,9 +46,9 @@ gather-spec =
     Inv-loop
     μ-loop
     loop-holds
+    wrapping-sub-usize-requires
     byte-requires
-    slice-write-bytes
-    add-at
+    set-requires
     add-place
     loop-less
     loop-again

@@ -1,11 +1,11 @@
 -- `desk::spaces::next_difference` is safe and ends. Assumes nothing.
 use borrow.Author.Needs.{needs}
-use Prim.Native.Nat.{_-_}
+use Prim.Native.Nat.{_-_, _≤_}
 use Rattle.desk.proofs.spaces.next_difference.Statement.{statement}
 use Rattle.desk.proofs.spaces.next_difference.Tie as tie
 
 abbrev Inv-loop : tie.InvT-loop
-Inv-loop one other from at₀ at = Unit {0}
+Inv-loop one other from at₀ at = from ≤ at
 
 abbrev μ-loop : tie.MeasureT-loop
 μ-loop one other from at₀ at = 4097 - at

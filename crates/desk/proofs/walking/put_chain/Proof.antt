@@ -10,20 +10,20 @@ Inv-loop space₀ tokens kind headers by at₀ done₀ space at done = Unit {0}
 abbrev μ-loop : tie.MeasureT-loop
 μ-loop space₀ tokens kind headers by at₀ done₀ space at done = headers - done
 
-at-requires : tie.Need-at-requires Inv-loop μ-loop
-at-requires c κs = search needs
+word-requires : tie.Need-word-requires Inv-loop μ-loop
+word-requires c κs = search needs
 
 kind-of-requires : tie.Need-kind-of-requires Inv-loop μ-loop
 kind-of-requires c κs = search needs
+
+at-requires : tie.Need-at-requires Inv-loop μ-loop
+at-requires c κs = search needs
 
 at-requires-2 : tie.Need-at-requires-2 Inv-loop μ-loop
 at-requires-2 c κs = search needs
 
 at-requires-3 : tie.Need-at-requires-3 Inv-loop μ-loop
 at-requires-3 c κs = search needs
-
-at-requires-4 : tie.Need-at-requires-4 Inv-loop μ-loop
-at-requires-4 c κs = search needs
 
 loop-holds : tie.Need-loop-holds Inv-loop μ-loop
 loop-holds c = search needs
@@ -43,8 +43,8 @@ loop-less c = search needs
 loop-again : tie.Need-loop-again Inv-loop μ-loop
 loop-again c = search needs
 
-at-requires-5 : tie.Need-at-requires-5 Inv-loop μ-loop
-at-requires-5 c κs = search needs
+at-requires-4 : tie.Need-at-requires-4 Inv-loop μ-loop
+at-requires-4 c κs = search needs
 
 put-header-requires-2 : tie.Need-put-header-requires-2 Inv-loop μ-loop
 put-header-requires-2 c κs = search needs
@@ -58,17 +58,17 @@ put-chain-spec =
     (tie.spec
     Inv-loop
     μ-loop
-    at-requires
+    word-requires
     kind-of-requires
+    at-requires
     at-requires-2
     at-requires-3
-    at-requires-4
     loop-holds
     wrapping-add-usize-requires
     put-header-requires
     add-done
     loop-less
     loop-again
-    at-requires-5
+    at-requires-4
     put-header-requires-2
     returns)

@@ -28,14 +28,14 @@ put-requires-2 c κs = search needs
 loop-holds : tie.Need-loop-holds Inv-loop μ-loop
 loop-holds c = search needs
 
-mul-tell-header : tie.Need-mul-tell-header Inv-loop μ-loop
-mul-tell-header c = search needs
+mul-wide : tie.Need-mul-wide Inv-loop μ-loop
+mul-wide c = search needs
 
-element-copy-out-tell-header : tie.Need-element-copy-out-tell-header Inv-loop μ-loop
-element-copy-out-tell-header c = search needs
+element-copy-out-wide : tie.Need-element-copy-out-wide Inv-loop μ-loop
+element-copy-out-wide c = search needs
 
-cast-tell-header : tie.Need-cast-tell-header Inv-loop μ-loop
-cast-tell-header c = search needs
+wide-requires : tie.Need-wide-requires Inv-loop μ-loop
+wide-requires c κs = search needs
 
 tell-header-requires : tie.Need-tell-header-requires Inv-loop μ-loop
 tell-header-requires c κs = search needs
@@ -64,9 +64,9 @@ tell-spec =
     slice-aggregate-put-2
     put-requires-2
     loop-holds
-    mul-tell-header
-    element-copy-out-tell-header
-    cast-tell-header
+    mul-wide
+    element-copy-out-wide
+    wide-requires
     tell-header-requires
     add-entry
     loop-less

@@ -1,0 +1,234 @@
+# The desk: strict in what it reads, an answer to every line as soon as it is there, and a status that says whether all was right.
+work=$(mktemp -d) || exit 2
+trap 'rm -rf "$work"' EXIT
+sheet=crates/desk/stdin
+
+# desk: the program, on this standard input, ended where it does not end by itself
+desk() { timeout 120 ./run desk; }
+
+# A build first, so that no time limit below counts one.
+if ! ./run desk </dev/null >"$work/out" 2>"$work/errors"; then
+    echo "FAILED desk: $(tail -n 1 "$work/errors")"
+    exit 0
+fi
+
+# answers NAME STATUS: on this standard input the desk ends with this status, and writes what stands in $work/wanted
+answers() {
+    local status
+    desk >"$work/out" 2>"$work/errors"
+    status=$?
+    if [ "$status" -ne "$2" ]; then
+        echo "FAILED desk, $1: status $status, and it wrote $(tail -n 2 "$work/out" | tr '\n' '|')"
+    elif ! cmp -s "$work/out" "$work/wanted"; then
+        echo "FAILED desk, $1: it wrote $(diff "$work/wanted" "$work/out" | sed -n 's/^> //p' | head -n 3 | tr '\n' '|')"
+    else
+        echo "ok desk, $1"
+    fi
+}
+
+# The whole sheet, and what becomes of it where one byte of one expectation is another.
+cp crates/desk/stdout "$work/wanted"
+answers "the bench sheet" 0 <"$sheet"
+line=$(grep -n -m 1 -e '-> number 0, reply' "$sheet" | cut -d : -f 1)
+sed "${line}s/reply 0A/reply 0B/" "$sheet" | desk >"$work/out" 2>&1
+status=$?
+if [ "$status" -eq 1 ] && grep -q "^line $line: not as expected: reply byte 0 is 0A, expected 0B\$" "$work/out" &&
+    [ "$(grep -c ': not as expected: ' "$work/out")" -eq 1 ]; then
+    echo "ok desk, a sheet with one wrong expectation"
+else
+    echo "FAILED desk, a sheet with one wrong expectation: status $status, $(grep -m 2 '^line' "$work/out" | tr '\n' '|')"
+fi
+
+# Lines that are not understood: each is told with its number, does nothing, and is no check.
+faulty=$work/faulty
+cat >"$faulty" <<'LINES'
+walrus compatible|'walrus' is not a statement; help lists them
+reply 0A|'reply' is not a statement; help lists them
+Packet 1B|'Packet' is not a statement; help lists them
+12|'12' is not a statement; help lists them
+-> number 0|'->' stands where a word is wanted
+packet 1B 00 0G|'0G' is no word of the desk, and no number of one to sixteen hexadecimal digits
+packet 1B 100|'100' is too large here
+packet 1B number 0|'number' stands where a number, a comma or the line's end is wanted
+packet 1B ->|the line's end stands where a word is wanted
+packet 1B -> 0|'0' stands where a word is wanted
+packet 1B -> number|the line's end stands where a number is still wanted
+packet 1B -> number 3,|the line's end stands where a word is wanted
+packet 1B -> number 3 4|'4' is a number too many
+packet 1B -> number 3, number 3|'number' is expected twice
+packet 1B -> number 3, forgotten, captured 05 03|'captured' is expected twice
+packet 1B -> captured 05 03, number 3|'captured' stands where the expected number is wanted first
+packet 1B -> number 3, offsets 040|'offsets' cannot be expected of this
+packet 1B -> number 3 -> number 3|'->' stands a second time
+packet 1B, 00|',' stands outside an expectation
+packet 1B -> number 3, ordinary FFE 01 02 03|'03' does not fit: a space ends at FFF
+ordinary FFF 01 02|'02' does not fit: a space ends at FFF
+ordinary 1000 01|'1000' is too large here
+ordinary 004|the line's end stands where a number is still wanted
+ordinary 004 -> number 0|'->' stands where a number is still wanted
+fresh -> number 0|'->' stands behind a statement that has no answer to expect
+fresh 1|'1' is a number too many
+function 100|'100' is too large here
+captured 05|the line's end stands where a number is still wanted
+walk|the line's end stands where the name of a list or a space is wanted
+walk ordinary|'ordinary' stands where the name of a list or a space is wanted
+walk 034|'034' stands where the name of a list or a space is wanted
+walk compatible extended|'extended' stands where a number, a comma or the line's end is wanted
+dvsec compatible 100|'compatible' stands where the name of a list or a space is wanted
+dvsec ordinary|the line's end stands where a number is still wanted
+merge 01 02|the line's end stands where a number is still wanted
+merge 0 0 0 0 0 0 0 0 0 0 0 0 0 -> bytes 00 00 00|the line's end stands where a number is still wanted
+A 11111111111111111|'11111111111111111' is no word of the desk, and no number of one to sixteen hexadecimal digits
+end|a sheet ends that has not begun
+LINES
+cut -d '|' -f 1 "$faulty" >"$work/in"
+awk -F '|' '{ print "line " NR ": " $2 } END { print "checks 0, as expected 0, lines not understood " NR }' "$faulty" >"$work/wanted"
+answers "lines that are not understood" 1 <"$work/in"
+
+# A number in lower case is one, blanks and comments change nothing, and a sheet from another system reads the same.
+{
+    printf 'reset -> forgotten # a comment, -> number 9\n\n   \t\n# packet\n'
+    printf 'merge 0f 0f 0f 0f f0 f0 f0 f0 a5 a5 a5 a5 0f  ->  bytes\taf af af af\r\n'
+} >"$work/in"
+printf 'as expected\nas expected\nchecks 2, as expected 2, lines not understood 0\n' >"$work/wanted"
+answers "lower case, blanks, comments" 0 <"$work/in"
+
+# A sheet that breaks off, inside a line or between two.
+half=$(($(wc -c <"$sheet") / 2))
+for cut in "$half" $((half + 7)); do
+    head -c "$cut" "$sheet" | desk >"$work/out" 2>&1
+    status=$?
+    if [ "$status" -eq 1 ] && grep -q '^line [0-9]*: the sheet has no end: was it cut?$' "$work/out"; then
+        echo "ok desk, a sheet cut after $cut bytes"
+    else
+        echo "FAILED desk, a sheet cut after $cut bytes: status $status, $(tail -n 1 "$work/out")"
+    fi
+done
+printf 'ok\nline 2: a sheet begins before the last one has ended\nok\nchecks 0, as expected 0, lines not understood 1\n' >"$work/wanted"
+printf 'sheet\nsheet\nend\n' | answers "a sheet within a sheet" 1
+
+# Every number of every expectation counts: one that is another is noticed.
+cat >"$work/right" <<'LINES'
+packet 44 00 00 01 01 00 07 0F 05 18 00 04 11 22 33 44 -> number 0, reply 0A 00 00 00 05 18 00 04 01 00 07 00, captured 05 03, ordinary 004 11 22 33 44
+packet 04 00 00 01 01 00 08 0F 05 18 00 04 -> number 0, reply 4A 00 00 01 06 20 00 04 01 00 08 00 51 51 51 51
+packet 5B 00 00 01 01 00 08 0F 06 20 00 10 01 02 03 04 -> number 0, reply 0A 00 00 00 06 20 00 04 01 00 08 00, trusted 010 01 02 03 04
+packet 1B -> number 3
+packet 44 00 00 01 01 00 07 00 07 28 00 04 11 22 33 44 -> number 0, reply 0A 00 00 00 07 28 00 04 01 00 07 00, captured 07 05
+merge 0F 0F 0F 0F F0 F0 F0 F0 A5 A5 A5 A5 0F -> bytes AF AF AF AF
+walk extended -> number 0, offsets 100 104 108
+walk extended -> number 0, steps 3 100 4
+walk compatible -> number 0
+dvsec ordinary 200 -> number 0, header 1EC0 3 2 C, body 20A 2
+dual ordinary 040 -> number 0, alternate 6 5
+LINES
+# what stands before each of them
+setting='open
+captured 06 04
+chain extended 3 100 4 0
+ordinary 200 23 00 01 00 C0 1E C3 00 02 00 B0 B1 B2
+ordinary 006 00
+ordinary 040 09 00 0C 01 C0 1E C0 00 02 00 40 05'
+# wrong FILE: for each number behind an arrow, its line with that number made another
+wrong() {
+    awk '{
+        count = split($0, word, " ")
+        for (i = 1; i <= count && word[i] != "->"; i++);
+        for (i++; i <= count; i++) {
+            if (word[i] !~ /^[0-9A-F]+,?$/) continue
+            line = ""
+            for (j = 1; j <= count; j++) line = line (j > 1 ? " " : "") (j == i ? other(word[j]) : word[j])
+            print line
+        }
+    }
+    function other(number,   comma, last) {
+        comma = sub(/,$/, "", number) ? "," : ""
+        last = substr(number, length(number))
+        return substr(number, 1, length(number) - 1) (last == "5" ? "6" : "5") comma
+    }' "$1"
+}
+# asked FILE: each line on a board of its own
+asked() { while IFS= read -r asked_line; do printf '%s\n%s\n' "$setting" "$asked_line"; done <"$1"; }
+asked "$work/right" | desk >"$work/out" 2>&1
+status=$?
+rights=$(wc -l <"$work/right")
+if [ "$status" -eq 0 ] && [ "$(tail -n 1 "$work/out")" = "checks $rights, as expected $rights, lines not understood 0" ]; then
+    echo "ok desk, one expectation of each kind"
+else
+    echo "FAILED desk, one expectation of each kind: $(grep -v '^ok\|^as' "$work/out" | head -n 3 | tr '\n' '|')"
+fi
+wrong "$work/right" >"$work/wrong"
+wrongs=$(wc -l <"$work/wrong")
+asked "$work/wrong" | desk >"$work/out" 2>&1
+if [ "$wrongs" -gt 90 ] && [ "$(tail -n 1 "$work/out")" = "checks $wrongs, as expected 0, lines not understood 0" ]; then
+    echo "ok desk, $wrongs expectations with one number wrong"
+else
+    echo "FAILED desk, $wrongs expectations with one number wrong: $(tail -n 1 "$work/out")"
+fi
+# And every clause: one that is left out is noticed.
+sed -n 's/^\(.* -> .*\), [a-z]* [0-9A-F ]*$/\1/p' "$work/right" >"$work/short"
+shorts=$(wc -l <"$work/short")
+asked "$work/short" | desk >"$work/out" 2>&1
+if [ "$shorts" -ge 8 ] && [ "$(tail -n 1 "$work/out")" = "checks $shorts, as expected 0, lines not understood 0" ]; then
+    echo "ok desk, $shorts expectations without their last clause"
+else
+    echo "FAILED desk, $shorts expectations without their last clause: $(tail -n 1 "$work/out")"
+fi
+
+# The language that `help` lists is the language: each of its words is one, and each word of the desk stands in it.
+echo help | desk 2>&1 | tr -c 'A-Za-z-' '\n' | sort -u >"$work/help"
+sed -n 's/^ *if is(text, b"\([a-zA-Z-]*\)") {$/\1/p' crates/desk/src/vocabulary.rt | grep -v '^->$' | sort -u >"$work/words"
+absent=$(comm -13 "$work/help" "$work/words" | tr '\n' ' ')
+if [ -s "$work/words" ] && [ -z "$absent" ]; then echo "ok desk, help has each of its $(wc -l <"$work/words") words"; else echo "FAILED desk, help lacks: $absent"; fi
+
+# Each line is answered before the next is sent.
+mkfifo "$work/to" "$work/from"
+timeout 60 ./run desk <"$work/to" >"$work/from" 2>"$work/errors" &
+exec 3>"$work/to" 4<"$work/from"
+echo 'reset -> forgotten' >&3
+IFS= read -r -t 30 first <&4
+echo 'function 7' >&3
+IFS= read -r -t 30 second <&4
+exec 3>&-
+IFS= read -r -t 30 last <&4
+exec 4<&-
+wait
+if [ "$first|$second|$last" = "as expected|ok|checks 1, as expected 1, lines not understood 0" ]; then
+    echo "ok desk, an answer to each line at once"
+else
+    echo "FAILED desk, an answer to each line at once: $first|$second|$last"
+fi
+
+# No line end at the end: nothing is lost.
+printf 'as expected\nchecks 1, as expected 1, lines not understood 0\n' >"$work/wanted"
+printf 'reset -> forgotten' | answers "no line end at the end" 0
+
+# Lines of any length: the longest that is read, one longer, a million characters, and many words; the next line is read again.
+printf 'line 2: longer than 4,000 characters; none of it is read\nas expected\nline 4: longer than 4,000 characters; none of it is read\nline 5: more than 128 words and numbers; none of it is read\nas expected\nline 7: longer than 4,000 characters; none of it is read\nchecks 2, as expected 2, lines not understood 4\n' >"$work/wanted"
+{
+    printf '%3999s\n' '' && printf '%4000s\n' ''
+    echo 'reset -> forgotten'
+    head -c 1000000 /dev/zero | tr '\0' 'a' && echo
+    printf 'packet' && printf ' 00%.0s' {1..200} && echo
+    echo 'reset -> forgotten'
+    printf '%5000s' ''
+} | answers "lines of any length" 1
+
+# Binary noise: an answer for every line that says anything, and an end.
+head -c 300000 target/bin/desk | desk >"$work/out" 2>&1
+status=$?
+if [ "$status" -eq 1 ] && tail -n 1 "$work/out" | grep -q '^checks 0, as expected 0, lines not understood [1-9][0-9]*$' &&
+    ! LC_ALL=C grep -q '[^ -~]' "$work/out"; then
+    echo "ok desk, binary noise"
+else
+    echo "FAILED desk, binary noise: status $status, $(tail -n 1 "$work/out" | tr -c ' -~' '?')"
+fi
+
+# 100,000 lines, and somebody who stops reading.
+yes 'reset -> forgotten' | head -n 100000 >"$work/in"
+{ yes 'as expected' | head -n 100000 && echo 'checks 100000, as expected 100000, lines not understood 0'; } >"$work/wanted"
+answers "100,000 lines" 0 <"$work/in"
+first=$(yes 'reset -> forgotten' | timeout 60 ./run desk 2>"$work/errors" | head -n 1)
+if [ "$first" = 'as expected' ] && [ ! -s "$work/errors" ]; then echo "ok desk, a pipe that nobody reads on"; else echo "FAILED desk, a pipe that nobody reads on: $first, $(head -n 1 "$work/errors")"; fi
+if [ -w /dev/full ]; then
+    if echo help | desk >/dev/full 2>"$work/errors"; then echo "FAILED desk, output that is not taken: status 0"; else echo "ok desk, output that is not taken"; fi
+fi
