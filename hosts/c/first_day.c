@@ -16,5 +16,6 @@ int main(void)
     walks();
     records();
     helpers();
+    overlaps();
     return failed_groups() == 0 ? 0 : 1;
 }

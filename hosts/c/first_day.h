@@ -7,5 +7,6 @@ void captures(void);
 void walks(void);
 void records(void);
 void helpers(void);
+void overlaps(void);
 
 #endif

@@ -52,10 +52,11 @@ static void guards_hold(size_t at)
     expect(memcmp(held.after, guards, sizeof guards) == 0, "something was written after the answer", at);
 }
 
-/* The completion is these bytes, and zeros past them. */
+/* The completion is these bytes, and FFh past them: where there is none, in all of it. */
 static void completion_is(const uint8_t *bytes, size_t length, size_t at)
 {
-    uint8_t whole[THAWRIBBON_REPLY] = {0};
+    uint8_t whole[THAWRIBBON_REPLY];
+    memset(whole, 0xFF, sizeof whole);
     if (length != 0) {
         memcpy(whole, bytes, length);
     }

@@ -1,4 +1,4 @@
-/* The three lists through thawribbon_walk_..: P12, the longest chains, broken ones, and every length of space and room. */
+/* The three lists through thawribbon_walk_..: P12, the longest chains, broken ones, every length of space and room; and headers. */
 #include "first_day.h"
 
 #include "buffers.h"
@@ -11,14 +11,15 @@ enum { LISTS = 3 };
 
 typedef struct list {
     thawribbon_walked (*walk)(const uint8_t *, size_t, uint16_t *, size_t);
+    thawribbon_header (*header)(const uint8_t *, size_t, size_t);
     size_t maximum;
     uint16_t floor, end;
 } list;
 
 static const list lists[LISTS] = {
-    {thawribbon_walk_compatible, THAWRIBBON_COMPATIBLE_MAXIMUM, 0x040, 0x100},
-    {thawribbon_walk_extended, THAWRIBBON_EXTENDED_MAXIMUM, 0x100, 0x1000},
-    {thawribbon_walk_trusted, THAWRIBBON_TRUSTED_MAXIMUM, 0x008, 0x1000},
+    {thawribbon_walk_compatible, thawribbon_header_compatible, THAWRIBBON_COMPATIBLE_MAXIMUM, 0x040, 0x100},
+    {thawribbon_walk_extended, thawribbon_header_extended, THAWRIBBON_EXTENDED_MAXIMUM, 0x100, 0x1000},
+    {thawribbon_walk_trusted, thawribbon_header_trusted, THAWRIBBON_TRUSTED_MAXIMUM, 0x008, 0x1000},
 };
 
 static buffer space;
@@ -177,6 +178,55 @@ static void walk_nothing(void)
     }
 }
 
+static void header_is(size_t which, size_t at, unsigned offset, unsigned id, unsigned version)
+{
+    const thawribbon_header header = lists[which].header(lent(&space), space.length, at);
+    expect(header.offset == offset && header.id == id && header.version == version, "another header", at);
+    expect(is_as_expected(&space), "the space has changed", at);
+}
+
+/* The header at every offset of a space whose bytes differ, and nothing past it: also far past it. */
+static void walk_headers(void)
+{
+    size_t which, at, bit;
+    fill(&space, 0x00, THAWRIBBON_SPACE);
+    for (at = 0; at < THAWRIBBON_SPACE; at++) {
+        lent(&space)[at] = (uint8_t)(at * 7 + at / 256);
+    }
+    remember(&space);
+    for (which = 0; which < LISTS; which++) {
+        for (at = 0; at <= 0xFFC; at++) {
+            const uint8_t *word = lent(&space) + at;
+            header_is(which, at, (unsigned)at, which == 0 ? word[0] : word[0] + 256U * word[1], which == 0 ? 0 : word[2] % 16U);
+        }
+        for (at = 0xFFD; at <= 0x1004; at++) {
+            header_is(which, at, 0, 0, 0);
+        }
+        for (bit = 12; bit < 64; bit++) {
+            header_is(which, ((size_t)1 << bit) + 0x100, 0, 0, 0);
+        }
+        header_is(which, SIZE_MAX, 0, 0, 0);
+    }
+}
+
+/* No header of a space of another length. */
+static void walk_header_lengths(void)
+{
+    size_t which, n;
+    for (which = 0; which < LISTS; which++) {
+        for (n = 0; n < LENGTHS; n++) {
+            size_t length = tried_length(n);
+            int whole = length == THAWRIBBON_SPACE;
+            fill(&space, 0x23, length);
+            remember(&space);
+            header_is(which, 0x100, whole ? 0x100 : 0, whole ? (which == 0 ? 0x23 : 0x2323) : 0, whole && which != 0 ? 3 : 0);
+        }
+        lend_instead(&space, NULL);
+        remember(&space);
+        header_is(which, 0x000, 0, 0, 0);
+    }
+}
+
 void walks(void)
 {
     group("P12", p12);
@@ -186,4 +236,6 @@ void walks(void)
     group("walks, broken chains", walk_broken);
     group("walks, empty lists", walk_empty);
     group("walks, NULL and other pointers with length 0", walk_nothing);
+    group("headers, at every offset", walk_headers);
+    group("headers, spaces of every length", walk_header_lengths);
 }

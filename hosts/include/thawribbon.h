@@ -1,7 +1,24 @@
 /*
  * thawribbon.h: a board's answers to configuration packets, the three capability lists, and two records.
  *
- * Document 01 of the project fixes what every function answers; its words are used here. Numbers ending in h are hexadecimal.
+ * Document 01 of the project fixes what every function answers; its words are used here. The rules stand in docs/RULES.md of the
+ * project, each with its number: "rule 4.1" is one of them. Numbers ending in h are hexadecimal.
+ *
+ * The packet that has to land is a trusted write. A board takes it only when a Type 0 write has told it its bus and device number. Done is
+ * not landed: a write that is done has changed only the bits that the rules of the space let it change. So read it back, and compare:
+ *
+ *     int renew(thawribbon_board *board, const uint8_t type0_write[16], const uint8_t trusted_write[16], const uint8_t trusted_read[12])
+ *     {
+ *         thawribbon_answer answer;
+ *         const uint8_t *data;
+ *         if (thawribbon_board_serve(board, type0_write, 16, &answer) != THAWRIBBON_DONE ||
+ *             thawribbon_board_serve(board, trusted_write, 16, &answer) != THAWRIBBON_DONE ||
+ *             thawribbon_board_serve(board, trusted_read, 12, &answer) != THAWRIBBON_DONE) {
+ *             return 0;
+ *         }
+ *         data = thawribbon_data(&answer);
+ *         return data != NULL && memcmp(data, trusted_write + THAWRIBBON_DATA, 4) == 0;
+ *     }
  *
  * There are two parts. The first declares the functions of libthawribbon.a, which are compiled from proved code. The second, from
  * "Helpers" on, is inline C over them, tried and not proved: a board in one struct, what became of a packet, and texts. A program that
@@ -13,8 +30,9 @@
  * What the caller owes:
  * - A buffer is a pointer and a length, and that many bytes (for a list room, that many numbers) are really there. With length 0 the
  *   pointer is never followed and may be anything, NULL included.
- * - A buffer that is written (ordinary, trusted, reply, room) overlaps no other buffer of the same call. Buffers that are only read
- *   may overlap each other, or be the same.
+ * - A buffer that is written (ordinary, trusted, reply, room; of the helpers, the board and the answer with its completion) overlaps
+ *   no other buffer of the same call. Buffers that are only read may overlap each other, or be the same. thawribbon_board_serve looks
+ *   at this itself, and answers 1.
  * - While a call runs, no other thread writes to its buffers, or reads those that it writes.
  *
  * Nothing is kept: no function stores a pointer, allocates, or has a state of its own. What a board has captured goes in and comes back
@@ -49,7 +67,8 @@ extern "C" {
 enum thawribbon_number {
     /* served; the completion may still say Unsupported Request (UR) */
     THAWRIBBON_SERVED = 0,
-    /* a space or rule space isn't 4,096 bytes, a captured device is over 31, or a function number or offset is outside its range */
+    /* a space or rule space isn't 4,096 bytes, a captured device is over 31, a function number or A or B is outside its range, or a record
+       is asked for where none may stand (rule 2.2) */
     THAWRIBBON_BAD_DESCRIPTION = 1,
     /* the reply is under 16 bytes, or the list room is under the list's maximum */
     THAWRIBBON_NO_ROOM = 2,
@@ -75,12 +94,27 @@ enum thawribbon_number {
 #define THAWRIBBON_SPACE 4096
 /* The bytes that a reply must have; 12 or 16 of them are written. */
 #define THAWRIBBON_REPLY 16
-/* Where a completion has its data, if it has 16 bytes. */
+/* Where four data bytes are: in a packet that writes, and in a completion of 16 bytes. */
 #define THAWRIBBON_DATA 12
-/* Byte 6 of a completion, its status byte: the access was done, or it is an Unsupported Request and was not. */
+/* Byte 0 of a packet, without its bit 7: the six type codes that are served (rule 3.2). */
+#define THAWRIBBON_TYPE0_READ 0x04
+#define THAWRIBBON_TYPE0_WRITE 0x44
+#define THAWRIBBON_TYPE1_READ 0x05
+#define THAWRIBBON_TYPE1_WRITE 0x45
+#define THAWRIBBON_TRUSTED_READ 0x1B
+#define THAWRIBBON_TRUSTED_WRITE 0x5B
+/*
+ * Byte 6 of a completion, its status byte: the access was done, or it is an Unsupported Request (UR), and was not. UR is answered to these
+ * five, and to nothing else (rule 4.1); poison on a read is ignored (rule 4.2):
+ * - a Type 1 request
+ * - a Type 0 request for another function
+ * - a trusted request while nothing is captured
+ * - a trusted request that does not name the captured bus and device and the board's own function
+ * - a poisoned write
+ */
 #define THAWRIBBON_STATUS 6
-#define THAWRIBBON_SUCCESS 0x00
-#define THAWRIBBON_UNSUPPORTED 0x20
+#define THAWRIBBON_STATUS_SUCCESSFUL 0x00
+#define THAWRIBBON_STATUS_UNSUPPORTED 0x20
 /* The most offsets that each list can have, so the numbers that its room must have. */
 #define THAWRIBBON_COMPATIBLE_MAXIMUM 48
 #define THAWRIBBON_EXTENDED_MAXIMUM 960
@@ -145,7 +179,7 @@ typedef struct thawribbon_alternate {
  * Takes the board's description, what it has captured (kept), its two spaces, which an access may change, their rules, the packet, and
  * the reply to write into. The lowest number that applies is given:
  *   0  served. `length` bytes of the reply are the completion, and those past them stay as lent. Its byte 6 is 00h where the access was
- *      done, and 20h where it is an Unsupported Request: then nothing but the reply has changed. The spaces are as document 01 says,
+ *      done, and 20h where it is an Unsupported Request: then nothing but the reply has changed. The spaces are as the rules say,
  *      and `capture` is to be kept for the next packet: {0, 0, 0} while nothing is captured, else {1, bus, device}.
  *   1  the ordinary or trusted space or one of the rule spaces isn't 4,096 bytes, the captured device is over 31, the function number is
  *      over 7, or a or b is outside its range.
@@ -219,8 +253,8 @@ THAWRIBBON_MUST_USE thawribbon_dvsec_header thawribbon_dvsec(const uint8_t *spac
  * Tells where the register body of the DVSEC record at an offset lies: from space + start, which is at + 0Ah, `length` bytes, which is
  * DVSEC Length - 0Ah.
  *
- * Takes what thawribbon_dvsec takes, and is refused in the same cases, by {0, 0}; thawribbon_dvsec gives the number. A record that is
- * nothing but its header has length 0 and a start that is not 0. The space is only read.
+ * Takes what thawribbon_dvsec takes, and is refused in the same cases, by {0, 0}; thawribbon_dvsec gives the number. The start tells a
+ * refusal from a record that is nothing but its header, whose body is empty: that one's start is not 0. The space is only read.
  */
 THAWRIBBON_MUST_USE thawribbon_part thawribbon_dvsec_body(const uint8_t *space, size_t space_length, size_t at);
 
@@ -245,7 +279,8 @@ typedef struct thawribbon_bytes {
     uint8_t at[THAWRIBBON_SPACE];
 } thawribbon_bytes;
 
-/* A space and its rules, lent to a board. One that is NULL counts as a buffer without bytes: answer 1. */
+/* A space and its rules, lent to a board. One that is NULL counts as a buffer without bytes: answer 1. So do all, where one that is
+ * written overlaps another. */
 typedef struct thawribbon_space {
     thawribbon_bytes *bytes;       /* what accesses read and write */
     const thawribbon_bytes *rules; /* a bit that is 1 marks a bit that can be written; spaces may have the same rules */
@@ -283,7 +318,7 @@ typedef struct thawribbon_answer {
     thawribbon_outcome outcome;
     uint8_t number;                       /* why it is refused: 1, or 3 to 6; 0 where it is not */
     size_t length;                        /* the bytes of the completion: 12 or 16; 0 where refused */
-    uint8_t completion[THAWRIBBON_REPLY]; /* what goes back to the requester, also an Unsupported Request; 00h past its length */
+    uint8_t completion[THAWRIBBON_REPLY]; /* what goes back to the requester, also an Unsupported Request; FFh past its length */
 } thawribbon_answer;
 
 /* The capture of a fresh board. */
@@ -293,13 +328,13 @@ THAWRIBBON_MUST_USE static inline thawribbon_capture thawribbon_fresh(void)
     return nothing;
 }
 
-/* What became of a packet, by what thawribbon_serve gave and the reply that it was lent. */
+/* What became of a packet, by what thawribbon_serve gave and the reply that it was lent. Only status 00h says that it was done. */
 THAWRIBBON_MUST_USE static inline thawribbon_outcome thawribbon_outcome_of(thawribbon_served served, const uint8_t *reply)
 {
     if (served.number != THAWRIBBON_SERVED) {
         return THAWRIBBON_REFUSED;
     }
-    return reply[THAWRIBBON_STATUS] == THAWRIBBON_SUCCESS ? THAWRIBBON_DONE : THAWRIBBON_UNSUPPORTED_REQUEST;
+    return reply[THAWRIBBON_STATUS] == THAWRIBBON_STATUS_SUCCESSFUL ? THAWRIBBON_DONE : THAWRIBBON_UNSUPPORTED_REQUEST;
 }
 
 /* A board's buffers on their way to thawribbon_serve: those that are written, those that are read, and how long they are. */
@@ -318,32 +353,73 @@ static inline size_t thawribbon_bytes_length(const thawribbon_bytes *bytes)
     return bytes == NULL ? 0 : sizeof bytes->at;
 }
 
+/* Whether two buffers, of a byte each at least, have one in common. A difference below 0 is a very large number here. */
+static inline int thawribbon_overlap(const void *one, size_t one_length, const void *other, size_t other_length)
+{
+    return (uintptr_t)one - (uintptr_t)other + (one_length - 1) < one_length + other_length - 1;
+}
+
+/* Whether a buffer overlaps a space or its rules. */
+static inline int thawribbon_overlap_space(const void *one, size_t one_length, thawribbon_space space)
+{
+    return thawribbon_overlap(one, one_length, space.bytes, THAWRIBBON_SPACE) |
+           thawribbon_overlap(one, one_length, space.rules, THAWRIBBON_SPACE);
+}
+
+/* Whether what thawribbon_board_serve writes (spaces, board, answer) overlaps anything that it is lent: eighteen comparisons. NULL counts as
+ * 4,096 bytes here, which changes nothing: it is answered 1 in any case. */
+static inline int thawribbon_board_overlaps(const thawribbon_board *board, const uint8_t *packet, size_t packet_length,
+                                            const thawribbon_answer *answer)
+{
+    const thawribbon_space ordinary = board->ordinary, trusted = board->trusted;
+    const int spaces = thawribbon_overlap(ordinary.bytes, THAWRIBBON_SPACE, ordinary.rules, THAWRIBBON_SPACE) |
+                       thawribbon_overlap(trusted.bytes, THAWRIBBON_SPACE, ordinary.rules, THAWRIBBON_SPACE) |
+                       thawribbon_overlap(trusted.bytes, THAWRIBBON_SPACE, trusted.rules, THAWRIBBON_SPACE) |
+                       thawribbon_overlap_space(ordinary.bytes, THAWRIBBON_SPACE, trusted);
+    const int structs = thawribbon_overlap_space(board, sizeof *board, ordinary) |
+                        thawribbon_overlap_space(board, sizeof *board, trusted) |
+                        thawribbon_overlap_space(answer, sizeof *answer, ordinary) |
+                        thawribbon_overlap_space(answer, sizeof *answer, trusted) |
+                        thawribbon_overlap(board, sizeof *board, answer, sizeof *answer);
+    const int packets = packet_length != 0 && (thawribbon_overlap(packet, packet_length, ordinary.bytes, THAWRIBBON_SPACE) |
+                                               thawribbon_overlap(packet, packet_length, trusted.bytes, THAWRIBBON_SPACE) |
+                                               thawribbon_overlap(packet, packet_length, board, sizeof *board) |
+                                               thawribbon_overlap(packet, packet_length, answer, sizeof *answer));
+    return spaces | structs | packets;
+}
+
 /*
  * Has a board answer a packet, and keeps what it captures: thawribbon_serve over a board.
  *
  * Gives what became of the packet, and sets every member of the answer. Only THAWRIBBON_DONE means that the access was done. The completion
- * goes back to the requester in both cases that have one, THAWRIBBON_DONE and THAWRIBBON_UNSUPPORTED_REQUEST. The packet may be any
- * bytes of any length; the board and the answer are not NULL.
+ * goes back to the requester in both cases that have one, THAWRIBBON_DONE and THAWRIBBON_UNSUPPORTED_REQUEST; where refused, it is FFh
+ * throughout. The packet may be any bytes of any length; the board and the answer are not NULL.
+ *
+ * Where a space, the board or the answer overlaps another buffer, no space is lent to thawribbon_serve: it answers 1, and nothing is
+ * written but the answer.
  */
 THAWRIBBON_MUST_USE static inline thawribbon_outcome thawribbon_board_serve(thawribbon_board *board,
                                                                             const uint8_t *packet, size_t packet_length,
                                                                             thawribbon_answer *answer)
 {
-    static const thawribbon_answer none = {THAWRIBBON_REFUSED, 0, 0, {0}};
-    const thawribbon_space ordinary = board->ordinary, trusted = board->trusted;
-    thawribbon_served served;
-    *answer = none;
-    served = thawribbon_serve(board->description, board->capture,
-                              thawribbon_bytes_written(ordinary.bytes), thawribbon_bytes_length(ordinary.bytes),
-                              thawribbon_bytes_read(ordinary.rules), thawribbon_bytes_length(ordinary.rules),
-                              thawribbon_bytes_written(trusted.bytes), thawribbon_bytes_length(trusted.bytes),
-                              thawribbon_bytes_read(trusted.rules), thawribbon_bytes_length(trusted.rules),
-                              packet, packet_length, answer->completion, sizeof answer->completion);
+    const thawribbon_space nothing = {NULL, NULL};
+    const int overlaps = thawribbon_board_overlaps(board, packet, packet_length, answer);
+    const thawribbon_space ordinary = overlaps ? nothing : board->ordinary, trusted = overlaps ? nothing : board->trusted;
+    thawribbon_answer given = {THAWRIBBON_REFUSED, 0, 0,
+                               {0xFF, 0xFF, 0xFF, 0xFF, 0xFF, 0xFF, 0xFF, 0xFF, 0xFF, 0xFF, 0xFF, 0xFF, 0xFF, 0xFF, 0xFF, 0xFF}};
+    const thawribbon_served served =
+        thawribbon_serve(board->description, board->capture,
+                         thawribbon_bytes_written(ordinary.bytes), thawribbon_bytes_length(ordinary.bytes),
+                         thawribbon_bytes_read(ordinary.rules), thawribbon_bytes_length(ordinary.rules),
+                         thawribbon_bytes_written(trusted.bytes), thawribbon_bytes_length(trusted.bytes),
+                         thawribbon_bytes_read(trusted.rules), thawribbon_bytes_length(trusted.rules),
+                         packet, packet_length, given.completion, sizeof given.completion);
     board->capture = served.capture;
-    answer->number = served.number;
-    answer->length = served.length;
-    answer->outcome = thawribbon_outcome_of(served, answer->completion);
-    return answer->outcome;
+    given.number = served.number;
+    given.length = served.length;
+    given.outcome = thawribbon_outcome_of(served, given.completion);
+    *answer = given; /* last, since it may lie in the board */
+    return given.outcome;
 }
 
 /* Resets a board: forgets what it has captured, and changes no byte. */
@@ -365,8 +441,8 @@ THAWRIBBON_MUST_USE static inline const char *thawribbon_text(unsigned number)
     case THAWRIBBON_SERVED:
         return "served, though the completion may say Unsupported Request";
     case THAWRIBBON_BAD_DESCRIPTION:
-        return "a space or rule space is not 4,096 bytes, a captured device is over 31, "
-               "or a function number or offset is outside its range";
+        return "a space or rule space is not 4,096 bytes or overlaps what is written, a captured device is over 31, "
+               "a function number or A or B is outside its range, or a record is asked for where none may stand";
     case THAWRIBBON_NO_ROOM:
         return "the reply is under 16 bytes, or the list room is under the list's maximum";
     case THAWRIBBON_SHORT_PACKET:
@@ -393,15 +469,49 @@ THAWRIBBON_MUST_USE static inline const char *thawribbon_text(unsigned number)
 /* What became of a packet, in words. */
 THAWRIBBON_MUST_USE static inline const char *thawribbon_answer_text(const thawribbon_answer *answer)
 {
-    switch (answer->outcome) {
-    case THAWRIBBON_DONE:
-        return "the access was done";
-    case THAWRIBBON_UNSUPPORTED_REQUEST:
-        return "Unsupported Request: the access was not done";
-    case THAWRIBBON_REFUSED:
+    if (answer->outcome == THAWRIBBON_REFUSED) {
         return thawribbon_text(answer->number);
     }
-    return "no answer of a board";
+    return answer->outcome == THAWRIBBON_DONE ? "the access was done" : "Unsupported Request: the access was not done";
+}
+
+/* A header of a list: where it is, and what it says it is. */
+typedef struct thawribbon_header {
+    uint16_t offset;
+    uint16_t id;     /* a byte in the compatible list, bits 15:0 in the others */
+    uint8_t version; /* bits 19:16; 0 in the compatible list, whose headers have none */
+} thawribbon_header;
+
+/*
+ * The header of the extended list at an offset that thawribbon_walk_extended listed.
+ *
+ * Takes the space and the offset, which may be any number. Where the space isn't 4,096 bytes, or the offset is over FFCh, every member is
+ * 0. The space is only read. The next two do the same for the other two lists.
+ */
+THAWRIBBON_MUST_USE static inline thawribbon_header thawribbon_header_extended(const uint8_t *space, size_t space_length, size_t at)
+{
+    thawribbon_header header = {0, 0, 0};
+    if (space_length == THAWRIBBON_SPACE && at <= THAWRIBBON_SPACE - 4) {
+        header.offset = (uint16_t)at;
+        header.id = (uint16_t)(space[at] | space[at + 1] << 8);
+        header.version = (uint8_t)(space[at + 2] & 0x0F);
+    }
+    return header;
+}
+
+/* The header of the trusted list at an offset that thawribbon_walk_trusted listed. */
+THAWRIBBON_MUST_USE static inline thawribbon_header thawribbon_header_trusted(const uint8_t *space, size_t space_length, size_t at)
+{
+    return thawribbon_header_extended(space, space_length, at);
+}
+
+/* The header of the compatible list at an offset that thawribbon_walk_compatible listed. */
+THAWRIBBON_MUST_USE static inline thawribbon_header thawribbon_header_compatible(const uint8_t *space, size_t space_length, size_t at)
+{
+    thawribbon_header header = thawribbon_header_extended(space, space_length, at);
+    header.id = (uint16_t)(header.id & 0xFF);
+    header.version = 0;
+    return header;
 }
 
 #ifdef __cplusplus

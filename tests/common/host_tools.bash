@@ -3,7 +3,7 @@ unset THAWRIBBON_LIBRARY
 export LC_ALL=C # what compilers say is looked at
 built=target/library
 archive=$built/libthawribbon.a
-warnings=(-Wall -Wextra -Wpedantic -Wconversion -Wshadow -Werror)
+warnings=(-Wall -Wextra -Wpedantic -Wconversion -Wshadow -Wswitch-default -Werror)
 c=(-std=c99 "${warnings[@]}" -Wstrict-prototypes)
 cpp=(-std=c++17 "${warnings[@]}")
 work=$(mktemp -d) || exit 2

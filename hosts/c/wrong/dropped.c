@@ -21,5 +21,8 @@ void drop(thawribbon_board *board, thawribbon_answer *answer, const uint8_t *byt
     thawribbon_data(answer);                                                                                             /* dropped */
     thawribbon_text(1);                                                                                                  /* dropped */
     thawribbon_answer_text(answer);                                                                                      /* dropped */
+    thawribbon_header_compatible(bytes, 16, 0x040);                                                                      /* dropped */
+    thawribbon_header_extended(bytes, 16, 0x100);                                                                        /* dropped */
+    thawribbon_header_trusted(bytes, 16, 0x008);                                                                         /* dropped */
     thawribbon_board_reset(board);
 }

@@ -1,5 +1,6 @@
 //! A board: its description, what it has captured, its two spaces and their rules, and its answers to packets.
 
+use crate::Offset;
 use crate::completion::{Completion, Status};
 use crate::constants::REPLY;
 use crate::not_done::NotDone;
@@ -15,9 +16,9 @@ pub struct Description {
     /// The board's function number, 0 to 7.
     pub function: u8,
     /// A, the ordinary place of the Device Correlation word: a multiple of 4 from 104h to FFCh.
-    pub a: u32,
+    pub a: Offset,
     /// B, its trusted place: a multiple of 4 from 00Ch to FFCh.
-    pub b: u32,
+    pub b: Offset,
 }
 
 /// The captured bus and device number. A board that has captured none has `None` in its place.
@@ -91,8 +92,8 @@ impl<'a> Board<'a> {
 
     /// Answers a packet: does the access, and gives the completion.
     ///
-    /// `Ok` means that the access was done: a write has changed what its enables and the rules let it change. So `?`
-    /// stops at a write that was not made.
+    /// `Ok` means that the access was done, and `?` stops at a write that was not. Done is not landed: a write has
+    /// changed what its enables and the rules let it change, which may be nothing. A read tells.
     ///
     /// ```
     /// use thawribbon::{Board, Capture, Description, Id, NotDone, Refusal, SPACE, Space, Status};
@@ -123,16 +124,19 @@ impl<'a> Board<'a> {
     /// # Ok::<(), NotDone>(())
     /// ```
     ///
-    /// A program that stands on the bus sends a completion back in both cases that have one:
+    /// A program that stands on the bus sends a completion back in both cases that have one. It drops a packet that is
+    /// none, and ends where the board is badly described, for such a board answers nothing:
     ///
     /// ```
-    /// use thawribbon::{Board, NotDone};
+    /// use thawribbon::{Board, NotDone, Refusal};
     ///
-    /// fn answer(board: &mut Board, packet: &[u8], send: impl Fn(&[u8])) {
+    /// fn answer(board: &mut Board, packet: &[u8], send: impl Fn(&[u8])) -> Result<(), Refusal> {
     ///     match board.serve(packet) {
     ///         Ok(completion) | Err(NotDone::Unsupported(completion)) => send(completion.bytes()),
+    ///         Err(NotDone::Refused(refusal)) if refusal == Refusal::BadDescription => return Err(refusal),
     ///         Err(NotDone::Refused(refusal)) => eprintln!("dropped a packet: {refusal}"),
     ///     }
+    ///     Ok(())
     /// }
     /// ```
     ///
@@ -141,9 +145,13 @@ impl<'a> Board<'a> {
     ///
     /// # Errors
     ///
-    /// [`NotDone::Unsupported`]: the answer is Unsupported Request, and nothing has changed. It is given for a Type 1
-    /// request, a Type 0 request for another function, a trusted request while nothing is captured or for another bus,
-    /// device or function than the captured two and the board's own, and a poisoned write.
+    /// [`NotDone::Unsupported`]: the answer is Unsupported Request, and nothing has changed. It is given to these five:
+    ///
+    /// - a Type 1 request
+    /// - a Type 0 request for another function
+    /// - a trusted request while nothing is captured
+    /// - a trusted request that does not name the captured bus and device and the board's own function
+    /// - a poisoned write
     ///
     /// [`NotDone::Refused`], with the lowest of these that applies; nothing has changed.
     ///
@@ -207,8 +215,8 @@ impl<'a> Board<'a> {
 fn described(description: Description) -> raw::Description {
     raw::Description {
         function: description.function,
-        a: description.a,
-        b: description.b,
+        a: description.a.into(),
+        b: description.b.into(),
     }
 }
 

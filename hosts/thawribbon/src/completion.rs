@@ -1,6 +1,6 @@
 //! A board's completion, taken apart: whether the access was done, its data, who answers whom, and the bytes themselves.
 
-use crate::constants::{DATA, REPLY, STATUS, SUCCESS, UNSUPPORTED};
+use crate::constants::{DATA, REPLY, STATUS, STATUS_SUCCESSFUL};
 use std::fmt;
 
 /// What the status byte of a completion says.
@@ -59,25 +59,16 @@ pub struct Completion {
 
 impl Completion {
     /// The completion that was written at the beginning of a reply.
-    ///
-    /// # Panics
-    ///
-    /// Where the status byte is none of document 01's two. The library of this crate writes no other.
     #[inline]
     pub(crate) fn written(reply: [u8; REPLY], length: usize) -> Self {
-        let status = reply[STATUS];
-        assert!(
-            status == SUCCESS || status == UNSUPPORTED,
-            "libthawribbon.a wrote the status {status:02X}h, which document 01 does not have"
-        );
         Completion { reply, length }
     }
 
-    /// Whether the access was done.
+    /// Whether the access was done. Only status byte 00h says so; as in C, any other says that it was not.
     #[must_use]
     #[inline]
     pub fn status(&self) -> Status {
-        if self.reply[STATUS] == SUCCESS {
+        if self.reply[STATUS] == STATUS_SUCCESSFUL {
             Status::Successful
         } else {
             Status::Unsupported
@@ -137,21 +128,21 @@ impl fmt::Debug for Completion {
 mod tests {
     use super::{Completion, Status};
 
-    fn with_status(status: u8) -> Completion {
-        let mut reply = [0; 16];
-        reply[6] = status;
-        Completion::written(reply, 12)
-    }
-
     #[test]
-    fn a_status_is_one_of_two() {
-        assert_eq!(with_status(0x00).status(), Status::Successful);
-        assert_eq!(with_status(0x20).status(), Status::Unsupported);
-    }
-
-    #[test]
-    #[should_panic(expected = "wrote the status 40h")]
-    fn a_status_that_document_01_does_not_have_is_neither() {
-        with_status(0x40);
+    fn only_status_00h_says_that_it_was_done() {
+        for status in 0..=255 {
+            let mut reply = [0; 16];
+            reply[6] = status;
+            let expected = if status == 0x00 {
+                Status::Successful
+            } else {
+                Status::Unsupported
+            };
+            assert_eq!(
+                Completion::written(reply, 12).status(),
+                expected,
+                "status {status:02X}h"
+            );
+        }
     }
 }

@@ -9,17 +9,35 @@ pub const SPACE: usize = 4096;
 /// The bytes that a reply must have; 12 or 16 of them are written.
 pub const REPLY: usize = 16;
 
-/// Where a completion has its four data bytes, if it has 16 bytes.
+/// Where four data bytes are: in a packet that writes, and in a completion of 16 bytes.
 pub const DATA: usize = 12;
+
+/// Byte 0 of a Type 0 read. Its bit 7, as that of the next five, is ignored.
+pub const TYPE0_READ: u8 = 0x04;
+
+/// Byte 0 of a Type 0 write.
+pub const TYPE0_WRITE: u8 = 0x44;
+
+/// Byte 0 of a Type 1 read.
+pub const TYPE1_READ: u8 = 0x05;
+
+/// Byte 0 of a Type 1 write.
+pub const TYPE1_WRITE: u8 = 0x45;
+
+/// Byte 0 of a trusted read.
+pub const TRUSTED_READ: u8 = 0x1B;
+
+/// Byte 0 of a trusted write.
+pub const TRUSTED_WRITE: u8 = 0x5B;
 
 /// Where a completion has its status byte.
 pub const STATUS: usize = 6;
 
 /// The status byte where the access was done.
-pub const SUCCESS: u8 = 0x00;
+pub const STATUS_SUCCESSFUL: u8 = 0x00;
 
 /// The status byte of an Unsupported Request: the access was not done.
-pub const UNSUPPORTED: u8 = 0x20;
+pub const STATUS_UNSUPPORTED: u8 = 0x20;
 
 /// The most offsets that a compatible list can have.
 pub const COMPATIBLE_MAXIMUM: usize = 48;

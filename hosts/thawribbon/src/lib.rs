@@ -1,8 +1,9 @@
 //! A board's answers to configuration packets, the three capability lists, and two records, by the proved code of
 //! libthawribbon.a.
 //!
-//! Document 01 of the project fixes what every function answers, and its words are used here. Any bytes, of any length,
-//! get an answer. After a [`Refusal`] no lent byte and no capture has changed.
+//! Document 01 of the project fixes what every function answers, and its words are used here; the rules stand in
+//! docs/RULES.md of the project. Any bytes, of any length, get an answer. After a [`Refusal`] no lent byte and no capture
+//! has changed.
 //!
 //! | You want to | Use |
 //! |---|---|
@@ -11,12 +12,14 @@
 //! | read a record | [`dvsec`], [`dvsec_body`], [`dual_bdf`] |
 //! | have the functions of thawribbon.h as they are | [`raw`] |
 //!
-//! # A write that must land
+//! # A trusted write that must land
 //!
-//! `?` stops at whatever was not done: a packet that was refused, and one that was answered Unsupported Request.
+//! A board takes a trusted write only when a Type 0 write has told it its bus and device number. `?` stops at whatever was
+//! not done: a packet that was refused, and one that was answered Unsupported Request. Done is not landed: a write that is
+//! done has changed only the bits that the rules let it change. So it is read back, and compared.
 //!
 //! ```
-//! use thawribbon::{Board, Description, NotDone, SPACE, Space};
+//! use thawribbon::{Board, DATA, Description, NotDone, SPACE, Space, TRUSTED_READ, TRUSTED_WRITE, TYPE0_WRITE};
 //!
 //! fn main() -> Result<(), NotDone> {
 //!     let (mut ordinary, mut trusted, rules) = ([0; SPACE], [0; SPACE], [0xFF; SPACE]);
@@ -25,9 +28,14 @@
 //!         Space { bytes: &mut ordinary, rules: &rules },
 //!         Space { bytes: &mut trusted, rules: &rules },
 //!     );
-//!     let write = [0x44, 0x00, 0x00, 0x01, 0x01, 0x00, 0x07, 0x0F, 0x05, 0x18, 0x00, 0x04, 0x11, 0x22, 0x33, 0x44];
-//!     board.serve(&write)?;
-//!     assert_eq!(board.ordinary.bytes[0x004..0x008], [0x11, 0x22, 0x33, 0x44]);
+//!     let type0_write = [TYPE0_WRITE, 0, 0, 1, 1, 0, 6, 0x00, 0x05, 0x18, 0, 0x10, 0, 0, 0, 0];
+//!     let trusted_write = [TRUSTED_WRITE, 0, 0, 1, 1, 0, 7, 0x0F, 0x05, 0x18, 0, 0x10, 0x11, 0x22, 0x33, 0x44];
+//!     let trusted_read = [TRUSTED_READ, 0, 0, 1, 1, 0, 8, 0x0F, 0x05, 0x18, 0, 0x10];
+//!
+//!     board.serve(&type0_write)?;
+//!     board.serve(&trusted_write)?;
+//!     let landed = board.serve(&trusted_read)?.bytes()[DATA..] == trusted_write[DATA..];
+//!     assert!(landed);
 //!     Ok(())
 //! }
 //! ```
@@ -91,9 +99,15 @@ mod refusal;
 pub use board::{Board, Capture, Description, Space};
 pub use completion::{Completion, Id, Status};
 pub use constants::{
-    COMPATIBLE_MAXIMUM, DATA, EXTENDED_MAXIMUM, REPLY, SPACE, STATUS, SUCCESS, TRUSTED_MAXIMUM, UNSUPPORTED, VERSION,
+    COMPATIBLE_MAXIMUM, DATA, EXTENDED_MAXIMUM, REPLY, SPACE, STATUS, STATUS_SUCCESSFUL, STATUS_UNSUPPORTED,
+    TRUSTED_MAXIMUM, TRUSTED_READ, TRUSTED_WRITE, TYPE0_READ, TYPE0_WRITE, TYPE1_READ, TYPE1_WRITE, VERSION,
 };
 pub use lists::{Header, List, chain, headers, walk};
 pub use not_done::NotDone;
 pub use records::{Alternate, Dvsec, dual_bdf, dvsec, dvsec_body};
 pub use refusal::Refusal;
+
+/// An offset in a space, wherever this crate takes or gives one.
+///
+/// Any number may be given: a function that takes one refuses those outside its range. Those of a space end at FFFh.
+pub type Offset = u16;

@@ -1,5 +1,6 @@
 //! The three capability lists, as the offsets of their headers, and as the headers.
 
+use crate::Offset;
 use crate::constants::{COMPATIBLE_MAXIMUM, EXTENDED_MAXIMUM, TRUSTED_MAXIMUM};
 use crate::raw;
 use crate::refusal::{Refusal, served};
@@ -49,7 +50,7 @@ impl List {
 #[derive(Clone, Copy, Debug, PartialEq, Eq, Hash)]
 pub struct Header {
     /// The offset in the space, as [`dvsec`](crate::dvsec) and [`dual_bdf`](crate::dual_bdf) take it.
-    pub offset: usize,
+    pub offset: Offset,
     /// The ID: a byte in the compatible list, bits 15:0 in the others.
     pub id: u16,
     /// The version, bits 19:16; a header of the compatible list has none.
@@ -58,9 +59,8 @@ pub struct Header {
 
 impl Header {
     /// The header at an offset that a walk of the space gave.
-    fn read(list: List, space: &[u8], offset: u16) -> Self {
-        let offset = usize::from(offset);
-        let header = &space[offset..];
+    fn read(list: List, space: &[u8], offset: Offset) -> Self {
+        let header = &space[usize::from(offset)..];
         match list {
             List::Compatible => Header {
                 offset,
@@ -116,7 +116,7 @@ impl fmt::Display for Header {
 /// - [`Refusal::NoRoom`]: the room has fewer numbers than [`List::maximum`], also where the chain is shorter.
 /// - [`Refusal::BrokenChain`]: no finite legal chain leads from the start to an end.
 #[inline]
-pub fn walk<'r>(list: List, space: &[u8], room: &'r mut [u16]) -> Result<&'r [u16], Refusal> {
+pub fn walk<'r>(list: List, space: &[u8], room: &'r mut [Offset]) -> Result<&'r [Offset], Refusal> {
     let answer = match list {
         List::Compatible => raw::walk_compatible(space, room),
         List::Extended => raw::walk_extended(space, room),
@@ -147,9 +147,9 @@ pub fn walk<'r>(list: List, space: &[u8], room: &'r mut [u16]) -> Result<&'r [u1
 /// # Errors
 ///
 /// [`Refusal::BadDescription`] and [`Refusal::BrokenChain`], as [`walk`] gives them.
-pub fn chain(list: List, space: &[u8]) -> Result<Vec<u16>, Refusal> {
+pub fn chain(list: List, space: &[u8]) -> Result<Vec<Offset>, Refusal> {
     let mut room = [0; TRUSTED_MAXIMUM];
-    walk(list, space, &mut room).map(<[u16]>::to_vec)
+    walk(list, space, &mut room).map(<[Offset]>::to_vec)
 }
 
 /// The headers of a list's legal chain, in order: offset, ID and version.

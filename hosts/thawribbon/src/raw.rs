@@ -2,7 +2,8 @@
 //! each holds here.
 //!
 //! Of these, only [`serve`] writes into a reply that is lent, and its number 0 does not say that the access was done:
-//! byte 6 of the reply does, which is [`SUCCESS`](crate::SUCCESS) or [`UNSUPPORTED`](crate::UNSUPPORTED).
+//! byte 6 of the reply does, which is [`STATUS_SUCCESSFUL`](crate::STATUS_SUCCESSFUL) or
+//! [`STATUS_UNSUPPORTED`](crate::STATUS_UNSUPPORTED).
 //!
 //! Every function is safe to call: a slice has the pointer and the length that C passes by hand, and the functions take
 //! any length. This is the one module with `unsafe` in it. The structs are laid out as C lays them out, and are held to

@@ -1,5 +1,6 @@
 //! The two records: DVSEC, which answers two questions, and Dual-BDF.
 
+use crate::Offset;
 use crate::raw;
 use crate::refusal::{Refusal, served};
 
@@ -47,8 +48,8 @@ pub struct Alternate {
 /// - [`Refusal::OtherStructure`]: the ID isn't 0023h, or the version isn't 1h.
 /// - [`Refusal::WrongExtent`]: fewer than 0Ah bytes are left, or DVSEC Length is under 0Ah or ends past 1000h.
 #[inline]
-pub fn dvsec(space: &[u8], at: usize) -> Result<Dvsec, Refusal> {
-    let answer = raw::dvsec(space, at);
+pub fn dvsec(space: &[u8], at: Offset) -> Result<Dvsec, Refusal> {
+    let answer = raw::dvsec(space, at.into());
     served(answer.number)?;
     Ok(Dvsec {
         vendor: answer.vendor,
@@ -60,7 +61,8 @@ pub fn dvsec(space: &[u8], at: usize) -> Result<Dvsec, Refusal> {
 
 /// The register body of the DVSEC record at an offset, as it lies in the space: from +0Ah to the length.
 ///
-/// Empty where [`dvsec`] refuses, and also where the record is nothing but its header; [`dvsec`] tells which.
+/// `None` where [`dvsec`] refuses, which gives the number. A record that is nothing but its header has a body, and it is
+/// empty. In C a start that is 0 tells the first from the second.
 ///
 /// ```
 /// use thawribbon::dvsec_body;
@@ -69,15 +71,15 @@ pub fn dvsec(space: &[u8], at: usize) -> Result<Dvsec, Refusal> {
 /// let mut space = [0; 4096];
 /// space[0x100..0x10A].copy_from_slice(&[0x23, 0x00, 0x01, 0x00, 0xC0, 0x1E, 0x00, 0x01, 0x02, 0x00]);
 /// space[0x10A..0x110].copy_from_slice(&[1, 2, 3, 4, 5, 6]);
-/// assert_eq!(dvsec_body(&space, 0x100), [1, 2, 3, 4, 5, 6]);
+/// assert_eq!(dvsec_body(&space, 0x100), Some(&[1, 2, 3, 4, 5, 6][..]));
 ///
-/// assert_eq!(dvsec_body(&space, 0x104), []);
+/// assert_eq!(dvsec_body(&space, 0x104), None);
 /// ```
 #[must_use]
 #[inline]
-pub fn dvsec_body(space: &[u8], at: usize) -> &[u8] {
-    let part = raw::dvsec_body(space, at);
-    &space[part.start..][..part.length]
+pub fn dvsec_body(space: &[u8], at: Offset) -> Option<&[u8]> {
+    let part = raw::dvsec_body(space, at.into());
+    (part.start != 0).then(|| &space[part.start..][..part.length])
 }
 
 /// Reads the Dual-BDF record at an offset of a space of 4,096 bytes.
@@ -106,8 +108,8 @@ pub fn dvsec_body(space: &[u8], at: usize) -> &[u8] {
 ///   with ID 0002h.
 /// - [`Refusal::NotOneFunction`]: the function vector hasn't exactly one bit set.
 #[inline]
-pub fn dual_bdf(space: &[u8], at: usize) -> Result<Alternate, Refusal> {
-    let answer = raw::dual_bdf(space, at);
+pub fn dual_bdf(space: &[u8], at: Offset) -> Result<Alternate, Refusal> {
+    let answer = raw::dual_bdf(space, at.into());
     served(answer.number)?;
     Ok(Alternate {
         function: answer.function,

@@ -11,8 +11,8 @@ use std::fmt;
 #[non_exhaustive]
 #[repr(u8)]
 pub enum Refusal {
-    /// A space or rule space isn't 4,096 bytes, a captured device is over 31, or a function number or offset is outside
-    /// its range.
+    /// A space or rule space isn't 4,096 bytes, a captured device is over 31, a function number or A or B is outside its
+    /// range, or a record is asked for where none may stand.
     BadDescription = 1,
     /// The reply is under 16 bytes, or the list room is under the list's maximum.
     NoRoom,
@@ -73,8 +73,8 @@ impl Refusal {
     pub const fn text(self) -> &'static str {
         match self {
             Refusal::BadDescription => {
-                "a space or rule space is not 4,096 bytes, a captured device is over 31, \
-                 or a function number or offset is outside its range"
+                "a space or rule space is not 4,096 bytes or overlaps what is written, a captured device is over 31, \
+                 a function number or A or B is outside its range, or a record is asked for where none may stand"
             }
             Refusal::NoRoom => "the reply is under 16 bytes, or the list room is under the list's maximum",
             Refusal::ShortPacket => "the packet has fewer than 12 bytes",

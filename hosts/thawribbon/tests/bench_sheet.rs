@@ -110,7 +110,7 @@ fn p11_dvsec() {
             length: 0x10
         })
     );
-    let body = dvsec_body(&space, 0x100);
+    let body = dvsec_body(&space, 0x100).expect("a body");
     assert_eq!(body, [1, 2, 3, 4, 5, 6]);
     assert_eq!(
         body.as_ptr_range(),

@@ -37,6 +37,11 @@ fn defined() -> BTreeMap<&'static str, &'static str> {
         .collect()
 }
 
+/// A byte as the header writes it.
+fn hex(byte: u8) -> String {
+    format!("0x{byte:02X}")
+}
+
 #[test]
 fn the_constants_are_those_of_the_header() {
     let version = format!("\"{}\"", thawribbon::VERSION);
@@ -49,8 +54,14 @@ fn the_constants_are_those_of_the_header() {
         ("REPLY", &thawribbon::REPLY.to_string()),
         ("DATA", &thawribbon::DATA.to_string()),
         ("STATUS", &thawribbon::STATUS.to_string()),
-        ("SUCCESS", &format!("0x{:02X}", thawribbon::SUCCESS)),
-        ("UNSUPPORTED", &format!("0x{:02X}", thawribbon::UNSUPPORTED)),
+        ("STATUS_SUCCESSFUL", &hex(thawribbon::STATUS_SUCCESSFUL)),
+        ("STATUS_UNSUPPORTED", &hex(thawribbon::STATUS_UNSUPPORTED)),
+        ("TYPE0_READ", &hex(thawribbon::TYPE0_READ)),
+        ("TYPE0_WRITE", &hex(thawribbon::TYPE0_WRITE)),
+        ("TYPE1_READ", &hex(thawribbon::TYPE1_READ)),
+        ("TYPE1_WRITE", &hex(thawribbon::TYPE1_WRITE)),
+        ("TRUSTED_READ", &hex(thawribbon::TRUSTED_READ)),
+        ("TRUSTED_WRITE", &hex(thawribbon::TRUSTED_WRITE)),
         ("COMPATIBLE_MAXIMUM", &thawribbon::COMPATIBLE_MAXIMUM.to_string()),
         ("EXTENDED_MAXIMUM", &thawribbon::EXTENDED_MAXIMUM.to_string()),
         ("TRUSTED_MAXIMUM", &thawribbon::TRUSTED_MAXIMUM.to_string()),

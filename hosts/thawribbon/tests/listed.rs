@@ -4,7 +4,7 @@
 mod common;
 
 use common::{LISTS, SPACE, chained, floor};
-use thawribbon::{Header, List, Refusal, chain, headers};
+use thawribbon::{Header, List, Offset, Refusal, chain, headers};
 
 /// The longest chain of a list, over words whose ID and version differ from one to the next.
 fn longest(list: List) -> Vec<u8> {
@@ -28,16 +28,16 @@ fn every_header_has_its_id_and_version() {
         let listed = headers(list, &longest(list)).expect("a legal chain");
         assert_eq!(listed.len(), list.maximum());
         for (place, header) in listed.into_iter().enumerate() {
-            let offset = floor(list) + 4 * place;
+            let offset = (floor(list) + 4 * place) as Offset;
             let expected = match list {
                 List::Compatible => Header {
                     offset,
-                    id: (offset / 4) as u16,
+                    id: offset / 4,
                     version: None,
                 },
                 List::Extended | List::Trusted => Header {
                     offset,
-                    id: offset as u16 ^ 0x5AA5,
+                    id: offset ^ 0x5AA5,
                     version: Some((offset / 4 % 16) as u8),
                 },
             };
@@ -50,13 +50,9 @@ fn every_header_has_its_id_and_version() {
 fn the_offsets_are_those_of_the_chain() {
     for list in LISTS {
         for space in [longest(list), vec![0; SPACE]] {
-            let offsets: Vec<usize> = headers(list, &space)
-                .expect("a chain")
-                .iter()
-                .map(|header| header.offset)
-                .collect();
-            let plain = chain(list, &space).expect("the same chain");
-            assert_eq!(offsets, plain.into_iter().map(usize::from).collect::<Vec<_>>());
+            let listed = headers(list, &space).expect("a chain");
+            let offsets: Vec<Offset> = listed.iter().map(|header| header.offset).collect();
+            assert_eq!(Ok(offsets), chain(list, &space));
         }
     }
 }

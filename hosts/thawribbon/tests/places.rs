@@ -4,7 +4,7 @@
 mod common;
 
 use common::{Bench, DUAL_BDF, DVSEC, SPACE, TRUSTED_READ};
-use thawribbon::{Alternate, Capture, Dvsec, Refusal, dual_bdf, dvsec, dvsec_body, raw};
+use thawribbon::{Alternate, Capture, Dvsec, Offset, Refusal, dual_bdf, dvsec, dvsec_body, raw};
 
 /// Offsets whose lower bits name a record, if upper ones are dropped, and those at the ends of the number types.
 fn far_offsets() -> impl Iterator<Item = usize> {
@@ -32,8 +32,6 @@ fn a_dvsec_is_asked_for_at_multiples_of_4_from_100h_to_ffch() {
     for at in far_offsets() {
         assert_eq!(raw::dvsec(&space, at), raw::Dvsec { number: 1, ..none }, "at {at:X}h");
         assert_eq!(raw::dvsec_body(&space, at), raw::Part::default());
-        assert_eq!(dvsec(&space, at), Err(Refusal::BadDescription));
-        assert_eq!(dvsec_body(&space, at), []);
     }
 }
 
@@ -60,7 +58,23 @@ fn a_dual_bdf_is_asked_for_at_multiples_of_4_from_040h_to_0fch() {
             raw::Alternate { number: 1, ..none },
             "at {at:X}h"
         );
-        assert_eq!(dual_bdf(&space, at), Err(Refusal::BadDescription));
+    }
+}
+
+#[test]
+fn every_offset_is_answered_as_raw_answers_it() {
+    let mut space = vec![0; SPACE];
+    space[0x040..0x04C].copy_from_slice(&DUAL_BDF);
+    space[0x100..0x10A].copy_from_slice(&DVSEC);
+    for at in 0..=Offset::MAX {
+        let plain = usize::from(at);
+        let header = raw::dvsec(&space, plain);
+        let body = raw::dvsec_body(&space, plain);
+        assert_eq!(dvsec(&space, at).map_or_else(Refusal::number, |_| 0), header.number);
+        assert_eq!(dvsec_body(&space, at).map_or(0, <[u8]>::len), body.length, "at {at:X}h");
+        assert_eq!(dvsec_body(&space, at).is_some(), header.number == 0, "at {at:X}h");
+        let number = raw::dual_bdf(&space, plain).number;
+        assert_eq!(dual_bdf(&space, at).map_or_else(Refusal::number, |_| 0), number);
     }
 }
 
@@ -87,16 +101,18 @@ fn found(space: &[u8], at: usize, length: usize) {
         id: 0x0002,
         length: length as u16,
     };
-    assert_eq!(dvsec(space, at), Ok(header), "{length:X}h bytes at {at:X}h");
+    let offset = at as Offset;
+    assert_eq!(dvsec(space, offset), Ok(header), "{length:X}h bytes at {at:X}h");
     let body = &space[at + 0x00A..at + length];
-    assert_eq!(dvsec_body(space, at).as_ptr_range(), body.as_ptr_range());
+    let given = dvsec_body(space, offset).expect("a body, also an empty one");
+    assert_eq!(given.as_ptr_range(), body.as_ptr_range());
 }
 
 /// The record is refused with 9, and nothing else is told.
 fn refused(space: &[u8], at: usize, length: usize) {
     let why = format!("{length:X}h bytes at {at:X}h");
-    assert_eq!(dvsec(space, at), Err(Refusal::WrongExtent), "{why}");
-    assert_eq!(dvsec_body(space, at), []);
+    assert_eq!(dvsec(space, at as Offset), Err(Refusal::WrongExtent), "{why}");
+    assert_eq!(dvsec_body(space, at as Offset), None);
     let nothing_else = raw::Dvsec {
         number: 9,
         ..raw::Dvsec::default()
@@ -131,7 +147,7 @@ fn a_dual_bdf_ends_by_100h() {
         } else {
             Err(Refusal::WrongExtent)
         };
-        assert_eq!(dual_bdf(&space, at), answer, "at {at:X}h");
+        assert_eq!(dual_bdf(&space, at as Offset), answer, "at {at:X}h");
     }
 }
 

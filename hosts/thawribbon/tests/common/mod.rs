@@ -5,7 +5,7 @@
 
 use std::fmt::Debug;
 use std::hint::black_box;
-use thawribbon::{Board, Capture, Completion, Description, List, NotDone, Refusal, Space, Status, raw, walk};
+use thawribbon::{Board, Capture, Completion, Description, List, NotDone, Offset, Refusal, Space, Status, raw, walk};
 
 pub use thawribbon::SPACE;
 
@@ -103,7 +103,7 @@ pub fn room(length: usize) -> Lent<u16> {
 /// A board, a packet and a reply, each buffer with guards.
 #[derive(Clone)]
 pub struct Bench {
-    pub description: Description,
+    pub description: raw::Description,
     pub kept: raw::Capture,
     pub ordinary: Lent<u8>,
     pub ordinary_rules: Lent<u8>,
@@ -118,7 +118,7 @@ impl Bench {
     /// 00. All other bytes tell the spaces apart.
     pub fn fresh() -> Self {
         let mut bench = Bench {
-            description: Description {
+            description: raw::Description {
                 function: 0,
                 a: 0x104,
                 b: 0x00C,
@@ -186,13 +186,8 @@ impl Bench {
     /// expected.
     fn serve(&mut self) -> raw::Served {
         let mut other = self.clone();
-        let description = self.description;
         let served = raw::serve(
-            raw::Description {
-                function: description.function,
-                a: description.a,
-                b: description.b,
-            },
+            self.description,
             self.kept,
             self.ordinary.part_mut(),
             self.ordinary_rules.part(),
@@ -202,17 +197,17 @@ impl Bench {
             self.reply.part_mut(),
         );
         self.check();
-        // A board has a reply of its own, so it is never refused with 2.
-        if served.number != 2 {
-            other.serves_alike(served, &self.reply.part()[..served.length]);
+        // A board has a reply of its own, so it is never refused with 2; and only C can name a place that is no `Offset`.
+        if let (Some(description), true) = (safe(self.description), served.number != 2) {
+            other.serves_alike(description, served, &self.reply.part()[..served.length]);
         }
         served
     }
 
     /// `Board::serve` does what `raw::serve` has done: the same answer, the same capture, the same bytes.
-    fn serves_alike(&mut self, served: raw::Served, reply: &[u8]) {
+    fn serves_alike(&mut self, description: Description, served: raw::Served, reply: &[u8]) {
         let mut board = Board {
-            description: self.description,
+            description,
             capture: option(self.kept),
             ordinary: Space {
                 bytes: self.ordinary.part_mut(),
@@ -261,6 +256,15 @@ pub fn is_completion(completion: &Completion, status: Status, bytes: &[u8]) {
         assert_eq!((id.bus, id.device * 8 + id.function), (bus, rest));
         assert!(id.device <= 31 && id.function <= 7);
     }
+}
+
+/// A description as Rust says it, if it can.
+fn safe(description: raw::Description) -> Option<Description> {
+    Some(Description {
+        function: description.function,
+        a: description.a.try_into().ok()?,
+        b: description.b.try_into().ok()?,
+    })
 }
 
 /// A capture as Rust says it.
@@ -316,14 +320,14 @@ pub fn walked(list: List, space: &[u8], room_length: usize, offsets: &[usize]) -
     let space = lent(space);
     let mut room = room(room_length);
     let mut other = room.clone();
-    let numbers: Vec<u16> = offsets.iter().map(|&at| at as u16).collect();
+    let numbers: Vec<Offset> = offsets.iter().map(|&at| at as Offset).collect();
     let answer = match list {
         List::Compatible => raw::walk_compatible(space.part(), room.part_mut()),
         List::Extended => raw::walk_extended(space.part(), room.part_mut()),
         List::Trusted => raw::walk_trusted(space.part(), room.part_mut()),
     };
     let safe = walk(list, space.part(), other.part_mut())
-        .map(<[u16]>::to_vec)
+        .map(<[Offset]>::to_vec)
         .map_err(Refusal::number);
     assert_eq!(
         safe,
