@@ -66,6 +66,12 @@ refuses 'a line of the dump that is indented' "$(edited '50s/^/ /')" 'line 51: 3
 refuses 'words in between' "$(edited '50iWARNING: Cannot show hex-dump of the config space')" 'line 50: this is no line of a dump'
 cat $dump $dump >"$work/dump"
 refuses 'two devices' "$work/dump" 'line 259: a second device'
+sed 1d $dump | cat - $dump >"$work/dump"
+refuses 'two devices, the first without its heading' "$work/dump" 'line 258: a second device'
+refuses 'a heading inside the dump' "$(edited '100i04:00.0 Ethernet controller: Intel')" 'line 100: a new device begins inside the dump'
+refuses 'a heading inside a dump that has none before it' "$(edited '1{h;d;};100{p;x;}')" 'line 100: a new device begins inside the dump'
+refuses 'a heading behind a dump that has none before it' "$(edited '1{h;d;};257G')" 'line 257: a second device'
+refuses 'two headings' "$(edited 1p)" 'line 2: a second device'
 refuses 'a space as bytes' samples/document01.space 'bytes 00h'
 { sed '$d' $dump && printf 'ff0: 00 00 00 00 00 00 00 00 00 00 00 00 00 00 00 00\000\n'; } >"$work/dump"
 refuses 'a byte 00h in a line' "$work/dump" 'bytes 00h'

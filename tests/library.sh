@@ -3,7 +3,7 @@
 # the archive that the kit itself writes. Where a tool is missing, what needs it is skipped, or failed where CI is set.
 . tests/common/host_tools.bash
 page=docs/LIBRARY.md
-least=45
+least=50
 here=$(uname -m)-unknown-linux-gnu
 
 # needs ARCHIVE: what the page says the archive needs of the C library
@@ -56,24 +56,36 @@ in_c() {
         first_day "first_day on $(uname -m), by the kit's clang" "$work/first_day"
 }
 
+# cpp_runs NAME FILE TEXT: a C++ program compiles with both compilers, and prints what the file TEXT holds
+cpp_runs() {
+    try "$1 compiles with c++" c++ "${cpp[@]}" -I "$built" "$2" "$archive" -o "$work/cpp" &&
+        prints "$1 runs, by c++" "$3" "$work/cpp" &&
+        try "$1 compiles with the kit's clang" kit_clang c++ "$here" "${cpp[@]}" -fPIE -I "$built" -c "$2" -o "$work/cpp.o" &&
+        try "$1 links with what the kit's clang made" c++ "$work/cpp.o" "$archive" -o "$work/cpp" &&
+        prints "$1 runs, by the kit's clang" "$3" "$work/cpp"
+}
+
 in_cpp() {
+    local n ran=0
     if ! command -v c++ >"$work/log"; then
         missing 'thawribbon.h is C++17' c++
         return
     fi
     echo "ok with thawribbon $(cat VERSION)" >"$work/expected"
-    try 'board.cpp compiles with c++' c++ "${cpp[@]}" -I "$built" hosts/c/board.cpp "$archive" -o "$work/board" &&
-        prints 'board.cpp runs, by c++' "$work/expected" "$work/board"
-    try "board.cpp compiles with the kit's clang" kit_clang c++ "$here" "${cpp[@]}" -fPIE -I "$built" -c hosts/c/board.cpp -o "$work/board.o" &&
-        try "board.cpp links with what the kit's clang made" c++ "$work/board.o" "$archive" -o "$work/board" &&
-        prints "board.cpp runs, by the kit's clang" "$work/expected" "$work/board"
+    cpp_runs board.cpp hosts/c/board.cpp "$work/expected"
+    for ((n = 1; n <= $(blocks $page cpp); n++)); do
+        fenced $page cpp $n >"$work/page.cpp"
+        printed $page cpp $n >"$work/page.text"
+        cpp_runs "C++ program $n of $page" "$work/page.cpp" "$work/page.text" && ran=$((ran + 1))
+    done
+    all_run $page cpp $ran
 }
 
-# warned NAME COMMAND..: each dropped answer of hosts/c/wrong/dropped.c is warned of
+# warned NAME COMMAND..: each dropped answer of hosts/c/wrong/dropped.c is warned of, and each function that gives one is dropped there
 warned() {
     local name=$1 wanted found
     shift
-    wanted=$(grep -c '/\* dropped \*/' hosts/c/wrong/dropped.c)
+    wanted=$(grep -c '^THAWRIBBON_MUST_USE ' "$built/thawribbon.h")
     found=$("$@" -std=c99 -Wall -I "$built" -c hosts/c/wrong/dropped.c -o "$work/dropped.o" 2>&1 | grep -c 'warning: .*warn_unused_result')
     if [ "$wanted" -gt 10 ] && [ "$found" -eq "$wanted" ]; then
         echo "ok $name warns of all $wanted answers that are dropped"
@@ -93,17 +105,61 @@ mistakes_are_seen() {
 
 # The C programs of the page, and what it says that they print.
 page_in_c() {
-    local n
-    for n in 1 2; do
+    local n ran=0
+    for ((n = 1; n <= $(blocks $page c); n++)); do
         fenced $page c $n >"$work/page.c"
-        fenced $page text $n >"$work/page.text"
+        printed $page c $n >"$work/page.text"
         try "C program $n of $page compiles" cc "${c[@]}" -I "$built" "$work/page.c" "$archive" -o "$work/page" &&
-            prints "C program $n of $page prints what it says" "$work/page.text" "$work/page"
+            prints "C program $n of $page prints what it says" "$work/page.text" "$work/page" && ran=$((ran + 1))
     done
-    # Without its write, the first one has to notice.
-    fenced $page c 1 | sed 's/thawribbon_board_serve(&board, write, sizeof write, &answer)/(write[0] ? THAWRIBBON_DONE : THAWRIBBON_REFUSED)/' >"$work/page.c"
-    try "C program 1 of $page compiles without its write" cc "${c[@]}" -I "$built" "$work/page.c" "$archive" -o "$work/page" &&
-        ends "C program 1 of $page notices that it was not done" 1 'not done: Unsupported Request: the access was not done' "$work/page"
+    all_run $page c $ran
+}
+
+# other_page_c NAME N SCRIPT TEXT: the page's N-th C program, changed by sed, ends with 1 and this text
+other_page_c() {
+    fenced $page c "$2" | sed "$3" >"$work/page.c"
+    if fenced $page c "$2" | cmp -s - "$work/page.c"; then echo "FAILED $1: nothing was changed"; fi
+    try "C program $2 of $page compiles, changed" cc "${c[@]}" -I "$built" "$work/page.c" "$archive" -o "$work/page" &&
+        ends "$1" 1 "$4" "$work/page"
+}
+
+# What is wrong, the programs of the page notice.
+page_notices() {
+    other_page_c "C program 1 of $page notices that it was not done" 1 's/6, 0x00, 0x05, 0x18/6, 0x00, 0x05, 0x19/' \
+        'not done: Unsupported Request: the access was not done'
+    other_page_c "C program 1 of $page notices that it has not landed" 1 's/\[0x010\] = 0xFF/[0x010] = 0xF0/' 'done, and not landed'
+    other_page_c "C program 2 of $page stops at a board that is badly described" 2 's/\.function = 0/.function = 8/' 'dropped a packet: a space or rule space'
+    if [ "$(wc -l <"$work/log")" -ne 1 ]; then echo "FAILED C program 2 of $page goes on with a board that is badly described"; fi
+}
+
+# The example at the top of the header.
+header_example() {
+    { printf '#include <string.h>\n#include "thawribbon.h"\n' && sed -n '1,/\*\//s/^ \*     //p' "$built/thawribbon.h"; } >"$work/renew.c"
+    cat hosts/c/example/renew.c >>"$work/renew.c"
+    echo 010 >"$work/expected"
+    try 'the example of thawribbon.h compiles' cc "${c[@]}" -I "$built" "$work/renew.c" "$archive" -o "$work/renew" &&
+        prints 'the example of thawribbon.h tells what has landed' "$work/expected" "$work/renew"
+}
+
+# rule N: the row of docs/RULES.md
+rule() { grep -F "| $1 |" docs/RULES.md; }
+
+# header_and_rules: the rules that the header names are there; its type codes and its causes of UR, also the crate's, are those of the rules
+header_and_rules() {
+    local number code cause causes bad=0
+    for number in $(grep -oE 'rule [0-9]+\.[0-9]+' "$built/thawribbon.h" | sed 's/rule //'); do
+        [ -n "$(rule "$number")" ] || { echo "FAILED thawribbon.h names rule $number, which docs/RULES.md does not have" && bad=1; }
+    done
+    for code in $(sed -nE 's/^#define THAWRIBBON_(TYPE0|TYPE1|TRUSTED)_(READ|WRITE) 0x(..)$/\3h/p' "$built/thawribbon.h"); do
+        rule 3.2 | grep -qF "$code" || { echo "FAILED rule 3.2 has no type code $code" && bad=1; }
+    done
+    causes=$(sed -n '/UR is answered to these/,/\*\//s/^ \* - //p' "$built/thawribbon.h")
+    [ "$(printf '%s\n' "$causes" | wc -l)" -eq 5 ] || { echo 'FAILED thawribbon.h has another count of causes than five' && bad=1; }
+    while IFS= read -r cause; do
+        rule 4.1 | grep -qE "to $cause[;.]" || { echo "FAILED rule 4.1 does not have the cause: $cause" && bad=1; }
+        grep -qx "    /// - $cause" hosts/thawribbon/src/board.rs || { echo "FAILED the crate does not have the cause: $cause" && bad=1; }
+    done <<<"$causes"
+    [ "$bad" -ne 0 ] || echo 'ok the rules, type codes and causes of thawribbon.h are those of docs/RULES.md'
 }
 
 # flags FOLDER: the words of thawribbon.pc for a compiler, a line each: by pkg-config where it is there, and else read here
@@ -127,7 +183,7 @@ installed() {
     if grep -rqF "$work" "$prefix"; then echo 'FAILED an installed file has the prefix in it'; else echo 'ok no installed file has the prefix in it'; fi
     mapfile -t words < <(flags "$prefix")
     fenced $page c 1 >"$work/page.c"
-    fenced $page text 1 >"$work/page.text"
+    printed $page c 1 >"$work/page.text"
     try 'a program compiles with the flags of thawribbon.pc, after the prefix was moved' cc "${c[@]}" "$work/page.c" "${words[@]}" -o "$work/page" &&
         prints 'a program that was compiled with them runs' "$work/page.text" "$work/page"
 }
@@ -137,6 +193,8 @@ options() {
     ends './library wants a folder behind --prefix' 2 '--prefix wants a folder' ./library --prefix
     ends './library wants a folder behind --prefix=' 2 '--prefix wants a folder' ./library --prefix=
     ends './library --help tells the options' 0 '--prefix DIR' ./library --help
+    ends './library wants HOME for a tilde' 2 'HOME is not set' env -u HOME ./library '--prefix=~/none'
+    ends "./library leaves another one's home alone" 2 'write the folder out' ./library --prefix '~nobody/none'
 }
 
 # A second build, in another folder, from the same sources and the same proofs.
@@ -145,7 +203,9 @@ built_again() {
     mkdir -p "$copy/target"
     cp -R crates crates.txt library VERSION hosts "$copy/"
     for part in rlib stamp log; do [ ! -d target/$part ] || cp -pR target/$part "$copy/target/"; done
-    try './library builds in another folder' "$copy/library" &&
+    # A shell leaves the tilde behind an = as it is.
+    try './library builds in another folder' env HOME="$work" "$copy/library" '--prefix=~/home' &&
+        try './library --prefix=~/.. installs in the home folder' cmp "$copy/$archive" "$work/home/lib/libthawribbon.a" &&
         try 'two builds in two folders are byte for byte the same' cmp "$archive" "$copy/$archive"
 }
 
@@ -173,6 +233,9 @@ in_c
 in_cpp
 mistakes_are_seen
 page_in_c
+page_notices
+header_example
+header_and_rules
 installed
 [ "$(uname -m)" = x86_64 ] || on_x86_64
 exit 0

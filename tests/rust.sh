@@ -1,7 +1,12 @@
 # The library as Rust hosts use it: the crate's tests and examples, clippy, rustfmt and rustdoc, the programs of docs/LIBRARY.md as they stand
-# there, dropped answers, and archives that the crate's build must refuse. Where a tool is missing, what needs it is skipped, or failed where CI is set.
+# there, what rustc has to warn of or refuse, and archives that the crate's build must refuse. Where a tool is missing, what needs it is
+# skipped, or failed where CI is set.
 . tests/common/host_tools.bash
 page=docs/LIBRARY.md
+sources=hosts/thawribbon/src
+# The tests and examples that there are at least.
+least_tests=69
+least_examples=25
 export CARGO_TERM_COLOR=never
 
 # passed PART: how many tests, or examples, the last run of cargo test passed; it runs the examples last
@@ -10,14 +15,15 @@ passed() {
 }
 
 crate() {
-    local status part
+    local status part least
     within hosts cargo test --release --offline --locked -p thawribbon >"$work/out" 2>&1 </dev/null
     status=$?
     for part in tests examples; do
-        if [ "$status" -eq 0 ] && [ "$(passed $part)" -gt 0 ]; then
+        least=least_$part
+        if [ "$status" -eq 0 ] && [ "$(passed $part)" -ge "${!least}" ]; then
             echo "ok the Rust crate, $(passed $part) $part"
         else
-            echo "FAILED the Rust crate, $part: status $status, $(passed $part) passed," \
+            echo "FAILED the Rust crate, $part: status $status, $(passed $part) passed of at least ${!least}," \
                 "$(grep -E '^test .* FAILED$|^error' "$work/out" | head -n 3 | tr '\n' ' ' | cut -c 1-300)"
         fi
     done
@@ -49,29 +55,54 @@ package() {
 
 # The Rust programs of the page, and what it says that they print.
 page_in_rust() {
-    local n
-    for n in 1 2; do
+    local n ran=0
+    for ((n = 1; n <= $(blocks $page rust); n++)); do
         fenced $page rust $n | package "page$n"
-        fenced $page text $((n + 2)) >"$work/page.text"
+        printed $page rust $n >"$work/page.text"
         try "Rust program $n of $page compiles" within "$work/page$n" cargo build --offline &&
             prints "Rust program $n of $page prints what it says" "$work/page.text" cargo run --offline --quiet \
-                --manifest-path "$work/page$n/Cargo.toml"
+                --manifest-path "$work/page$n/Cargo.toml" && ran=$((ran + 1))
     done
-    # Without its write, the first one asks another function, and has to notice.
-    fenced $page rust 1 | sed 's/^    board.serve(&write)?;$/    board.serve(\&[\&write[..9], \&[0x19], \&write[10..]].concat())?;/' | package notices
-    ends "Rust program 1 of $page stops at a write that was not done" 1 'Error: Unsupported(Completion { status: Unsupported' \
-        within "$work/notices" cargo run --offline --quiet
+    all_run $page rust $ran
 }
 
+# other_page_rust NAME N SCRIPT TEXT: the page's N-th Rust program, changed by sed, ends with 1 and this text
+other_page_rust() {
+    fenced $page rust "$2" | sed "$3" | package notices
+    if fenced $page rust "$2" | cmp -s - "$work/notices/src/main.rs"; then echo "FAILED $1: nothing was changed"; fi
+    ends "$1" 1 "$4" within "$work/notices" cargo run --offline --quiet
+}
+
+# What is wrong, the programs of the page notice.
+page_notices() {
+    other_page_rust "Rust program 1 of $page stops at a write that was not done" 1 's/6, 0x00, 0x05, 0x18/6, 0x00, 0x05, 0x19/' \
+        'Error: Unsupported(Completion { status: Unsupported'
+    other_page_rust "Rust program 1 of $page notices that it has not landed" 1 's/\[0xFF; SPACE\]/[0xF0; SPACE]/' 'done, and not landed'
+    other_page_rust "Rust program 2 of $page stops at a board that is badly described" 2 's/function: 0/function: 8/' 'Error: BadDescription'
+    if [ "$(grep -c '^dropped' "$work/log")" -ne 1 ]; then echo "FAILED Rust program 2 of $page goes on with a board that is badly described"; fi
+}
+
+# Every function of the crate that gives something is one whose answer may not be dropped.
 answers_are_not_dropped() {
     local wanted found
     package dropped <hosts/thawribbon/tests/wrong/dropped.rs
-    wanted=$(grep -c '; // dropped$' "$work/dropped/src/main.rs")
+    wanted=$(cat $sources/*.rs | grep -E '^ *pub (const )?fn ' | grep -cvE '\) \{$')
     found=$(within "$work/dropped" cargo check --offline 2>&1 | grep -c '^warning: unused .* that must be used$')
     if [ "$wanted" -gt 10 ] && [ "$found" -eq "$wanted" ]; then
         echo "ok rustc warns of all $wanted answers that are dropped"
     else
         echo "FAILED rustc warns of $found of $wanted answers that are dropped"
+    fi
+}
+
+# What the page says of the crate besides: a match needs a last arm, and unsafe stands in one file.
+crate_is_as_told() {
+    package no_last_arm <hosts/thawribbon/tests/wrong/no_last_arm.rs
+    ends 'rustc wants a last arm of a match on a refusal' 101 'non-exhaustive patterns: `_` not covered' within "$work/no_last_arm" cargo check --offline
+    if [ "$(grep -lw unsafe hosts/thawribbon/build.rs $sources/*)" = $sources/raw.rs ]; then
+        echo 'ok unsafe stands only in raw.rs'
+    else
+        echo "FAILED unsafe stands only in raw.rs: it is in $(grep -lw unsafe hosts/thawribbon/build.rs $sources/* | tr '\n' ' ')"
     fi
 }
 
@@ -105,6 +136,8 @@ is_built || try './library builds the archive' ./library || exit 0
 crate
 looked_over
 page_in_rust
+page_notices
 answers_are_not_dropped
+crate_is_as_told
 archives_are_looked_at
 exit 0

@@ -54,11 +54,33 @@ prints() {
         echo "ok $name"
     else
         echo "FAILED $name: status $status, and it wrote $(cat "$work/log" "$work/out" | tail -n 4 | tr '\n' '|' | cut -c 1-300)"
+        return 1
     fi
 }
 
 # fenced PAGE LANGUAGE N: the page's N-th block of a language
 fenced() { awk -v fence="\`\`\`$2" -v wanted="$3" '/^```/ { on = $0 == fence && ++seen == wanted; next } on' "$1"; }
+
+# blocks PAGE LANGUAGE: how many blocks of a language the page has
+blocks() { grep -cx "\`\`\`$2" "$1"; }
+
+# printed PAGE LANGUAGE N: what the page says that its N-th block of a language prints: the text before the next such block
+printed() {
+    awk -v fence="\`\`\`$2" -v wanted="$3" '
+        /^```/ { on = 0; seen += $0 == fence; if ($0 == "```text" && seen == wanted && !told++) on = 1; next }
+        on' "$1"
+}
+
+# all_run PAGE LANGUAGE COUNT: so many programs of a language were compiled and printed what the page says, and the page has no more
+all_run() {
+    local has
+    has=$(blocks "$1" "$2")
+    if [ "$has" -gt 0 ] && [ "$3" -eq "$has" ]; then
+        echo "ok all $has blocks of $2 on $1 are compiled and run"
+    else
+        echo "FAILED $3 of the $has blocks of $2 on $1 are compiled and run"
+    fi
+}
 
 # is_built: there is an archive that is newer than what it is made from
 is_built() {

@@ -125,18 +125,16 @@ impl<'a> Board<'a> {
     /// ```
     ///
     /// A program that stands on the bus sends a completion back in both cases that have one. It drops a packet that is
-    /// none, and ends where the board is badly described, for such a board answers nothing:
+    /// refused, and ends at [`Refusal::BadDescription`], for such a board answers nothing:
     ///
     /// ```
-    /// use thawribbon::{Board, NotDone, Refusal};
+    /// use thawribbon::{Board, Completion, NotDone, Refusal};
     ///
-    /// fn answer(board: &mut Board, packet: &[u8], send: impl Fn(&[u8])) -> Result<(), Refusal> {
+    /// fn to_send_back(board: &mut Board, packet: &[u8]) -> Result<Completion, Refusal> {
     ///     match board.serve(packet) {
-    ///         Ok(completion) | Err(NotDone::Unsupported(completion)) => send(completion.bytes()),
-    ///         Err(NotDone::Refused(refusal)) if refusal == Refusal::BadDescription => return Err(refusal),
-    ///         Err(NotDone::Refused(refusal)) => eprintln!("dropped a packet: {refusal}"),
+    ///         Ok(completion) | Err(NotDone::Unsupported(completion)) => Ok(completion),
+    ///         Err(NotDone::Refused(refusal)) => Err(refusal),
     ///     }
-    ///     Ok(())
     /// }
     /// ```
     ///

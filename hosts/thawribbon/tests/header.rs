@@ -2,7 +2,7 @@
 #![forbid(unsafe_code)]
 
 use std::collections::BTreeMap;
-use thawribbon::Refusal;
+use thawribbon::{List, Refusal};
 
 const HEADER: &str = include_str!("../../include/thawribbon.h");
 
@@ -19,6 +19,21 @@ const REFUSALS: [(&str, Refusal); 10] = [
     ("THAWRIBBON_WRONG_EXTENT", Refusal::WrongExtent),
     ("THAWRIBBON_NOT_ONE_FUNCTION", Refusal::NotOneFunction),
 ];
+
+/// What is fixed is there when a program is compiled.
+const NUMBER: u8 = Refusal::NotOneFunction.number();
+const TEXT: &str = Refusal::ShortPacket.text();
+const MAXIMA: [usize; 3] = [
+    List::Compatible.maximum(),
+    List::Extended.maximum(),
+    List::Trusted.maximum(),
+];
+
+#[test]
+fn numbers_texts_and_maxima_can_stand_in_constants() {
+    assert_eq!((NUMBER, TEXT), (10, "the packet has fewer than 12 bytes"));
+    assert_eq!(MAXIMA, [48, 960, 1022]);
+}
 
 /// The header's lines between one that has a text and the next that is another.
 fn lines_between(from: &str, to: &'static str) -> impl Iterator<Item = &'static str> {

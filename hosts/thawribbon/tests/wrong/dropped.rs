@@ -1,12 +1,13 @@
 //! Every answer that may not be dropped, dropped: rustc has to warn of each line that says so.
 //!
-//! tests/rust.sh compiles this; it is no test of the package, and is never run.
+//! tests/rust.sh compiles this; it is no test of the package, and is never run. It counts the crate's functions too: each
+//! that gives something stands here.
 use thawribbon::raw::{self, Capture, Description};
-use thawribbon::{Board, List, chain, dual_bdf, dvsec, dvsec_body, headers, walk};
+use thawribbon::{Board, Completion, List, NotDone, Refusal, Space, chain, dual_bdf, dvsec, dvsec_body, headers, walk};
 
 fn main() {}
 
-pub fn drop_all(board: &mut Board, space: &[u8], bytes: &mut [u8], other: &mut [u8], reply: &mut [u8], room: &mut [u16]) {
+pub fn drop_answers(board: &mut Board, space: &[u8], room: &mut [u16]) {
     board.serve(space); // dropped
     walk(List::Extended, space, room); // dropped
     chain(List::Extended, space); // dropped
@@ -14,6 +15,27 @@ pub fn drop_all(board: &mut Board, space: &[u8], bytes: &mut [u8], other: &mut [
     dvsec(space, 0x100); // dropped
     dvsec_body(space, 0x100); // dropped
     dual_bdf(space, 0x040); // dropped
+    board.reset();
+}
+
+pub fn drop_parts(completion: &Completion, not_done: &NotDone, refusal: Refusal) {
+    completion.status(); // dropped
+    completion.data(); // dropped
+    completion.completer(); // dropped
+    completion.requester(); // dropped
+    completion.tag(); // dropped
+    completion.bytes(); // dropped
+    not_done.completion(); // dropped
+    refusal.number(); // dropped
+    refusal.text(); // dropped
+    List::Extended.maximum(); // dropped
+}
+
+pub fn drop_board(description: thawribbon::Description, ordinary: Space, trusted: Space) {
+    Board::fresh(description, ordinary, trusted); // dropped
+}
+
+pub fn drop_raw(space: &[u8], bytes: &mut [u8], other: &mut [u8], reply: &mut [u8], room: &mut [u16]) {
     let (description, kept) = (Description::default(), Capture::default());
     raw::serve(description, kept, bytes, space, other, space, space, reply); // dropped
     raw::reset(kept); // dropped
@@ -23,5 +45,4 @@ pub fn drop_all(board: &mut Board, space: &[u8], bytes: &mut [u8], other: &mut [
     raw::dvsec(space, 0x100); // dropped
     raw::dvsec_body(space, 0x100); // dropped
     raw::dual_bdf(space, 0x040); // dropped
-    board.reset();
 }
