@@ -79,7 +79,7 @@ static void is_refused(size_t packet_length, uint8_t number, size_t at)
     rest_is_as_before(at);
 }
 
-/* Two of them that just touch, on either side, and with a byte in common on either side, and from one start on. Structs stay aligned. */
+/* Two of them that just touch, on either side; with a byte in common on either side, with most, and with one start. Structs stay aligned. */
 static void two(size_t one, size_t other)
 {
     const size_t step = one == BOARD && other == ANSWER ? sizeof(uint64_t) : 1, at = 10 * one + other;
@@ -87,6 +87,8 @@ static void two(size_t one, size_t other)
     places[other] = places[one] - lengths[other];
     is_done(at);
     places[other] += step;
+    is_refused(16, THAWRIBBON_BAD_DESCRIPTION, at);
+    places[other] = places[one] - lengths[other] / 4;
     is_refused(16, THAWRIBBON_BAD_DESCRIPTION, at);
     places[other] = places[one];
     is_refused(16, THAWRIBBON_BAD_DESCRIPTION, at);

@@ -403,23 +403,27 @@ THAWRIBBON_MUST_USE static inline thawribbon_outcome thawribbon_board_serve(thaw
                                                                             thawribbon_answer *answer)
 {
     const thawribbon_space nothing = {NULL, NULL};
+    const thawribbon_answer none = {THAWRIBBON_REFUSED, 0, 0,
+                                    {0xFF, 0xFF, 0xFF, 0xFF, 0xFF, 0xFF, 0xFF, 0xFF, 0xFF, 0xFF, 0xFF, 0xFF, 0xFF, 0xFF, 0xFF, 0xFF}};
     const int overlaps = thawribbon_board_overlaps(board, packet, packet_length, answer);
     const thawribbon_space ordinary = overlaps ? nothing : board->ordinary, trusted = overlaps ? nothing : board->trusted;
-    thawribbon_answer given = {THAWRIBBON_REFUSED, 0, 0,
-                               {0xFF, 0xFF, 0xFF, 0xFF, 0xFF, 0xFF, 0xFF, 0xFF, 0xFF, 0xFF, 0xFF, 0xFF, 0xFF, 0xFF, 0xFF, 0xFF}};
-    const thawribbon_served served =
-        thawribbon_serve(board->description, board->capture,
-                         thawribbon_bytes_written(ordinary.bytes), thawribbon_bytes_length(ordinary.bytes),
-                         thawribbon_bytes_read(ordinary.rules), thawribbon_bytes_length(ordinary.rules),
-                         thawribbon_bytes_written(trusted.bytes), thawribbon_bytes_length(trusted.bytes),
-                         thawribbon_bytes_read(trusted.rules), thawribbon_bytes_length(trusted.rules),
-                         packet, packet_length, given.completion, sizeof given.completion);
-    board->capture = served.capture;
-    given.number = served.number;
-    given.length = served.length;
-    given.outcome = thawribbon_outcome_of(served, given.completion);
-    *answer = given; /* last, since it may lie in the board */
-    return given.outcome;
+    const thawribbon_description description = board->description;
+    const thawribbon_capture kept = board->capture;
+    thawribbon_served served;
+    *answer = none; /* from here on the board may be overwritten, where they overlap */
+    served = thawribbon_serve(description, kept,
+                              thawribbon_bytes_written(ordinary.bytes), thawribbon_bytes_length(ordinary.bytes),
+                              thawribbon_bytes_read(ordinary.rules), thawribbon_bytes_length(ordinary.rules),
+                              thawribbon_bytes_written(trusted.bytes), thawribbon_bytes_length(trusted.bytes),
+                              thawribbon_bytes_read(trusted.rules), thawribbon_bytes_length(trusted.rules),
+                              packet, packet_length, answer->completion, sizeof answer->completion);
+    if (!overlaps) {
+        board->capture = served.capture;
+    }
+    answer->number = served.number;
+    answer->length = served.length;
+    answer->outcome = thawribbon_outcome_of(served, answer->completion);
+    return answer->outcome;
 }
 
 /* Resets a board: forgets what it has captured, and changes no byte. */
