@@ -125,7 +125,8 @@ other_page_c() {
 
 # What is wrong, the programs of the page notice.
 page_notices() {
-    other_page_c "C program 1 of $page notices that it was not done" 1 's/6, 0x00, 0x05, 0x18/6, 0x00, 0x05, 0x19/' \
+    other_page_c "C program 1 of $page notices that it was not done" 1 \
+        's/thawribbon_board_serve(&board, type0_write, sizeof type0_write, &answer) != THAWRIBBON_DONE/sizeof type0_write == 0/' \
         'not done: Unsupported Request: the access was not done'
     other_page_c "C program 1 of $page notices that it has not landed" 1 's/\[0x010\] = 0xFF/[0x010] = 0xF0/' 'done, and not landed'
     other_page_c "C program 2 of $page stops at a board that is badly described" 2 's/\.function = 0/.function = 8/' 'dropped a packet: a space or rule space'

@@ -75,7 +75,7 @@ other_page_rust() {
 
 # What is wrong, the programs of the page notice.
 page_notices() {
-    other_page_rust "Rust program 1 of $page stops at a write that was not done" 1 's/6, 0x00, 0x05, 0x18/6, 0x00, 0x05, 0x19/' \
+    other_page_rust "Rust program 1 of $page stops at a write that was not done" 1 '/board.serve(&type0_write)?;/d' \
         'Error: Unsupported(Completion { status: Unsupported'
     other_page_rust "Rust program 1 of $page notices that it has not landed" 1 's/\[0xFF; SPACE\]/[0xF0; SPACE]/' 'done, and not landed'
     other_page_rust "Rust program 2 of $page stops at a board that is badly described" 2 's/function: 0/function: 8/' 'Error: BadDescription'

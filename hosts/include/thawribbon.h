@@ -5,7 +5,7 @@
  * project, each with its number: "rule 4.1" is one of them. Numbers ending in h are hexadecimal.
  *
  * The packet that has to land is a trusted write. A board takes it only when a Type 0 write has told it its bus and device number. Done is
- * not landed: a write that is done has changed only the bits that the rules of the space let it change. So read it back, and compare:
+ * not landed: a write that is done has changed only the bits that the space's write rules let it change. So read it back, and compare:
  *
  *     int renew(thawribbon_board *board, const uint8_t type0_write[16], const uint8_t trusted_write[16], const uint8_t trusted_read[12])
  *     {
@@ -21,11 +21,11 @@
  *     }
  *
  * There are two parts. The first declares the functions of libthawribbon.a, which are compiled from proved code. The second, from
- * "Helpers" on, is inline C over them, tried and not proved: a board in one struct, what became of a packet, and texts. A program that
- * answers packets begins with thawribbon_board_serve, in the second part.
+ * "Helpers" on, is inline C over them, tried and not proved: a board in one struct, what became of a packet, texts, and a list's headers.
+ * A program that answers packets begins with thawribbon_board_serve, in the second part.
  *
  * Any bytes, of any length, get an answer: every function tests what it is given, and returns. A number in an answer says how it went;
- * the numbers are named below. Each but 0 is a refusal, and after a refusal no byte of any buffer has changed.
+ * the numbers are named below. Each but 0 is a refusal, and a refusal changes no byte of a space, a reply or a room, and no capture.
  *
  * What the caller owes:
  * - A buffer is a pointer and a length, and that many bytes (for a list room, that many numbers) are really there. With length 0 the

@@ -16,7 +16,7 @@
 //!
 //! A board takes a trusted write only when a Type 0 write has told it its bus and device number. `?` stops at whatever was
 //! not done: a packet that was refused, and one that was answered Unsupported Request. Done is not landed: a write that is
-//! done has changed only the bits that the rules let it change. So it is read back, and compared.
+//! done has changed only the bits that the space's write rules let it change. So it is read back, and compared.
 //!
 //! ```
 //! use thawribbon::{Board, DATA, Description, NotDone, SPACE, Space, TRUSTED_READ, TRUSTED_WRITE, TYPE0_WRITE};
@@ -109,5 +109,6 @@ pub use refusal::Refusal;
 
 /// An offset in a space, wherever this crate takes or gives one.
 ///
-/// Any number may be given: a function that takes one refuses those outside its range. Those of a space end at FFFh.
+/// Any number may be given: a function that takes one refuses those outside its range. [`raw`] has the types of C in its
+/// place.
 pub type Offset = u16;
