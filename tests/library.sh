@@ -115,6 +115,13 @@ page_in_c() {
     all_run $page c $ran
 }
 
+# The page has no block that no test knows: sh is read by people, text is what programs print, toml is used by tests/rust.sh.
+page_languages() {
+    local found
+    found=$(grep -oE '^```.+' $page | sort -u | tr -d '`' | tr '\n' ' ')
+    if [ "$found" = 'c cpp rust sh text toml ' ]; then echo "ok the blocks of $page are of known languages"; else echo "FAILED the blocks of $page are of $found"; fi
+}
+
 # other_page_c NAME N SCRIPT TEXT: the page's N-th C program, changed by sed, ends with 1 and this text
 other_page_c() {
     fenced $page c "$2" | sed "$3" >"$work/page.c"
@@ -198,7 +205,7 @@ options() {
     ends "./library leaves another one's home alone" 2 'write the folder out' ./library --prefix '~nobody/none'
 }
 
-# A second build, in another folder, from the same sources and the same proofs.
+# A second build, in another folder, from the same sources and the same proofs; and one by a kit that has not proved all.
 built_again() {
     local copy="$work/another folder" part
     mkdir -p "$copy/target"
@@ -208,6 +215,11 @@ built_again() {
     try './library builds in another folder' env HOME="$work" "$copy/library" '--prefix=~/home' &&
         try './library --prefix=~/.. installs in the home folder' cmp "$copy/$archive" "$work/home/lib/libthawribbon.a" &&
         try 'two builds in two folders are byte for byte the same' cmp "$archive" "$copy/$archive"
+    mkdir "$work/fake"
+    printf '#!/bin/sh\necho "logic=open functions=17"\n' >"$work/fake/rt"
+    chmod +x "$work/fake/rt"
+    ends './library wants a verdict that all is proved' 1 'does not say that all is proved' \
+        env PATH="$work/fake:$PATH" RATTLE_HOME="${kit%/on/*}" "$copy/library"
 }
 
 on_x86_64() {
@@ -234,6 +246,7 @@ in_c
 in_cpp
 mistakes_are_seen
 page_in_c
+page_languages
 page_notices
 header_example
 header_and_rules
