@@ -81,16 +81,17 @@ in_cpp() {
     all_run $page cpp $ran
 }
 
-# warned NAME COMMAND..: each dropped answer of hosts/c/wrong/dropped.c is warned of, and each function that gives one is dropped there
+# warned NAME COMMAND..: each dropped answer of hosts/c/wrong/dropped.c is warned of; it drops one of each function that says so in the header
 warned() {
-    local name=$1 wanted found
+    local name=$1 wanted found said
     shift
-    wanted=$(grep -c '^THAWRIBBON_MUST_USE ' "$built/thawribbon.h")
+    wanted=$(grep -c '/\* dropped \*/' hosts/c/wrong/dropped.c)
+    said=$(grep -c '^THAWRIBBON_MUST_USE ' "$built/thawribbon.h")
     found=$("$@" -std=c99 -Wall -I "$built" -c hosts/c/wrong/dropped.c -o "$work/dropped.o" 2>&1 | grep -c 'warning: .*warn_unused_result')
-    if [ "$wanted" -gt 10 ] && [ "$found" -eq "$wanted" ]; then
+    if [ "$wanted" -gt 10 ] && [ "$found" -eq "$wanted" ] && [ "$said" -eq "$wanted" ]; then
         echo "ok $name warns of all $wanted answers that are dropped"
     else
-        echo "FAILED $name warns of $found of $wanted answers that are dropped"
+        echo "FAILED $name warns of $found of $wanted answers that are dropped, and thawribbon.h has $said"
     fi
 }
 
