@@ -27,28 +27,7 @@ pub fn perform(
     trusted: &mut [u8; LONG],
     trusted_rules: &mut [u8; LONG],
 ) {
-    let word = tokens::word(tokens, 0);
-    match word {
-        vocabulary::FRESH | vocabulary::OPEN | vocabulary::BLANK => {
-            slots::begin(desk);
-            *ordinary = [filling(word, ORDINARY); LONG];
-            *trusted = [filling(word, TRUSTED); LONG];
-            *ordinary_rules = [rule(word); LONG];
-            *trusted_rules = [rule(word); LONG];
-            done();
-        }
-        vocabulary::ORDINARY => put_bytes(ordinary, tokens, count),
-        vocabulary::TRUSTED => put_bytes(trusted, tokens, count),
-        vocabulary::ORDINARY_RULES => put_bytes(ordinary_rules, tokens, count),
-        vocabulary::TRUSTED_RULES => put_bytes(trusted_rules, tokens, count),
-        vocabulary::CHAIN => {
-            if in_trusted(tokens) {
-                walking::put_chain(trusted, tokens);
-            } else {
-                walking::put_chain(ordinary, tokens);
-            }
-            done();
-        }
+    match tokens::word(tokens, 0) {
         vocabulary::PACKET => packets::ask(
             desk,
             tokens,
@@ -59,8 +38,55 @@ pub fn perform(
             trusted_rules,
         ),
         vocabulary::SHOW => show(tokens, ordinary, ordinary_rules, trusted, trusted_rules),
+        vocabulary::FRESH | vocabulary::OPEN | vocabulary::BLANK => {
+            slots::begin(desk);
+            fill(tokens::word(tokens, 0), ordinary, ordinary_rules, trusted, trusted_rules);
+        }
+        vocabulary::ORDINARY..=vocabulary::CHAIN =>
+            set(tokens, count, ordinary, ordinary_rules, trusted, trusted_rules),
         _ => perform_on_space(desk, tokens, count, ordinary, trusted),
     }
+}
+
+fn fill(
+    word: usize,
+    ordinary: &mut [u8; LONG],
+    ordinary_rules: &mut [u8; LONG],
+    trusted: &mut [u8; LONG],
+    trusted_rules: &mut [u8; LONG],
+) {
+    *ordinary = [filling(word, ORDINARY); LONG];
+    *trusted = [filling(word, TRUSTED); LONG];
+    *ordinary_rules = [rule(word); LONG];
+    *trusted_rules = [rule(word); LONG];
+    done();
+}
+
+// Bytes are put into one of the four buffers, or the headers of a chain into one of the two spaces.
+fn set(
+    tokens: &Tokens,
+    count: usize,
+    ordinary: &mut [u8; LONG],
+    ordinary_rules: &mut [u8; LONG],
+    trusted: &mut [u8; LONG],
+    trusted_rules: &mut [u8; LONG],
+) {
+    match tokens::word(tokens, 0) {
+        vocabulary::ORDINARY => put_bytes(ordinary, tokens, count),
+        vocabulary::TRUSTED => put_bytes(trusted, tokens, count),
+        vocabulary::ORDINARY_RULES => put_bytes(ordinary_rules, tokens, count),
+        vocabulary::TRUSTED_RULES => put_bytes(trusted_rules, tokens, count),
+        _ => put_chain(ordinary, trusted, tokens),
+    }
+}
+
+fn put_chain(ordinary: &mut [u8; LONG], trusted: &mut [u8; LONG], tokens: &Tokens) {
+    if in_trusted(tokens) {
+        walking::put_chain(trusted, tokens);
+    } else {
+        walking::put_chain(ordinary, tokens);
+    }
+    done();
 }
 
 fn done() {

@@ -1,5 +1,6 @@
 // What an answer means, in words: the number, what was asked, what the completion says, what is captured.
 use crate::packets;
+use crate::packets::PACKET;
 use crate::packets::REPLY;
 use crate::saying::put;
 use crate::saying::put_byte;
@@ -8,6 +9,8 @@ use crate::saying::put_decimal;
 use crate::saying::put_hex;
 use crate::slots::Desk;
 use crate::spaces;
+use crate::texts;
+use crate::tokens::Tokens;
 use board::Served;
 use capture::Capture;
 use packet::Decoded;
@@ -16,65 +19,91 @@ use packet::Request;
 use packet::Target;
 use reasons::Cause;
 
-pub fn number(served: Served) {
-    let answer = served.answer;
-    put_number(answer.number());
-}
-
 // An answer number and what it means.
 pub fn put_number(number: u8) {
     put(b"number ");
     put_decimal(number as usize);
     put(b": ");
-    match number {
-        0 => put(b"answered"),
-        1 => put(b"badly described: a space of another size than 1000, or a number or offset out of range"),
-        2 => put(b"no room: the reply's buffer or the list room is too small"),
-        3 => put(b"the packet has fewer than 12 bytes"),
-        4 => put(b"byte 0 without bit 7 is none of the six type codes"),
-        5 => put(b"the packet's length does not fit its type and digest bit"),
-        6 => put(b"TC, Attr or the last enables are not 0, or Length is not 1"),
-        7 => put(b"no finite legal chain: a pointer below the floor, or a loop"),
-        8 => put(b"another structure stands there"),
-        9 => put(b"the structure's length is wrong, or it does not fit"),
-        _ => put(b"not one function bit is set"),
-    }
+    put_meaning(number as usize);
     put(b"\n");
 }
 
-// What the packet asked for, as the board read it, and what the completion says of it.
-pub fn request(
+fn put_meaning(number: usize) {
+    texts::put_entry(
+        b"answered
+badly described: a space of another size than 1000, or a number or an offset out of range
+no room: the reply's buffer or the list room is too small
+the packet has fewer than 12 bytes
+byte 0 without bit 7 is none of the six type codes
+the packet's length does not fit its type and digest bit
+TC, Attr or the last enables are not 0, or Length is not 1
+no finite legal chain: a pointer below the floor, or a loop
+another structure stands there
+the structure's length is wrong, or it does not fit
+its function vector has not exactly one bit
+",
+        number,
+    );
+}
+
+// A packet that was served: the number, what it asked for as the board read it, what the completion says of it, what is captured.
+pub fn packet(
     desk: &Desk,
-    kept: Capture,
-    packet: &[u8],
-    length: usize,
+    tokens: &Tokens,
+    count: usize,
     served: Served,
     reply: &[u8; REPLY],
 ) {
+    let mut bytes = [0u8; PACKET];
+    let length = packets::packet_of(&mut bytes, tokens, count);
+    let answer = served.answer;
+    let state = served.capture;
+    put_number(answer.number());
+    request(desk, &bytes, length, served.length, reply);
+    captured(state);
+}
+
+fn request(desk: &Desk, packet: &[u8], length: usize, replied: usize, reply: &[u8; REPLY]) {
     let sent = spaces::within(length, packet);
     match packet::decode(&packet[..sent]) {
         Decoded::Refused(_) => {}
         Decoded::Asks(asked) => {
             put_request(asked, packet);
-            if served.length != 0 {
-                let cause = reasons::why(packets::description_of(desk), kept, asked);
-                put_reply(reply, served.length);
-                put_completion(cause, reply);
+            if replied != 0 {
+                put_reply(reply, replied);
+                put_completion(cause_of(desk, asked), reply);
             }
         }
     }
 }
 
+fn cause_of(desk: &Desk, asked: Request) -> Cause {
+    reasons::why(packets::description_of(desk), packets::capture_of(desk), asked)
+}
+
 fn put_request(asked: Request, packet: &[u8]) {
-    let target = asked.target;
     let requester = asked.requester;
     put(b"  asks: ");
+    put_target(asked);
+    put_kind(asked);
+    put_place(asked);
+    put(b", enables ");
+    put_enables(asked.enables);
+    put_data(asked, packet);
+    put_sender(requester, asked.tag);
+    put(b"\n");
+}
+
+fn put_target(asked: Request) {
+    let target = asked.target;
     match target {
         Target::Type0 => put(b"Type 0 "),
         Target::Type1 => put(b"Type 1 "),
         Target::Trusted => put(b"trusted "),
     }
-    put_kind(asked);
+}
+
+fn put_place(asked: Request) {
     put(b", bus ");
     put_byte(asked.bus);
     put(b" device ");
@@ -83,11 +112,6 @@ fn put_request(asked: Request, packet: &[u8]) {
     put_hex(asked.function as usize, 1);
     put(b", offset ");
     put_hex(asked.offset, 3);
-    put(b", enables ");
-    put_enables(asked.enables);
-    put_data(asked, packet);
-    put_sender(requester, asked.tag);
-    put(b"\n");
 }
 
 fn put_kind(asked: Request) {
@@ -148,6 +172,15 @@ fn put_completion(cause: Cause, reply: &[u8; REPLY]) {
         put(b"unsupported request (UR): ");
         put_cause(cause);
     }
+    put_ids(reply);
+    if reply[0] == 0x4a {
+        put(b", data");
+        put_bytes(&words::four(reply, 12));
+    }
+    put(b"\n");
+}
+
+fn put_ids(reply: &[u8; REPLY]) {
     put(b"; completer ");
     put_byte(reply[4]);
     put(b" ");
@@ -159,28 +192,36 @@ fn put_completion(cause: Cause, reply: &[u8; REPLY]) {
         },
         reply[10],
     );
-    if reply[0] == 0x4a {
-        put(b", data");
-        put_bytes(&words::four(reply, 12));
-    }
-    put(b"\n");
 }
 
 fn put_cause(cause: Cause) {
+    texts::put_entry(
+        b"none
+a Type 1 request
+a Type 0 request for another function
+a trusted request while nothing is captured
+a trusted request that does not name the captured bus and device and the board's function
+a poisoned write
+",
+        cause_number(cause),
+    );
+}
+
+fn cause_number(cause: Cause) -> usize {
     match cause {
-        Cause::Supported => put(b"none"),
-        Cause::Type1 => put(b"a Type 1 request"),
-        Cause::OtherFunction => put(b"a Type 0 request for another function"),
-        Cause::NothingCaptured => put(b"a trusted request while nothing is captured"),
-        Cause::OtherAddress => put(b"a trusted request for another bus, device or function than the captured two and the board's own"),
-        Cause::PoisonedWrite => put(b"a poisoned write"),
+        Cause::Supported => 0,
+        Cause::Type1 => 1,
+        Cause::OtherFunction => 2,
+        Cause::NothingCaptured => 3,
+        Cause::OtherAddress => 4,
+        Cause::PoisonedWrite => 5,
     }
 }
 
 // What is captured now.
-pub fn captured(desk: &Desk) {
+pub fn captured(capture: Capture) {
     put(b"  captured: ");
-    put_capture(packets::capture_of(desk));
+    put_capture(capture);
     put(b"\n");
 }
 

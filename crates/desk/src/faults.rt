@@ -4,6 +4,7 @@ use crate::saying::put_line_number;
 use crate::saying::put_plain;
 use crate::slots;
 use crate::slots::Desk;
+use crate::texts;
 use crate::tokens;
 
 pub const NONE: usize = 0;
@@ -38,15 +39,17 @@ pub const COMMA: usize = 14;
 
 pub const NUMBER_FIRST: usize = 15;
 
-pub const TOO_LONG: usize = 16;
+pub const NO_ANSWER: usize = 16;
 
-pub const TOO_MANY_TOKENS: usize = 17;
+pub const TOO_LONG: usize = 17;
 
-pub const SHEET_AGAIN: usize = 18;
+pub const TOO_MANY_TOKENS: usize = 18;
 
-pub const NO_SHEET: usize = 19;
+pub const SHEET_AGAIN: usize = 19;
 
-pub const NO_END: usize = 20;
+pub const NO_SHEET: usize = 20;
+
+pub const NO_END: usize = 21;
 
 // A line is not understood: from `from` on it does not fit.
 pub fn tell(desk: &mut Desk, line: &[u8], from: usize, what: usize) {
@@ -72,33 +75,32 @@ pub fn tell_whole(desk: &mut Desk, what: usize) {
     put(b"\n");
 }
 
+// The table has the reasons in the order of their numbers.
 fn put_reason(what: usize) {
-    match what {
-        UNKNOWN => put(b"is no word of the desk, and no number of one to sixteen hexadecimal digits"),
-        NO_STATEMENT => put(b"is not a statement; help lists them"),
-        NO_WORD => put(b"stands where a word is wanted"),
-        NO_NAME => put(b"stands where the name of a list or a space is wanted"),
-        NO_NUMBER => put(b"stands where a number, a comma or the line's end is wanted"),
-        TOO_MANY => put(b"is a number too many"),
-        TOO_FEW => put(b"stands where a number is still wanted"),
-        TOO_LARGE => put(b"is too large here"),
-        NO_FIT => put(b"does not fit: a space ends at FFF"),
-        NO_QUESTION => put(b"stands behind a statement that has no answer to expect"),
-        NO_CLAUSE => put(b"cannot be expected of this"),
-        _ => put_other_reason(what),
-    }
-}
-
-fn put_other_reason(what: usize) {
-    match what {
-        AGAIN => put(b"is expected twice"),
-        ARROW_AGAIN => put(b"stands a second time"),
-        COMMA => put(b"stands outside an expectation"),
-        NUMBER_FIRST => put(b"stands where the expected number is wanted first"),
-        TOO_LONG => put(b"longer than 4,000 characters; none of it is read"),
-        TOO_MANY_TOKENS => put(b"more than 128 words and numbers; none of it is read"),
-        SHEET_AGAIN => put(b"a sheet begins before the last one has ended"),
-        NO_SHEET => put(b"a sheet ends that has not begun"),
-        _ => put(b"the sheet has no end: was it cut?"),
-    }
+    texts::put_entry(
+        b"is understood
+is no word of the desk, and no number of one to sixteen hexadecimal digits
+is not a statement; help lists them
+stands where a word is wanted
+stands where the name of a list or a space is wanted
+stands where a number, a comma or the line's end is wanted
+is a number too many
+stands where a number is still wanted
+is too large here
+does not fit: a space ends at FFF
+stands behind a statement that has no answer to expect
+cannot be expected of this
+is expected twice
+stands a second time
+stands outside an expectation
+stands where the expected number is wanted first
+is no answer number: those are 0 to 10, and the only numbers in decimal
+longer than 4,000 characters; none of it is read
+more than 128 words and numbers; none of it is read
+a sheet begins before the last one has ended
+a sheet ends that has not begun
+the sheet has no end: was it cut?
+",
+        what,
+    );
 }

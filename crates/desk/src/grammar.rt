@@ -63,7 +63,8 @@ fn form_of(word: usize) -> Form {
     match word {
         PACKET => numbers(0, 64, 0xff),
         ORDINARY | TRUSTED | ORDINARY_RULES | TRUSTED_RULES => bytes_at(),
-        FUNCTION | NUMBER => numbers(1, 1, 0xff),
+        FUNCTION => numbers(1, 1, 0xff),
+        NUMBER => numbers(1, 1, 0x10),
         CAPTURED | ALTERNATE => numbers(2, 2, 0xff),
         REPLY => numbers(1, 20, 0xff),
         MERGE => numbers(13, 13, 0xff),
@@ -77,7 +78,7 @@ fn form_of(word: usize) -> Form {
         WALK => named(0, 0),
         CHAIN => named(4, 0xffff),
         DVSEC | DUAL => named(1, ANY),
-        SHOW => named(2, 0xfff),
+        SHOW => named(2, 0x1000),
         _ => numbers(0, 0, 0),
     }
 }
@@ -238,11 +239,9 @@ impl Reading {
         if form.most <= self.given {
             return self.faulty(faults::TOO_MANY);
         }
-        if largest(form, self.given) < number {
-            return self.faulty(faults::TOO_LARGE);
-        }
-        if !is_inside(form, self.given, self.first) {
-            return self.faulty(faults::NO_FIT);
+        let fault = fault_of_number(self.word, form, self.given, self.first, number);
+        if fault != faults::NONE {
+            return self.faulty(fault);
         }
         if self.given == 0 {
             next.first = number;
@@ -357,14 +356,36 @@ fn largest(form: Form, given: usize) -> usize {
     if given == 0 { form.first } else { form.others }
 }
 
-// One more byte at an offset still lies in a space.
-fn is_inside(form: Form, given: usize, offset: usize) -> bool {
-    let fits = form.fits;
-    if !fits {
-        return true;
+// What is wrong with a number behind a word that has so many already, of which this is the first.
+fn fault_of_number(word: usize, form: Form, given: usize, first: usize, number: usize) -> usize {
+    if largest(form, given) < number {
+        return faults::TOO_LARGE;
+    }
+    if word == NUMBER {
+        return fault_of_answer(number);
     }
     if given == 0 {
-        return true;
+        return faults::NONE;
     }
-    std::num::wrapping_add_usize(offset, given) <= SPACE_END
+    if SPACE_END < end_of(word, form, given, first, number) {
+        return faults::NO_FIT;
+    }
+    faults::NONE
+}
+
+// An answer number is written in decimal.
+fn fault_of_answer(number: usize) -> usize {
+    if 9 < number % 16 { faults::NO_ANSWER } else { faults::NONE }
+}
+
+// Where the bytes end that are put or shown from an offset on, or 0 where there are none.
+fn end_of(word: usize, form: Form, given: usize, offset: usize, number: usize) -> usize {
+    let fits = form.fits;
+    if word == SHOW {
+        return std::num::wrapping_add_usize(offset, number);
+    }
+    if fits {
+        return std::num::wrapping_add_usize(offset, given);
+    }
+    0
 }

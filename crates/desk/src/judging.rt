@@ -1,9 +1,10 @@
 // What was found is held against what a line expects. Every difference is told; a check without one is as expected.
 use crate::saying::put;
-use crate::saying::put_byte;
+use crate::saying::put_bytes;
 use crate::saying::put_decimal;
 use crate::saying::put_hex;
 use crate::saying::put_line_number;
+use crate::saying::put_value;
 use crate::slots;
 use crate::slots::Desk;
 
@@ -28,51 +29,62 @@ pub fn begin_difference(desk: &mut Desk, what: &[u8]) {
     put_line_number(desk);
     put(b"not as expected: ");
     put(what);
-    put(b" ");
 }
 
-// Two counts or numbers, told in decimal.
-pub fn number(desk: &mut Desk, what: &[u8], found: usize, wanted: usize) {
-    if found != wanted {
-        begin_difference(desk, what);
-        put_decimal(found);
+// Two answer numbers, the only ones in decimal: the expected one was read as its digits.
+pub fn number(desk: &mut Desk, found: u8, digits: usize) {
+    let wanted = std::num::wrapping_add_usize(10 * (digits % 256 / 16), digits % 16);
+    if found as usize != wanted {
+        begin_difference(desk, b"number ");
+        put_decimal(found as usize);
         put(b", expected ");
         put_decimal(wanted);
         put(b"\n");
     }
 }
 
-// Two values, told in hexadecimal.
-pub fn value(desk: &mut Desk, what: &[u8], found: usize, wanted: usize) {
-    if found != wanted {
-        begin_difference(desk, what);
-        put_hex(found, 4);
-        put(b", expected ");
-        put_hex(wanted, 4);
-        put(b"\n");
+// Two values or counts. Says whether they are the same.
+pub fn value(desk: &mut Desk, what: &[u8], found: usize, wanted: usize) -> bool {
+    if found == wanted {
+        return true;
     }
+    begin_difference(desk, what);
+    put_value(found);
+    put(b", expected ");
+    put_value(wanted);
+    put(b"\n");
+    false
 }
 
-// The offset at a place of the list room, where it is another.
-pub fn entry(desk: &mut Desk, at: usize, found: usize, wanted: usize) {
-    begin_difference(desk, b"room entry");
-    put_decimal(at);
+// The value at a place of many, where it is another.
+pub fn entry(
+    desk: &mut Desk,
+    what: &[u8],
+    at: usize,
+    found: usize,
+    wanted: usize,
+    digits: usize,
+) {
+    begin_difference(desk, what);
+    put_value(at);
     put(b" is ");
-    put_hex(found, 4);
+    put_hex(found, digits);
     put(b", expected ");
-    put_hex(wanted, 4);
+    put_hex(wanted, digits);
     put(b"\n");
 }
 
-// The byte at a place of many.
-pub fn byte(desk: &mut Desk, what: &[u8], at: usize, found: u8, wanted: u8) {
-    if found != wanted {
-        begin_difference(desk, what);
-        put_decimal(at);
-        put(b" is ");
-        put_byte(found);
-        put(b", expected ");
-        put_byte(wanted);
+// Four bytes.
+pub fn four(desk: &mut Desk, found: [u8; 4], wanted: [u8; 4]) {
+    if number_of(found) != number_of(wanted) {
+        begin_difference(desk, b"bytes");
+        put_bytes(&found);
+        put(b", expected");
+        put_bytes(&wanted);
         put(b"\n");
     }
+}
+
+fn number_of(bytes: [u8; 4]) -> u32 {
+    words::joined(bytes[0], bytes[1], bytes[2], bytes[3])
 }

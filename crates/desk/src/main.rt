@@ -13,6 +13,7 @@ mod saying;
 mod session;
 mod slots;
 mod spaces;
+mod texts;
 mod tokens;
 mod vocabulary;
 mod walking;

@@ -15,7 +15,7 @@ use board::Served;
 use capture::Capture;
 
 // The most bytes of a packet; the reply's buffer, and the byte that fills it before a packet is served.
-const PACKET: usize = 64;
+pub const PACKET: usize = 64;
 
 pub const REPLY: usize = 20;
 
@@ -32,44 +32,36 @@ pub fn ask(
 ) {
     let mut ordinary_before = [0u8; LONG];
     let mut trusted_before = [0u8; LONG];
-    let mut packet = [0u8; PACKET];
     let mut reply = [UNTOUCHED; REPLY];
     words::put(&mut ordinary_before, 0, ordinary);
     words::put(&mut trusted_before, 0, trusted);
-    let arrow = tokens::find(tokens, 0, count, vocabulary::ARROW);
-    gather(&mut packet, tokens, 1, arrow);
-    let kept = capture_of(desk);
-    let served = serve(
+    let served = send(
         desk,
-        kept,
+        tokens,
+        count,
         ordinary,
         ordinary_rules,
         trusted,
         trusted_rules,
-        &packet,
-        std::num::wrapping_sub_usize(arrow, 1),
         &mut reply,
     );
-    slots::lend_all(desk);
-    if arrow < count {
-        spaces::put_behind(&mut ordinary_before, tokens, arrow, count, vocabulary::ORDINARY);
-        spaces::put_behind(&mut trusted_before, tokens, arrow, count, vocabulary::TRUSTED);
-        judging::begin(desk);
-        judge(desk, tokens, arrow, count, kept, served, &reply);
-        spaces::tell_differences(desk, true, b"ordinary", ordinary, &ordinary_before);
-        spaces::tell_differences(desk, true, b"trusted", trusted, &trusted_before);
-        if judging::end(desk) {
-            keep(desk, served);
-            return;
-        }
-    }
-    explaining::number(served);
-    explaining::request(desk, kept, &packet, std::num::wrapping_sub_usize(arrow, 1), served, &reply);
-    keep(desk, served);
-    explaining::captured(desk);
-    if count <= arrow {
+    let right = judge(
+        desk,
+        tokens,
+        count,
+        served,
+        &reply,
+        &ordinary_before,
+        ordinary,
+        &trusted_before,
+        trusted,
+    );
+    if !right {
+        explaining::packet(desk, tokens, count, served, &reply);
         tell_changes(desk, &ordinary_before, ordinary, &trusted_before, trusted);
     }
+    keep(desk, served);
+    slots::lend_all(desk);
 }
 
 fn tell_changes(
@@ -80,12 +72,24 @@ fn tell_changes(
     trusted: &[u8; LONG],
 ) {
     let first = spaces::tell_differences(desk, false, b"ordinary", ordinary_before, ordinary);
-    let second = spaces::tell_differences(desk, false, b"trusted ", trusted_before, trusted);
+    let second = spaces::tell_differences(desk, false, b"trusted", trusted_before, trusted);
     if first == 0 {
         if second == 0 {
             put(b"  no byte changed\n");
         }
     }
+}
+
+// How many of the tokens are the question itself.
+pub fn asked(tokens: &Tokens, count: usize) -> usize {
+    tokens::find(tokens, 0, count, vocabulary::ARROW)
+}
+
+// The packet's bytes at the front of a buffer; answers how many there are.
+pub fn packet_of(packet: &mut [u8; PACKET], tokens: &Tokens, count: usize) -> usize {
+    let end = asked(tokens, count);
+    gather(packet, tokens, 1, end);
+    std::num::wrapping_sub_usize(end, 1)
 }
 
 // The bytes from a place of the tokens to another.
@@ -133,10 +137,33 @@ pub fn keep_capture(desk: &mut Desk, state: Capture) {
     }
 }
 
+fn send(
+    desk: &Desk,
+    tokens: &Tokens,
+    count: usize,
+    ordinary: &mut [u8; LONG],
+    ordinary_rules: &[u8; LONG],
+    trusted: &mut [u8; LONG],
+    trusted_rules: &[u8; LONG],
+    reply: &mut [u8; REPLY],
+) -> Served {
+    let mut packet = [0u8; PACKET];
+    let length = packet_of(&mut packet, tokens, count);
+    serve(
+        desk,
+        ordinary,
+        ordinary_rules,
+        trusted,
+        trusted_rules,
+        &packet,
+        length,
+        reply,
+    )
+}
+
 // Each buffer is lent as far as the desk says.
 fn serve(
     desk: &Desk,
-    kept: Capture,
     ordinary: &mut [u8],
     ordinary_rules: &[u8],
     trusted: &mut [u8],
@@ -153,7 +180,7 @@ fn serve(
     let room = spaces::within(desk[slots::ROOM], reply);
     board::serve(
         description_of(desk),
-        kept,
+        capture_of(desk),
         &mut ordinary[..first],
         &ordinary_rules[..second],
         &mut trusted[..third],
@@ -163,12 +190,34 @@ fn serve(
     )
 }
 
+// Says whether something was expected, and is so.
 fn judge(
+    desk: &mut Desk,
+    tokens: &Tokens,
+    count: usize,
+    served: Served,
+    reply: &[u8; REPLY],
+    ordinary_before: &[u8; LONG],
+    ordinary: &[u8; LONG],
+    trusted_before: &[u8; LONG],
+    trusted: &[u8; LONG],
+) -> bool {
+    let arrow = asked(tokens, count);
+    if count <= arrow {
+        return false;
+    }
+    judging::begin(desk);
+    judge_answer(desk, tokens, arrow, count, served, reply);
+    judge_space(desk, tokens, count, vocabulary::ORDINARY, ordinary_before, ordinary);
+    judge_space(desk, tokens, count, vocabulary::TRUSTED, trusted_before, trusted);
+    judging::end(desk)
+}
+
+fn judge_answer(
     desk: &mut Desk,
     tokens: &Tokens,
     arrow: usize,
     count: usize,
-    kept: Capture,
     served: Served,
     reply: &[u8; REPLY],
 ) {
@@ -176,13 +225,31 @@ fn judge(
     let state = served.capture;
     judge_number(desk, tokens, arrow, count, answer.number());
     judge_reply(desk, tokens, arrow, count, served.length, reply);
-    judge_capture(desk, tokens, arrow, count, kept, state);
+    judge_capture(desk, tokens, arrow, count, state);
+}
+
+// Every byte of a space is as before, except those that are expected to be others.
+fn judge_space(
+    desk: &mut Desk,
+    tokens: &Tokens,
+    count: usize,
+    word: usize,
+    before: &[u8; LONG],
+    after: &[u8; LONG],
+) {
+    let mut wanted = [0u8; LONG];
+    words::put(&mut wanted, 0, before);
+    spaces::put_behind(&mut wanted, tokens, asked(tokens, count), count, word);
+    if word == vocabulary::ORDINARY {
+        spaces::tell_differences(desk, true, b"ordinary", after, &wanted);
+    } else {
+        spaces::tell_differences(desk, true, b"trusted", after, &wanted);
+    }
 }
 
 pub fn judge_number(desk: &mut Desk, tokens: &Tokens, arrow: usize, count: usize, found: u8) {
     let place = tokens::find(tokens, arrow, count, vocabulary::NUMBER);
-    let wanted = tokens::at(tokens, std::num::wrapping_add_usize(place, 1));
-    judging::number(desk, b"number", found as usize, wanted);
+    judging::number(desk, found, tokens::at(tokens, std::num::wrapping_add_usize(place, 1)));
 }
 
 // The reply's bytes at the front of its buffer, and the rest untouched.
@@ -195,38 +262,33 @@ fn judge_reply(
     reply: &[u8; REPLY],
 ) {
     let mut wanted = [UNTOUCHED; REPLY];
-    let place = tokens::find(tokens, arrow, count, vocabulary::REPLY);
-    let from = std::num::wrapping_add_usize(place, 1);
+    let from = std::num::wrapping_add_usize(
+        tokens::find(tokens, arrow, count, vocabulary::REPLY),
+        1,
+    );
     let to = tokens::numbers_end(tokens, from, count);
     gather(&mut wanted, tokens, from, to);
-    let given = if place < count { std::num::wrapping_sub_usize(to, from) } else { 0 };
-    judging::number(desk, b"reply's length", length, given);
+    if !judging::value(desk, b"reply's length ", length, tokens::between(from, to)) {
+        return;
+    }
     for at in 0..REPLY {
-        judging::byte(desk, b"reply byte", at, reply[at], wanted[at]);
+        if reply[at] != wanted[at] {
+            judging::entry(desk, b"reply byte ", at, wide(reply[at]), wide(wanted[at]), 2);
+            return;
+        }
     }
 }
 
+fn wide(byte: u8) -> usize {
+    byte as usize
+}
+
 // The capture that is expected: the one that is told, or the one from before.
-pub fn judge_capture(
-    desk: &mut Desk,
-    tokens: &Tokens,
-    arrow: usize,
-    count: usize,
-    kept: Capture,
-    found: Capture,
-) {
+fn judge_capture(desk: &mut Desk, tokens: &Tokens, arrow: usize, count: usize, found: Capture) {
     let place = tokens::find(tokens, arrow, count, vocabulary::CAPTURED);
+    let kept = capture_of(desk);
     if place < count {
-        let first = std::num::wrapping_add_usize(place, 1);
-        let second = std::num::wrapping_add_usize(place, 2);
-        compare_captures(
-            desk,
-            found,
-            Capture::Number {
-                bus: tokens::byte(tokens, first),
-                device: tokens::byte(tokens, second),
-            },
-        );
+        compare_captures(desk, found, told_capture(tokens, place));
     } else if tokens::find(tokens, arrow, count, vocabulary::FORGOTTEN) < count {
         compare_captures(desk, found, Capture::Nothing);
     } else {
@@ -234,9 +296,16 @@ pub fn judge_capture(
     }
 }
 
+fn told_capture(tokens: &Tokens, place: usize) -> Capture {
+    Capture::Number {
+        bus: tokens::byte(tokens, std::num::wrapping_add_usize(place, 1)),
+        device: tokens::byte(tokens, std::num::wrapping_add_usize(place, 2)),
+    }
+}
+
 fn compare_captures(desk: &mut Desk, found: Capture, wanted: Capture) {
     if as_number(found) != as_number(wanted) {
-        judging::begin_difference(desk, b"captured");
+        judging::begin_difference(desk, b"captured ");
         explaining::put_capture(found);
         put(b", expected ");
         explaining::put_capture(wanted);
@@ -254,24 +323,27 @@ fn as_number(capture: Capture) -> usize {
 
 // A reset is asked for.
 pub fn reset(desk: &mut Desk, tokens: &Tokens, count: usize) {
-    let kept = capture_of(desk);
-    let arrow = tokens::find(tokens, 0, count, vocabulary::ARROW);
-    let found = board::reset(kept);
-    slots::lend_all(desk);
+    let found = board::reset(capture_of(desk));
+    let right = judge_reset(desk, tokens, count, found);
     keep_capture(desk, found);
-    if arrow < count {
-        judging::begin(desk);
-        judge_capture(desk, tokens, arrow, count, kept, found);
-        if judging::end(desk) {
-            return;
-        }
+    slots::lend_all(desk);
+    if !right {
+        explaining::captured(found);
     }
-    explaining::captured(desk);
+}
+
+fn judge_reset(desk: &mut Desk, tokens: &Tokens, count: usize, found: Capture) -> bool {
+    let arrow = asked(tokens, count);
+    if count <= arrow {
+        return false;
+    }
+    judging::begin(desk);
+    judge_capture(desk, tokens, arrow, count, found);
+    judging::end(desk)
 }
 
 // A merge is asked for: four old bytes, four rules, four data bytes, the enables.
 pub fn merge(desk: &mut Desk, tokens: &Tokens, count: usize) {
-    let arrow = tokens::find(tokens, 0, count, vocabulary::ARROW);
     let found = registers::merge(
         four_at(tokens, 1),
         four_at(tokens, 5),
@@ -279,25 +351,23 @@ pub fn merge(desk: &mut Desk, tokens: &Tokens, count: usize) {
         tokens::byte(tokens, 13),
     );
     slots::lend_all(desk);
-    if arrow < count {
-        let wanted = four_at(tokens, std::num::wrapping_add_usize(arrow, 2));
-        judging::begin(desk);
-        judging::byte(desk, b"byte", 0, found[0], wanted[0]);
-        judging::byte(desk, b"byte", 1, found[1], wanted[1]);
-        judging::byte(desk, b"byte", 2, found[2], wanted[2]);
-        judging::byte(desk, b"byte", 3, found[3], wanted[3]);
-        if judging::end(desk) {
-            return;
-        }
+    if !judge_merge(desk, tokens, count, found) {
+        explaining::merged(found);
     }
-    explaining::merged(found);
+}
+
+fn judge_merge(desk: &mut Desk, tokens: &Tokens, count: usize, found: [u8; 4]) -> bool {
+    let arrow = asked(tokens, count);
+    if count <= arrow {
+        return false;
+    }
+    judging::begin(desk);
+    judging::four(desk, found, four_at(tokens, std::num::wrapping_add_usize(arrow, 2)));
+    judging::end(desk)
 }
 
 fn four_at(tokens: &Tokens, place: usize) -> [u8; 4] {
-    [
-        tokens::byte(tokens, place),
-        tokens::byte(tokens, std::num::wrapping_add_usize(place, 1)),
-        tokens::byte(tokens, std::num::wrapping_add_usize(place, 2)),
-        tokens::byte(tokens, std::num::wrapping_add_usize(place, 3)),
-    ]
+    let mut bytes = [0u8; 4];
+    gather(&mut bytes, tokens, place, std::num::wrapping_add_usize(place, 4));
+    bytes
 }

@@ -85,23 +85,30 @@ fn ask_dvsec_of(desk: &mut Desk, tokens: &Tokens, count: usize, space: &[u8], si
     let at = tokens::at(tokens, 2);
     let record = dvsec_record(records::dvsec(lent, at));
     let body = records::dvsec_body(lent, at);
-    let arrow = tokens::find(tokens, 0, count, vocabulary::ARROW);
     slots::lend_all(desk);
-    if arrow < count {
-        judging::begin(desk);
-        judge(desk, tokens, arrow, count, record, vocabulary::HEADER);
-        judge_body(desk, tokens, arrow, count, space, body);
-        if judging::end(desk) {
-            return;
-        }
+    if !judge_dvsec(desk, tokens, count, record, space, body) {
+        explaining::put_number(record.number);
+        tell_header(record, body);
     }
-    explaining::put_number(record.number);
-    if record.count != 0 {
-        tell_header(record);
-        put(b"  body:");
-        put_bytes(body);
-        put(b"\n");
+}
+
+// Says whether something was expected, and is so.
+fn judge_dvsec(
+    desk: &mut Desk,
+    tokens: &Tokens,
+    count: usize,
+    record: Record,
+    space: &[u8],
+    body: &[u8],
+) -> bool {
+    let arrow = packets::asked(tokens, count);
+    if count <= arrow {
+        return false;
     }
+    judging::begin(desk);
+    judge(desk, tokens, arrow, count, record, vocabulary::HEADER);
+    judge_body(desk, tokens, arrow, count, space, body);
+    judging::end(desk)
 }
 
 pub fn ask_dual(desk: &mut Desk, tokens: &Tokens, count: usize, space: &[u8; LONG], size: usize) {
@@ -111,22 +118,27 @@ pub fn ask_dual(desk: &mut Desk, tokens: &Tokens, count: usize, space: &[u8; LON
 fn ask_dual_of(desk: &mut Desk, tokens: &Tokens, count: usize, space: &[u8], size: usize) {
     let length = spaces::within(size, space);
     let record = dual_record(records::dual_bdf(&space[..length], tokens::at(tokens, 2)));
-    let arrow = tokens::find(tokens, 0, count, vocabulary::ARROW);
     slots::lend_all(desk);
-    if arrow < count {
-        judging::begin(desk);
-        judge(desk, tokens, arrow, count, record, vocabulary::ALTERNATE);
-        if judging::end(desk) {
-            return;
-        }
-    }
-    explaining::put_number(record.number);
-    if record.count != 0 {
+    if !judge_dual(desk, tokens, count, record) {
+        explaining::put_number(record.number);
         tell_alternate(record);
     }
 }
 
-fn tell_header(record: Record) {
+fn judge_dual(desk: &mut Desk, tokens: &Tokens, count: usize, record: Record) -> bool {
+    let arrow = packets::asked(tokens, count);
+    if count <= arrow {
+        return false;
+    }
+    judging::begin(desk);
+    judge(desk, tokens, arrow, count, record, vocabulary::ALTERNATE);
+    judging::end(desk)
+}
+
+fn tell_header(record: Record, body: &[u8]) {
+    if record.count == 0 {
+        return;
+    }
     put(b"  vendor ");
     put_hex(record.first, 4);
     put(b" revision ");
@@ -135,10 +147,15 @@ fn tell_header(record: Record) {
     put_hex(record.third, 4);
     put(b" length ");
     put_hex(record.fourth, 3);
+    put(b"\n  body:");
+    put_bytes(body);
     put(b"\n");
 }
 
 fn tell_alternate(record: Record) {
+    if record.count == 0 {
+        return;
+    }
     put(b"  alternate: function ");
     put_hex(record.first, 1);
     put(b" device ");
@@ -155,13 +172,10 @@ fn judge(
     record: Record,
     clause: usize,
 ) {
-    let word = tokens::find(tokens, arrow, count, clause);
-    let from = std::num::wrapping_add_usize(word, 1);
-    let to = tokens::numbers_end(tokens, from, count);
-    let given = if word < count { std::num::wrapping_sub_usize(to, from) } else { 0 };
+    let from = std::num::wrapping_add_usize(tokens::find(tokens, arrow, count, clause), 1);
+    let given = tokens::between(from, tokens::numbers_end(tokens, from, count));
     packets::judge_number(desk, tokens, arrow, count, record.number);
-    judging::number(desk, b"count of fields", record.count, given);
-    if record.count == given {
+    if judging::value(desk, b"count of fields ", record.count, given) {
         judge_field(desk, tokens, from, 0, given, record.first);
         judge_field(desk, tokens, from, 1, given, record.second);
         judge_field(desk, tokens, from, 2, given, record.third);
@@ -179,7 +193,7 @@ fn judge_field(
 ) {
     if place < given {
         let wanted = tokens::at(tokens, std::num::wrapping_add_usize(from, place));
-        judging::value(desk, b"field", found, wanted);
+        judging::value(desk, b"field ", found, wanted);
     }
 }
 
@@ -193,19 +207,25 @@ fn judge_body(
     found: &[u8],
 ) {
     let word = tokens::find(tokens, arrow, count, vocabulary::BODY);
-    if count <= word {
-        judging::number(desk, b"body's length", found.len(), 0);
-        return;
-    }
     let start = tokens::at(tokens, std::num::wrapping_add_usize(word, 1));
     let size = tokens::at(tokens, std::num::wrapping_add_usize(word, 2));
-    judging::number(desk, b"body's length", found.len(), size);
+    let expected = if word < count { size } else { 0 };
+    if !judging::value(desk, b"body's length ", found.len(), expected) {
+        return;
+    }
     let mut at = 0;
     while at < found.len() {
-        let place = std::num::wrapping_add_usize(start, at);
-        judging::byte(desk, b"body byte", at, found[at], byte_of(space, place));
+        let wanted = byte_of(space, std::num::wrapping_add_usize(start, at));
+        if found[at] != wanted {
+            judging::entry(desk, b"body byte ", at, wide(found[at]), wide(wanted), 2);
+            return;
+        }
         at += 1;
     }
+}
+
+fn wide(byte: u8) -> usize {
+    byte as usize
 }
 
 fn byte_of(space: &[u8], at: usize) -> u8 {

@@ -29,6 +29,20 @@ pub fn put_hex(number: usize, digits: usize) {
     put_digit(number);
 }
 
+// A number of up to four digits, without zeros before it.
+pub fn put_value(number: usize) {
+    put_hex(number, digits_of(number));
+}
+
+fn digits_of(number: usize) -> usize {
+    match number {
+        0..=0xf => 1,
+        0x10..=0xff => 2,
+        0x100..=0xfff => 3,
+        _ => 4,
+    }
+}
+
 fn put_digit(number: usize) {
     let digits = *b"0123456789ABCDEF";
     put(&[digits[number % 16]]);

@@ -1,10 +1,9 @@
 // The four buffers of the board at the desk: filled, put and shown by hand, and held against what they should be.
+use crate::judging;
 use crate::saying::put;
 use crate::saying::put_byte;
 use crate::saying::put_bytes;
 use crate::saying::put_hex;
-use crate::saying::put_line_number;
-use crate::slots;
 use crate::slots::Desk;
 use crate::tokens;
 use crate::tokens::Tokens;
@@ -82,39 +81,34 @@ pub fn tell_differences(
             return told;
         }
         let word = place - place % 4;
-        tell_word(desk, judging, name, one, other, word);
+        tell_word(desk, judging, name, word);
+        tell_both(judging, words::four(one, word), words::four(other, word));
         told = std::num::wrapping_add_usize(told, 1);
         at = word + 4;
     }
     told
 }
 
-fn tell_word(
-    desk: &mut Desk,
-    judging: bool,
-    name: &[u8],
-    one: &[u8],
-    other: &[u8],
-    word: usize,
-) {
+fn tell_word(desk: &mut Desk, judging: bool, name: &[u8], word: usize) {
     if judging {
-        slots::count(desk, slots::WRONGS);
-        put_line_number(desk);
-        put(b"not as expected: ");
+        judging::begin_difference(desk, name);
     } else {
         put(b"  ");
+        put(name);
     }
-    put(name);
     put(b" ");
     put_hex(word, 3);
     put(b":");
-    put_bytes(&words::four(one, word));
+}
+
+fn tell_both(judging: bool, one: [u8; 4], other: [u8; 4]) {
+    put_bytes(&one);
     if judging {
         put(b", expected");
     } else {
         put(b" ->");
     }
-    put_bytes(&words::four(other, word));
+    put_bytes(&other);
     put(b"\n");
 }
 
@@ -133,7 +127,9 @@ pub fn show(space: &[u8; LONG], from: usize, count: usize) {
         put_byte(byte_at(space, std::num::wrapping_add_usize(from, done)));
         done += 1;
     }
-    put(b"\n");
+    if count != 0 {
+        put(b"\n");
+    }
 }
 
 pub fn byte_at(space: &[u8; LONG], at: usize) -> u8 {

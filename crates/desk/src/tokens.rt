@@ -165,3 +165,8 @@ pub fn numbers_end(tokens: &Tokens, from: usize, to: usize) -> usize {
     }
     place
 }
+
+// How many tokens stand between two places.
+pub fn between(from: usize, to: usize) -> usize {
+    if to < from { 0 } else { to - from }
+}

@@ -5,8 +5,8 @@ use crate::judging;
 use crate::packets;
 use crate::saying::put;
 use crate::saying::put_byte;
-use crate::saying::put_decimal;
 use crate::saying::put_hex;
+use crate::saying::put_value;
 use crate::slots;
 use crate::slots::Desk;
 use crate::spaces;
@@ -35,20 +35,16 @@ pub fn kind_of(name: usize) -> Kind {
 pub fn ask(desk: &mut Desk, tokens: &Tokens, count: usize, space: &[u8; LONG], size: usize) {
     let mut room = [UNTOUCHED; ROOM];
     let kind = kind_of(tokens::word(tokens, 1));
-    let arrow = tokens::find(tokens, 0, count, vocabulary::ARROW);
     let walked = walk(kind, space, size, desk[slots::ROOM], &mut room);
     let answer = walked.answer;
+    let number = answer.number();
     slots::lend_all(desk);
-    if arrow < count {
-        judging::begin(desk);
-        packets::judge_number(desk, tokens, arrow, count, answer.number());
-        judge(desk, tokens, arrow, count, walked.count, &room);
-        if judging::end(desk) {
-            return;
+    if !judge(desk, tokens, count, number, walked.count, &room) {
+        explaining::put_number(number);
+        if number == 0 {
+            tell(kind, space, walked.count, &room);
         }
     }
-    explaining::put_number(answer.number());
-    tell(kind, space, walked.count, &room);
 }
 
 fn walk(kind: Kind, space: &[u8], size: usize, entries: usize, room: &mut [u16]) -> Walked {
@@ -63,8 +59,27 @@ fn within_room(size: usize, room: &[u16]) -> usize
     if room.len() < size { room.len() } else { size }
 }
 
-// The offsets that are expected one by one, and then so many by steps; the rest of the room is untouched.
+// Says whether something was expected, and is so.
 fn judge(
+    desk: &mut Desk,
+    tokens: &Tokens,
+    count: usize,
+    number: u8,
+    found: usize,
+    room: &[u16; ROOM],
+) -> bool {
+    let arrow = packets::asked(tokens, count);
+    if count <= arrow {
+        return false;
+    }
+    judging::begin(desk);
+    packets::judge_number(desk, tokens, arrow, count, number);
+    judge_room(desk, tokens, arrow, count, found, room);
+    judging::end(desk)
+}
+
+// The offsets that are expected one by one, and then so many by steps; the rest of the room is untouched.
+fn judge_room(
     desk: &mut Desk,
     tokens: &Tokens,
     arrow: usize,
@@ -75,10 +90,12 @@ fn judge(
     let mut wanted = [UNTOUCHED; ROOM];
     let listed = list(&mut wanted, tokens, arrow, count);
     let stepped = step(&mut wanted, listed, tokens, arrow, count);
-    judging::number(desk, b"count", found, stepped);
+    if !judging::value(desk, b"count ", found, stepped) {
+        return;
+    }
     for entry in 0..ROOM {
         if room[entry] != wanted[entry] {
-            judging::entry(desk, entry, wide(room[entry]), wide(wanted[entry]));
+            judging::entry(desk, b"room entry ", entry, wide(room[entry]), wide(wanted[entry]), 4);
             return;
         }
     }
@@ -132,7 +149,7 @@ fn step(
 // The headers that were listed, with what each says of itself.
 fn tell(kind: Kind, space: &[u8; LONG], count: usize, room: &[u16; ROOM]) {
     put(b"  listed: ");
-    put_decimal(count);
+    put_value(count);
     put(b"\n");
     for entry in 0..ROOM {
         if entry < count {

@@ -1,0 +1,67 @@
+-- `desk::session::run` is safe and ends. Assumes nothing.
+use borrow.Author.Needs.{needs}
+use Rattle.desk.proofs.session.run.Statement.{statement}
+use Rattle.desk.proofs.session.run.Tie as tie
+
+abbrev Inv-loop : tie.InvT-loop
+Inv-loop piece₀ ordinary₀ ordinary-rules₀ trusted₀ trusted-rules₀ desk₀ rest₀ turns₀ piece ordinary ordinary-rules trusted trusted-rules desk rest turns =
+    Unit {0}
+
+abbrev μ-loop : tie.MeasureT-loop
+μ-loop piece₀ ordinary₀ ordinary-rules₀ trusted₀ trusted-rules₀ desk₀ rest₀ turns₀ piece ordinary ordinary-rules trusted trusted-rules desk rest turns =
+    turns
+
+begin-requires : tie.Need-begin-requires Inv-loop μ-loop
+begin-requires c κs = search needs
+
+loop-holds : tie.Need-loop-holds Inv-loop μ-loop
+loop-holds c = search needs
+
+sub-turns : tie.Need-sub-turns Inv-loop μ-loop
+sub-turns c = search needs
+
+read-more-requires : tie.Need-read-more-requires Inv-loop μ-loop
+read-more-requires c κs = search needs
+
+take-lines-requires : tie.Need-take-lines-requires Inv-loop μ-loop
+take-lines-requires c κs = search needs
+
+keep-rest-requires : tie.Need-keep-rest-requires Inv-loop μ-loop
+keep-rest-requires c κs = search needs
+
+give-up-requires : tie.Need-give-up-requires Inv-loop μ-loop
+give-up-requires c κs = search needs
+
+loop-less : tie.Need-loop-less Inv-loop μ-loop
+loop-less c = search needs
+
+loop-again : tie.Need-loop-again Inv-loop μ-loop
+loop-again c = search needs
+
+take-last-requires : tie.Need-take-last-requires Inv-loop μ-loop
+take-last-requires c κs = search needs
+
+tell-end-requires : tie.Need-tell-end-requires Inv-loop μ-loop
+tell-end-requires c κs = search needs
+
+returns : tie.Need-returns Inv-loop μ-loop
+returns c = search needs
+
+pub run-spec : {M : Type 1} → statement M
+run-spec =
+    tie.close
+    (tie.spec
+    Inv-loop
+    μ-loop
+    begin-requires
+    loop-holds
+    sub-turns
+    read-more-requires
+    take-lines-requires
+    keep-rest-requires
+    give-up-requires
+    loop-less
+    loop-again
+    take-last-requires
+    tell-end-requires
+    returns)
