@@ -1,0 +1,118 @@
+# The blocks of docs/LEARN.md, docs/ANSWERS.md and docs/SHARED.md are what the desk answers. A fenced block that has a line beginning with '> ' is
+# a transcript: what stands behind '> ' is typed, the other lines are the answers. All transcripts of a page, in order, are one session. The
+# variable DESK may name another command for the desk.
+work=$(mktemp -d) || exit 2
+trap 'rm -rf "$work"' EXIT
+
+desk() { if [ -n "${DESK:-}" ]; then $DESK; else ./run desk; fi; }
+
+# blocks PAGE: every line of the page's transcripts, with its number in the page before it
+blocks() {
+    awk '/^```/ { if (fenced && typed) printf "%s", text; fenced = !fenced; typed = 0; text = ""; next }
+        fenced { text = text FNR ":" $0 "\n"; if (/^> /) typed = 1 }
+        END { if (fenced) print FNR ":a block has no end" }' "$1"
+}
+typed() { blocks "$1" | sed -n 's/^[0-9]*:> //p'; }
+checks() { typed "$1" | sed 's/#.*//' | grep -c -e ' -> '; }
+
+# session: what the desk answers to typed lines, each of which it writes out
+session() { { echo echo && cat; } | desk 2>"$work/log"; }
+
+# difference PAGE UNKNOWN: the page's session. So many lines are not to be understood, and every check is to be as expected. Tells the first
+# line where the page and the desk differ, or nothing
+difference() {
+    blocks "$1" >"$work/blocks"
+    { cut -d : -f 2- "$work/blocks" && echo "checks $(checks "$1"), as expected $(checks "$1"), lines not understood $2"; } >"$work/page"
+    typed "$1" | session >"$work/answers"
+    [ -s "$work/answers" ] || { echo "the desk wrote nothing: $(tail -n 1 "$work/log")" && return; }
+    ! cmp -s "$work/page" "$work/answers" || return
+    awk 'FILENAME == ARGV[1] { place[FNR] = "line " $0; sub(/:.*/, "", place[FNR]); next }
+        FILENAME == ARGV[2] { page[FNR] = $0; pages = FNR; next }
+        { desk[FNR] = $0; desks = FNR }
+        END {
+            for (n = 1; n <= pages && n <= desks && page[n] == desk[n]; n++);
+            printf "%s: the page has \"%s\", the desk \"%s\"\n", (n in place) ? place[n] : "the end", page[n], desk[n]
+        }' "$work/blocks" "$work/page" "$work/answers"
+}
+
+# page NAME UNKNOWN LINES CHECKS: the page is what the desk answers, and has at least so many typed lines and checks
+page() {
+    local page=docs/$1.md lines told
+    lines=$(($(typed "$page" | wc -l)))
+    told=$(difference "$page" "$2")
+    if [ -n "$told" ]; then
+        echo "FAILED the blocks of $page are not what the desk answers: $told"
+    elif [ "$lines" -lt "$3" ] || [ "$(checks "$page")" -lt "$4" ]; then
+        echo "FAILED the blocks of $page have $lines typed lines and $(checks "$page") checks, and should have $3 and $4"
+    else
+        echo "ok the blocks of $page are what the desk answers"
+    fi
+}
+page LEARN 1 41 15 # LEARN shows a mistake, and what the desk says of it
+page ANSWERS 0 78 39
+page SHARED 0 47 17
+
+# noticed WORDS TEXT: of the page on standard input, in which every line is to be understood, this is told
+noticed() {
+    local told
+    cat >"$work/other.md"
+    told=$(difference "$work/other.md" 0)
+    case $told in
+    *"$2"*) echo "ok $1 in a page is noticed" ;;
+    *) echo "FAILED $1 in a page is told as '$told'" ;;
+    esac
+}
+# as_answered LINE: a page with this line typed, and what the desk answers to it
+as_answered() { echo '```' && echo "$1" | session | sed '$d' && echo '```'; }
+sed 's/^\(  reply: .* 75\) 00$/\1 01/' docs/ANSWERS.md | noticed 'an altered answer' ' 75 01", the desk "  reply: 0A 00 00 00 05 18 20 04 01 00 75 00"'
+sed '/-> forgotten$/{n;d;}' docs/SHARED.md | noticed 'a missing answer' ', the desk "as expected"'
+sed 's/trusted 1A8 72 72 72 7E$/trusted 1A8 72 72 72 7F/' docs/ANSWERS.md | noticed 'a wrong expectation' 'the page has "as expected", the desk "line '
+sed '$d' docs/SHARED.md | noticed 'a block without an end' 'the page has "a block has no end"'
+as_answered 'reset -> captured 05 03' | noticed 'a failed check, as the desk tells it,' 'the end: the page has "checks 1, as expected 1, '
+as_answered 'walrus extended' | noticed 'a mistake, as the desk tells it,' 'the end: the page has "checks 0, as expected 0, lines not understood 0"'
+
+# What SHARED says of pairs of runs. A board begins with its name in a comment of its own; questions are what comes, all else is how it begins.
+# What a question expects is what is answered: that is tried above.
+shared=docs/SHARED.md
+of_board() { typed "$shared" | awk -v name="$1" '/^# [A-Z][a-z]*$/ { on = $2 == name; next } on'; }
+questions() { of_board "$1" | grep -E '^(packet|reset)( |$)'; }
+beginning() { of_board "$1" | grep -v -E '^(packet|reset)( |$)'; }
+asked() { questions "$1" | sed 's/ -> .*//'; }
+trusted() { questions "$1" | grep -i -E '^packet [159D]B '; }
+ordinary() { questions "$1" | grep -v -i -E '^packet [159D]B '; }
+same() { [ -n "$1" ] && [ "$1" = "$2" ]; }
+# differ_only X Y WORDS: the boards begin with these words' lines different, every word's, and with the same lines else
+differ_only() {
+    local word
+    for word in $3; do
+        [ "$(beginning "$1" | grep -E "^$word( |\$)")" != "$(beginning "$2" | grep -E "^$word( |\$)")" ] || return
+    done
+    same "$(beginning "$1" | grep -v -E "^(${3// /|})( |\$)")" "$(beginning "$2" | grep -v -E "^(${3// /|})( |\$)")"
+}
+agree() { # X Y
+    differ_only "$1" "$2" 'B trusted trusted-rules' && same "$(ordinary "$1")" "$(ordinary "$2")" && [ "$(trusted "$1")" != "$(trusted "$2")" ]
+}
+disagree() { # X Y WORDS
+    differ_only "$1" "$2" "$3" && same "$(asked "$1")" "$(asked "$2")" && [ "$(questions "$1")" != "$(questions "$2")" ]
+}
+held() { # WORDS COMMAND..
+    if "${@:2}"; then echo "ok SHARED: $1"; else echo "FAILED SHARED: not so: $1"; fi
+}
+every_question_is_a_check() { [ "$(typed "$shared" | grep -c -E '^(packet|reset)( |$)')" -eq "$(checks "$shared")" ]; }
+held 'every packet and every reset is a check' every_question_is_a_check
+held 'Harbour and Ridge differ in B and in trusted things, and agree on every ordinary packet' agree Harbour Ridge
+held 'Mill and Dune differ in the register, ask the same and disagree' disagree Mill Dune trusted
+held 'Quay and Moor differ in the capture, ask the same and disagree' disagree Quay Moor 'captured forgotten'
+
+# and the same of copies in which it is not so
+refused() { # WORDS COMMAND..: with the page on standard input
+    cat >"$work/shared.md"
+    shared=$work/shared.md
+    if "${@:2}"; then echo "FAILED SHARED: $1 would go unnoticed"; else echo "ok SHARED: $1 would be noticed"; fi
+}
+sed 's/ -> forgotten$//' docs/SHARED.md | refused 'a reset without an expectation' every_question_is_a_check
+awk '/^> # Ridge/ { on = 1 } on { sub(/11 22 33 44 ->/, "11 22 33 45 ->") } { print }' docs/SHARED.md | refused 'another ordinary packet' agree Harbour Ridge
+awk '/^> # Ridge/ { on = 1 } on { sub(/ordinary 104 AA/, "ordinary 104 AB") } { print }' docs/SHARED.md | refused 'another ordinary byte at the beginning' agree Harbour Ridge
+sed 's/trusted 00C FF FF FF FF/trusted 00C 00 00 00 00/' docs/SHARED.md | refused 'the same register twice' disagree Mill Dune trusted
+awk '/^> # Moor/ { on = 1 } on { sub(/18 00 04 ->/, "18 00 08 ->") } { print }' docs/SHARED.md | refused 'another question' disagree Quay Moor 'captured forgotten'
+exit 0
