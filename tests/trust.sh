@@ -21,7 +21,7 @@ done
 verdict() { grep '^logic=' "$1" 2>/dev/null | tail -n 1; }
 for program in $(sed -nE 's/^\| the program `([a-z]+)` \|.*/\1/p' "$page"); do
     wanted=$(sed -nE "s/^\| the program \`$program\` \| (.*) \|\$/\1/p" "$page" | tr -d '\`')
-    log=target/log/$program.out
+    log=target/log/$program.say
     told=$(sed -nE 's/^axioms [a-z]+: (.*) \([0-9]+ of .*/\1/p' "$log" 2>/dev/null | tail -n 1)
     case $(verdict "$log") in
     'logic=proved '*) if [ "$told" = "$wanted" ]; then echo "ok the program $program assumes $wanted"; else echo "FAILED the program $program assumes $told, and $page says $wanted"; fi ;;

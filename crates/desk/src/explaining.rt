@@ -63,7 +63,17 @@ pub fn packet(
     captured(state);
 }
 
-fn request(desk: &Desk, packet: &[u8], length: usize, replied: usize, reply: &[u8; REPLY]) {
+fn request(
+    desk: &Desk,
+    packet: &[u8; PACKET],
+    length: usize,
+    replied: usize,
+    reply: &[u8; REPLY],
+) {
+    request_of(desk, packet, length, replied, reply);
+}
+
+fn request_of(desk: &Desk, packet: &[u8], length: usize, replied: usize, reply: &[u8; REPLY]) {
     let sent = spaces::within(length, packet);
     match packet::decode(&packet[..sent]) {
         Decoded::Refused(_) => {}

@@ -161,8 +161,31 @@ fn send(
     )
 }
 
-// Each buffer is lent as far as the desk says.
+// The arrays as slices.
 fn serve(
+    desk: &Desk,
+    ordinary: &mut [u8; LONG],
+    ordinary_rules: &[u8; LONG],
+    trusted: &mut [u8; LONG],
+    trusted_rules: &[u8; LONG],
+    packet: &[u8; PACKET],
+    length: usize,
+    reply: &mut [u8; REPLY],
+) -> Served {
+    serve_parts(
+        desk,
+        ordinary,
+        ordinary_rules,
+        trusted,
+        trusted_rules,
+        packet,
+        length,
+        reply,
+    )
+}
+
+// Each buffer is lent as far as the desk says.
+fn serve_parts(
     desk: &Desk,
     ordinary: &mut [u8],
     ordinary_rules: &[u8],
@@ -367,7 +390,10 @@ fn judge_merge(desk: &mut Desk, tokens: &Tokens, count: usize, found: [u8; 4]) -
 }
 
 fn four_at(tokens: &Tokens, place: usize) -> [u8; 4] {
-    let mut bytes = [0u8; 4];
-    gather(&mut bytes, tokens, place, std::num::wrapping_add_usize(place, 4));
-    bytes
+    [
+        tokens::byte(tokens, place),
+        tokens::byte(tokens, std::num::wrapping_add_usize(place, 1)),
+        tokens::byte(tokens, std::num::wrapping_add_usize(place, 2)),
+        tokens::byte(tokens, std::num::wrapping_add_usize(place, 3)),
+    ]
 }

@@ -64,6 +64,9 @@ put-requires-4 c κs = search needs
 returns : tie.Need-returns Inv-loop μ-loop
 returns c = search needs
 
+returns-2 : tie.Need-returns-2 Inv-loop μ-loop
+returns-2 c = search needs
+
 pub show-spec : {M : Type 1} → statement M
 show-spec =
     tie.close
@@ -87,4 +90,5 @@ show-spec =
     loop-again
     slice-aggregate-put-4
     put-requires-4
-    returns)
+    returns
+    returns-2)

@@ -16,8 +16,8 @@ slice-aggregate-put c = search needs
 put-requires : tie.Need-put-requires Inv-loop μ-loop
 put-requires c κs = search needs
 
-put-decimal-requires : tie.Need-put-decimal-requires Inv-loop μ-loop
-put-decimal-requires c κs = search needs
+put-value-requires : tie.Need-put-value-requires Inv-loop μ-loop
+put-value-requires c κs = search needs
 
 slice-aggregate-put-2 : tie.Need-slice-aggregate-put-2 Inv-loop μ-loop
 slice-aggregate-put-2 c = search needs
@@ -60,7 +60,7 @@ tell-spec =
     μ-loop
     slice-aggregate-put
     put-requires
-    put-decimal-requires
+    put-value-requires
     slice-aggregate-put-2
     put-requires-2
     loop-holds
