@@ -47,35 +47,18 @@ its function vector has not exactly one bit
 }
 
 // A packet that was served: the number, what it asked for as the board read it, what the completion says of it, what is captured.
-pub fn packet(
-    desk: &Desk,
-    tokens: &Tokens,
-    count: usize,
-    served: Served,
-    reply: &[u8; REPLY],
-) {
+pub fn packet(desk: &Desk, tokens: &Tokens, count: usize, served: Served, reply: &[u8; REPLY]) {
     let mut bytes = [0u8; PACKET];
     let length = packets::packet_of(&mut bytes, tokens, count);
     let answer = served.answer;
     let state = served.capture;
     put_number(answer.number());
-    request(desk, &bytes, length, served.length, reply);
+    request(desk, packets::sent(&bytes, length), served.length, reply);
     captured(state);
 }
 
-fn request(
-    desk: &Desk,
-    packet: &[u8; PACKET],
-    length: usize,
-    replied: usize,
-    reply: &[u8; REPLY],
-) {
-    request_of(desk, packet, length, replied, reply);
-}
-
-fn request_of(desk: &Desk, packet: &[u8], length: usize, replied: usize, reply: &[u8; REPLY]) {
-    let sent = spaces::within(length, packet);
-    match packet::decode(&packet[..sent]) {
+fn request(desk: &Desk, packet: &[u8], replied: usize, reply: &[u8; REPLY]) {
+    match packet::decode(packet) {
         Decoded::Refused(_) => {}
         Decoded::Asks(asked) => {
             put_request(asked, packet);
@@ -88,7 +71,11 @@ fn request_of(desk: &Desk, packet: &[u8], length: usize, replied: usize, reply: 
 }
 
 fn cause_of(desk: &Desk, asked: Request) -> Cause {
-    reasons::why(packets::description_of(desk), packets::capture_of(desk), asked)
+    reasons::why(
+        packets::description_of(desk),
+        packets::capture_of(desk),
+        asked,
+    )
 }
 
 fn put_request(asked: Request, packet: &[u8]) {

@@ -344,7 +344,11 @@ impl Reading {
 }
 
 fn unknown(statement: usize) -> usize {
-    if statement == NOTHING { faults::NO_STATEMENT } else { faults::UNKNOWN }
+    if statement == NOTHING {
+        faults::NO_STATEMENT
+    } else {
+        faults::UNKNOWN
+    }
 }
 
 fn lacks_name(form: Form, has: bool) -> bool {
@@ -375,7 +379,11 @@ fn fault_of_number(word: usize, form: Form, given: usize, first: usize, number: 
 
 // An answer number is written in decimal.
 fn fault_of_answer(number: usize) -> usize {
-    if 9 < number % 16 { faults::NO_ANSWER } else { faults::NONE }
+    if 9 < number % 16 {
+        faults::NO_ANSWER
+    } else {
+        faults::NONE
+    }
 }
 
 // Where the bytes end that are put or shown from an offset on, or 0 where there are none.

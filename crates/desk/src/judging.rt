@@ -7,6 +7,7 @@ use crate::saying::put_line_number;
 use crate::saying::put_value;
 use crate::slots;
 use crate::slots::Desk;
+use crate::spaces;
 
 // A check begins.
 pub fn begin(desk: &mut Desk) {
@@ -57,14 +58,7 @@ pub fn value(desk: &mut Desk, what: &[u8], found: usize, wanted: usize) -> bool 
 }
 
 // The value at a place of many, where it is another.
-pub fn entry(
-    desk: &mut Desk,
-    what: &[u8],
-    at: usize,
-    found: usize,
-    wanted: usize,
-    digits: usize,
-) {
+pub fn entry(desk: &mut Desk, what: &[u8], at: usize, found: usize, wanted: usize, digits: usize) {
     begin_difference(desk, what);
     put_value(at);
     put(b" is ");
@@ -72,6 +66,24 @@ pub fn entry(
     put(b", expected ");
     put_hex(wanted, digits);
     put(b"\n");
+}
+
+// Bytes, one by one, up to the first that is another.
+pub fn bytes(desk: &mut Desk, what: &[u8], found: &[u8], wanted: &[u8]) {
+    let mut at = 0;
+    while at < found.len() {
+        let is = found[at];
+        let should = spaces::byte_of(wanted, at);
+        if is != should {
+            entry(desk, what, at, wide(is), wide(should), 2);
+            return;
+        }
+        at += 1;
+    }
+}
+
+fn wide(byte: u8) -> usize {
+    byte as usize
 }
 
 // Four bytes.

@@ -19,19 +19,10 @@ mod vocabulary;
 mod walking;
 
 use session::PIECE;
-use spaces::LONG;
+use spaces::STORE;
 
 fn main() {
     let mut piece = [0; PIECE];
-    let mut ordinary = [0; LONG];
-    let mut ordinary_rules = [0; LONG];
-    let mut trusted = [0; LONG];
-    let mut trusted_rules = [0; LONG];
-    session::run(
-        &mut piece,
-        &mut ordinary,
-        &mut ordinary_rules,
-        &mut trusted,
-        &mut trusted_rules,
-    );
+    let mut store = [0; STORE];
+    session::run(&mut piece, &mut store);
 }

@@ -6,7 +6,10 @@ use crate::saying::put;
 use crate::slots;
 use crate::slots::Desk;
 use crate::spaces;
+use crate::spaces::Buffer;
 use crate::spaces::LONG;
+use crate::spaces::STORE;
+use crate::spaces::Store;
 use crate::tokens;
 use crate::tokens::Tokens;
 use crate::vocabulary;
@@ -21,63 +24,20 @@ pub const REPLY: usize = 20;
 
 const UNTOUCHED: u8 = 0xee;
 
-pub fn ask(
-    desk: &mut Desk,
-    tokens: &Tokens,
-    count: usize,
-    ordinary: &mut [u8; LONG],
-    ordinary_rules: &[u8; LONG],
-    trusted: &mut [u8; LONG],
-    trusted_rules: &[u8; LONG],
-) {
-    let mut ordinary_before = [0u8; LONG];
-    let mut trusted_before = [0u8; LONG];
+pub fn ask(desk: &mut Desk, tokens: &Tokens, count: usize, store: &mut Store) {
+    let mut before = [0u8; STORE];
     let mut reply = [UNTOUCHED; REPLY];
-    words::put(&mut ordinary_before, 0, ordinary);
-    words::put(&mut trusted_before, 0, trusted);
-    let served = send(
-        desk,
-        tokens,
-        count,
-        ordinary,
-        ordinary_rules,
-        trusted,
-        trusted_rules,
-        &mut reply,
-    );
-    let right = judge(
-        desk,
-        tokens,
-        count,
-        served,
-        &reply,
-        &ordinary_before,
-        ordinary,
-        &trusted_before,
-        trusted,
-    );
-    if !right {
+    words::put(&mut before, 0, store);
+    let served = send(desk, tokens, count, store, &mut reply);
+    if !judge(desk, tokens, count, served, &reply, &before, store) {
         explaining::packet(desk, tokens, count, served, &reply);
-        tell_changes(desk, &ordinary_before, ordinary, &trusted_before, trusted);
-    }
-    keep(desk, served);
-    slots::lend_all(desk);
-}
-
-fn tell_changes(
-    desk: &mut Desk,
-    ordinary_before: &[u8; LONG],
-    ordinary: &[u8; LONG],
-    trusted_before: &[u8; LONG],
-    trusted: &[u8; LONG],
-) {
-    let first = spaces::tell_differences(desk, false, b"ordinary", ordinary_before, ordinary);
-    let second = spaces::tell_differences(desk, false, b"trusted", trusted_before, trusted);
-    if first == 0 {
-        if second == 0 {
+        if spaces::tell_differences(desk, false, &before, store) == 0 {
             put(b"  no byte changed\n");
         }
     }
+    let state = served.capture;
+    keep_capture(desk, state);
+    slots::lend_all(desk);
 }
 
 // How many of the tokens are the question itself.
@@ -96,7 +56,11 @@ pub fn packet_of(packet: &mut [u8; PACKET], tokens: &Tokens, count: usize) -> us
 pub fn gather(bytes: &mut [u8], tokens: &Tokens, from: usize, to: usize) {
     let mut place = from;
     while place < to {
-        set(bytes, std::num::wrapping_sub_usize(place, from), tokens::byte(tokens, place));
+        set(
+            bytes,
+            std::num::wrapping_sub_usize(place, from),
+            tokens::byte(tokens, place),
+        );
         place += 1;
     }
 }
@@ -125,11 +89,6 @@ pub fn description_of(desk: &Desk) -> Description {
     }
 }
 
-fn keep(desk: &mut Desk, served: Served) {
-    let state = served.capture;
-    keep_capture(desk, state);
-}
-
 pub fn keep_capture(desk: &mut Desk, state: Capture) {
     match state {
         Capture::Nothing => desk[slots::CAPTURED] = 0,
@@ -137,51 +96,64 @@ pub fn keep_capture(desk: &mut Desk, state: Capture) {
     }
 }
 
+// The board is lent its buffers out of the store, and what it leaves in the two spaces is put back.
 fn send(
     desk: &Desk,
     tokens: &Tokens,
     count: usize,
-    ordinary: &mut [u8; LONG],
-    ordinary_rules: &[u8; LONG],
-    trusted: &mut [u8; LONG],
-    trusted_rules: &[u8; LONG],
+    store: &mut Store,
     reply: &mut [u8; REPLY],
 ) -> Served {
-    let mut packet = [0u8; PACKET];
-    let length = packet_of(&mut packet, tokens, count);
-    serve(
+    let mut ordinary = [0u8; LONG];
+    let mut ordinary_rules = [0u8; LONG];
+    let mut trusted = [0u8; LONG];
+    let mut trusted_rules = [0u8; LONG];
+    spaces::take_out(&mut ordinary, store, spaces::ORDINARY);
+    spaces::take_out(&mut ordinary_rules, store, spaces::ORDINARY_RULES);
+    spaces::take_out(&mut trusted, store, spaces::TRUSTED);
+    spaces::take_out(&mut trusted_rules, store, spaces::TRUSTED_RULES);
+    let served = serve(
         desk,
-        ordinary,
-        ordinary_rules,
-        trusted,
-        trusted_rules,
-        &packet,
-        length,
+        tokens,
+        count,
+        &mut ordinary,
+        &ordinary_rules,
+        &mut trusted,
+        &trusted_rules,
         reply,
-    )
+    );
+    spaces::put_back(store, spaces::ORDINARY, &ordinary);
+    spaces::put_back(store, spaces::TRUSTED, &trusted);
+    served
 }
 
 // The arrays as slices.
 fn serve(
     desk: &Desk,
-    ordinary: &mut [u8; LONG],
-    ordinary_rules: &[u8; LONG],
-    trusted: &mut [u8; LONG],
-    trusted_rules: &[u8; LONG],
-    packet: &[u8; PACKET],
-    length: usize,
+    tokens: &Tokens,
+    count: usize,
+    ordinary: &mut Buffer,
+    ordinary_rules: &Buffer,
+    trusted: &mut Buffer,
+    trusted_rules: &Buffer,
     reply: &mut [u8; REPLY],
 ) -> Served {
+    let mut packet = [0u8; PACKET];
+    let length = packet_of(&mut packet, tokens, count);
     serve_parts(
         desk,
         ordinary,
         ordinary_rules,
         trusted,
         trusted_rules,
-        packet,
-        length,
+        sent(&packet, length),
         reply,
     )
+}
+
+// The packet without the rest of its buffer.
+pub fn sent(packet: &[u8; PACKET], length: usize) -> &[u8] {
+    spaces::part(packet, 0, length)
 }
 
 // Each buffer is lent as far as the desk says.
@@ -192,14 +164,12 @@ fn serve_parts(
     trusted: &mut [u8],
     trusted_rules: &[u8],
     packet: &[u8],
-    length: usize,
     reply: &mut [u8],
 ) -> Served {
     let first = spaces::within(desk[slots::ORDINARY_SIZE], ordinary);
     let second = spaces::within(desk[slots::ORDINARY_RULES_SIZE], ordinary_rules);
     let third = spaces::within(desk[slots::TRUSTED_SIZE], trusted);
     let fourth = spaces::within(desk[slots::TRUSTED_RULES_SIZE], trusted_rules);
-    let sent = spaces::within(length, packet);
     let room = spaces::within(desk[slots::ROOM], reply);
     board::serve(
         description_of(desk),
@@ -208,31 +178,31 @@ fn serve_parts(
         &ordinary_rules[..second],
         &mut trusted[..third],
         &trusted_rules[..fourth],
-        &packet[..sent],
+        packet,
         &mut reply[..room],
     )
 }
 
-// Says whether something was expected, and is so.
+// Says whether something was expected, and is so: the answer, and every byte as before, except those that are expected to be others.
 fn judge(
     desk: &mut Desk,
     tokens: &Tokens,
     count: usize,
     served: Served,
     reply: &[u8; REPLY],
-    ordinary_before: &[u8; LONG],
-    ordinary: &[u8; LONG],
-    trusted_before: &[u8; LONG],
-    trusted: &[u8; LONG],
+    before: &Store,
+    after: &Store,
 ) -> bool {
+    let mut wanted = [0u8; STORE];
     let arrow = asked(tokens, count);
     if count <= arrow {
         return false;
     }
     judging::begin(desk);
     judge_answer(desk, tokens, arrow, count, served, reply);
-    judge_space(desk, tokens, count, vocabulary::ORDINARY, ordinary_before, ordinary);
-    judge_space(desk, tokens, count, vocabulary::TRUSTED, trusted_before, trusted);
+    words::put(&mut wanted, 0, before);
+    spaces::put_behind(&mut wanted, tokens, arrow, count);
+    spaces::tell_differences(desk, true, after, &wanted);
     judging::end(desk)
 }
 
@@ -251,28 +221,13 @@ fn judge_answer(
     judge_capture(desk, tokens, arrow, count, state);
 }
 
-// Every byte of a space is as before, except those that are expected to be others.
-fn judge_space(
-    desk: &mut Desk,
-    tokens: &Tokens,
-    count: usize,
-    word: usize,
-    before: &[u8; LONG],
-    after: &[u8; LONG],
-) {
-    let mut wanted = [0u8; LONG];
-    words::put(&mut wanted, 0, before);
-    spaces::put_behind(&mut wanted, tokens, asked(tokens, count), count, word);
-    if word == vocabulary::ORDINARY {
-        spaces::tell_differences(desk, true, b"ordinary", after, &wanted);
-    } else {
-        spaces::tell_differences(desk, true, b"trusted", after, &wanted);
-    }
-}
-
 pub fn judge_number(desk: &mut Desk, tokens: &Tokens, arrow: usize, count: usize, found: u8) {
     let place = tokens::find(tokens, arrow, count, vocabulary::NUMBER);
-    judging::number(desk, found, tokens::at(tokens, std::num::wrapping_add_usize(place, 1)));
+    judging::number(
+        desk,
+        found,
+        tokens::at(tokens, std::num::wrapping_add_usize(place, 1)),
+    );
 }
 
 // The reply's bytes at the front of its buffer, and the rest untouched.
@@ -285,25 +240,17 @@ fn judge_reply(
     reply: &[u8; REPLY],
 ) {
     let mut wanted = [UNTOUCHED; REPLY];
-    let from = std::num::wrapping_add_usize(
-        tokens::find(tokens, arrow, count, vocabulary::REPLY),
-        1,
-    );
+    let word = tokens::find(tokens, arrow, count, vocabulary::REPLY);
+    let from = std::num::wrapping_add_usize(word, 1);
     let to = tokens::numbers_end(tokens, from, count);
     gather(&mut wanted, tokens, from, to);
-    if !judging::value(desk, b"reply's length ", length, tokens::between(from, to)) {
-        return;
-    }
-    for at in 0..REPLY {
-        if reply[at] != wanted[at] {
-            judging::entry(desk, b"reply byte ", at, wide(reply[at]), wide(wanted[at]), 2);
-            return;
-        }
+    if judging::value(desk, b"reply's length ", length, tokens::between(from, to)) {
+        judge_bytes(desk, reply, &wanted);
     }
 }
 
-fn wide(byte: u8) -> usize {
-    byte as usize
+fn judge_bytes(desk: &mut Desk, reply: &[u8; REPLY], wanted: &[u8; REPLY]) {
+    judging::bytes(desk, b"reply byte ", reply, wanted);
 }
 
 // The capture that is expected: the one that is told, or the one from before.
@@ -385,7 +332,11 @@ fn judge_merge(desk: &mut Desk, tokens: &Tokens, count: usize, found: [u8; 4]) -
         return false;
     }
     judging::begin(desk);
-    judging::four(desk, found, four_at(tokens, std::num::wrapping_add_usize(arrow, 2)));
+    judging::four(
+        desk,
+        found,
+        four_at(tokens, std::num::wrapping_add_usize(arrow, 2)),
+    );
     judging::end(desk)
 }
 

@@ -9,7 +9,6 @@ use crate::saying::put_hex;
 use crate::slots;
 use crate::slots::Desk;
 use crate::spaces;
-use crate::spaces::LONG;
 use crate::tokens;
 use crate::tokens::Tokens;
 use crate::vocabulary;
@@ -75,16 +74,10 @@ fn dual_record(read: DualRead) -> Record {
     }
 }
 
-pub fn ask_dvsec(desk: &mut Desk, tokens: &Tokens, count: usize, space: &[u8; LONG], size: usize) {
-    ask_dvsec_of(desk, tokens, count, space, size);
-}
-
-fn ask_dvsec_of(desk: &mut Desk, tokens: &Tokens, count: usize, space: &[u8], size: usize) {
-    let length = spaces::within(size, space);
-    let lent = &space[..length];
+pub fn ask_dvsec(desk: &mut Desk, tokens: &Tokens, count: usize, space: &[u8]) {
     let at = tokens::at(tokens, 2);
-    let record = dvsec_record(records::dvsec(lent, at));
-    let body = records::dvsec_body(lent, at);
+    let record = dvsec_record(records::dvsec(space, at));
+    let body = records::dvsec_body(space, at);
     slots::lend_all(desk);
     if !judge_dvsec(desk, tokens, count, record, space, body) {
         explaining::put_number(record.number);
@@ -111,13 +104,8 @@ fn judge_dvsec(
     judging::end(desk)
 }
 
-pub fn ask_dual(desk: &mut Desk, tokens: &Tokens, count: usize, space: &[u8; LONG], size: usize) {
-    ask_dual_of(desk, tokens, count, space, size);
-}
-
-fn ask_dual_of(desk: &mut Desk, tokens: &Tokens, count: usize, space: &[u8], size: usize) {
-    let length = spaces::within(size, space);
-    let record = dual_record(records::dual_bdf(&space[..length], tokens::at(tokens, 2)));
+pub fn ask_dual(desk: &mut Desk, tokens: &Tokens, count: usize, space: &[u8]) {
+    let record = dual_record(records::dual_bdf(space, tokens::at(tokens, 2)));
     slots::lend_all(desk);
     if !judge_dual(desk, tokens, count, record) {
         explaining::put_number(record.number);
@@ -210,24 +198,12 @@ fn judge_body(
     let start = tokens::at(tokens, std::num::wrapping_add_usize(word, 1));
     let size = tokens::at(tokens, std::num::wrapping_add_usize(word, 2));
     let expected = if word < count { size } else { 0 };
-    if !judging::value(desk, b"body's length ", found.len(), expected) {
-        return;
+    if judging::value(desk, b"body's length ", found.len(), expected) {
+        judging::bytes(
+            desk,
+            b"body byte ",
+            found,
+            spaces::part(space, start, expected),
+        );
     }
-    let mut at = 0;
-    while at < found.len() {
-        let wanted = byte_of(space, std::num::wrapping_add_usize(start, at));
-        if found[at] != wanted {
-            judging::entry(desk, b"body byte ", at, wide(found[at]), wide(wanted), 2);
-            return;
-        }
-        at += 1;
-    }
-}
-
-fn wide(byte: u8) -> usize {
-    byte as usize
-}
-
-fn byte_of(space: &[u8], at: usize) -> u8 {
-    if at < space.len() { space[at] } else { 0 }
 }

@@ -10,78 +10,59 @@ use crate::saying::put_plain;
 use crate::slots;
 use crate::slots::Desk;
 use crate::slots::SLOTS;
-use crate::spaces::LONG;
+use crate::spaces::Store;
 use crate::tokens;
 use crate::tokens::MOST;
-use crate::tokens::Places;
+use crate::tokens::Tokens;
 use crate::tokens::WIDTH;
 
+// What is read at once; a line is shorter.
+pub const PIECE: usize = 4000;
+
 // A line is understood and done, or its first fault is told.
-fn take(
-    desk: &mut Desk,
-    line: &[u8],
-    ordinary: &mut [u8; LONG],
-    ordinary_rules: &mut [u8; LONG],
-    trusted: &mut [u8; LONG],
-    trusted_rules: &mut [u8; LONG],
-) {
+fn take(desk: &mut Desk, line: &[u8], store: &mut Store) {
     let mut tokens = [0usize; WIDTH];
-    let mut places = [0usize; MOST];
     slots::count(desk, slots::LINE);
+    echo(desk, line);
+    let count = tokens::read(line, &mut tokens);
+    if is_understood(desk, line, &tokens, count) {
+        doing::perform(desk, &tokens, count, store);
+    }
+}
+
+fn echo(desk: &Desk, line: &[u8]) {
     if desk[slots::ECHO] != 0 {
         put(b"> ");
         put_plain(line);
         put(b"\n");
     }
-    let count = tokens::read(line, &mut tokens, &mut places);
+}
+
+// Whether a line says something, and all of it fits; where not, why.
+fn is_understood(desk: &mut Desk, line: &[u8], tokens: &Tokens, count: usize) -> bool {
     if count == 0 {
-        return;
+        return false;
     }
     if MOST < count {
         faults::tell_whole(desk, faults::TOO_MANY_TOKENS);
-        return;
+        return false;
     }
-    let fault = grammar::fault_of(&tokens, count);
-    if fault.what != faults::NONE {
-        faults::tell(desk, line, begin_of(&places, fault.place, count, line), fault.what);
-        return;
+    let fault = grammar::fault_of(tokens, count);
+    if fault.what == faults::NONE {
+        return true;
     }
-    doing::perform(
-        desk,
-        &tokens,
-        count,
-        ordinary,
-        ordinary_rules,
-        trusted,
-        trusted_rules,
-    );
+    if fault.place < count {
+        faults::tell(desk, line, tokens::begin(tokens, fault.place), fault.what);
+    } else {
+        faults::tell(desk, line, line.len(), fault.what);
+    }
+    false
 }
-
-// Where a token begins, or the line's end.
-fn begin_of(places: &Places, place: usize, count: usize, line: &[u8]) -> usize {
-    if count <= place {
-        return line.len();
-    }
-    if MOST <= place {
-        return line.len();
-    }
-    places[place]
-}
-
-// What is read at once; a line is shorter.
-pub const PIECE: usize = 4000;
 
 // A whole line, or the end of one whose beginning was given up.
-fn take_whole(
-    desk: &mut Desk,
-    line: &[u8],
-    ordinary: &mut [u8; LONG],
-    ordinary_rules: &mut [u8; LONG],
-    trusted: &mut [u8; LONG],
-    trusted_rules: &mut [u8; LONG],
-) {
+fn take_whole(desk: &mut Desk, line: &[u8], store: &mut Store) {
     if desk[slots::SKIPPING] == 0 {
-        take(desk, line, ordinary, ordinary_rules, trusted, trusted_rules);
+        take(desk, line, store);
         return;
     }
     desk[slots::SKIPPING] = 0;
@@ -90,35 +71,20 @@ fn take_whole(
 }
 
 // Takes the lines that stand whole before `end`, and answers where the first one that does not begins.
-fn take_lines(
-    desk: &mut Desk,
-    piece: &[u8; PIECE],
-    end: usize,
-    ordinary: &mut [u8; LONG],
-    ordinary_rules: &mut [u8; LONG],
-    trusted: &mut [u8; LONG],
-    trusted_rules: &mut [u8; LONG],
-) -> usize {
+fn take_lines(desk: &mut Desk, piece: &[u8; PIECE], end: usize, store: &mut Store) -> usize {
     let mut from = 0;
     while from < end {
         let to = input::line_end(piece, from, end);
         if end <= to {
             return from;
         }
-        take_whole(
-            desk,
-            input::between(piece, from, to),
-            ordinary,
-            ordinary_rules,
-            trusted,
-            trusted_rules,
-        );
+        take_whole(desk, input::between(piece, from, to), store);
         from = to + 1;
     }
     from
 }
 
-// What is left of a line, `rest` bytes of it, where the input ends or the piece is full.
+// What is left of a line, `rest` bytes of it: given up where it fills the piece.
 fn give_up(desk: &mut Desk, rest: usize) -> usize {
     if rest < PIECE {
         return rest;
@@ -128,39 +94,18 @@ fn give_up(desk: &mut Desk, rest: usize) -> usize {
 }
 
 // A line without a line end, where the input ends.
-fn take_last(
-    desk: &mut Desk,
-    piece: &[u8; PIECE],
-    rest: usize,
-    ordinary: &mut [u8; LONG],
-    ordinary_rules: &mut [u8; LONG],
-    trusted: &mut [u8; LONG],
-    trusted_rules: &mut [u8; LONG],
-) {
+fn take_last(desk: &mut Desk, piece: &[u8; PIECE], rest: usize, store: &mut Store) {
     if rest == 0 {
         if desk[slots::SKIPPING] == 0 {
             return;
         }
     }
-    take_whole(
-        desk,
-        input::between(piece, 0, rest),
-        ordinary,
-        ordinary_rules,
-        trusted,
-        trusted_rules,
-    );
+    take_whole(desk, input::between(piece, 0, rest), store);
 }
 
 // The whole input. A proved loop has to end, and nothing says that the input does: so the turns are counted down, from a number that no
 // session uses up.
-pub fn run(
-    piece: &mut [u8; PIECE],
-    ordinary: &mut [u8; LONG],
-    ordinary_rules: &mut [u8; LONG],
-    trusted: &mut [u8; LONG],
-    trusted_rules: &mut [u8; LONG],
-) {
+pub fn run(piece: &mut [u8; PIECE], store: &mut Store) {
     let mut desk = [0usize; SLOTS];
     let mut rest = 0;
     let mut turns = u64::MAX;
@@ -171,26 +116,10 @@ pub fn run(
         if end <= rest {
             break;
         }
-        let from = take_lines(
-            &mut desk,
-            piece,
-            end,
-            ordinary,
-            ordinary_rules,
-            trusted,
-            trusted_rules,
-        );
+        let from = take_lines(&mut desk, piece, end, store);
         rest = give_up(&mut desk, input::keep_rest(piece, from, end));
     }
-    take_last(
-        &mut desk,
-        piece,
-        rest,
-        ordinary,
-        ordinary_rules,
-        trusted,
-        trusted_rules,
-    );
+    take_last(&mut desk, piece, rest, store);
     tell_end(&mut desk);
 }
 

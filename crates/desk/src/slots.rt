@@ -56,6 +56,12 @@ pub fn count(desk: &mut Desk, slot: usize) {
     }
 }
 
+pub fn set(desk: &mut Desk, slot: usize, number: usize) {
+    if slot < SLOTS {
+        desk[slot] = number;
+    }
+}
+
 // The bench sheet's board, with nothing captured.
 pub fn begin(desk: &mut Desk) {
     desk[FUNCTION] = 0;
@@ -71,11 +77,22 @@ pub fn capture(desk: &mut Desk, bus: usize, device: usize) {
     desk[DEVICE] = device;
 }
 
+// The next question is lent so much of each buffer.
+pub fn lend(
+    desk: &mut Desk,
+    ordinary: usize,
+    ordinary_rules: usize,
+    trusted: usize,
+    trusted_rules: usize,
+) {
+    desk[ORDINARY_SIZE] = ordinary;
+    desk[ORDINARY_RULES_SIZE] = ordinary_rules;
+    desk[TRUSTED_SIZE] = trusted;
+    desk[TRUSTED_RULES_SIZE] = trusted_rules;
+}
+
 // The next question is lent whole buffers.
 pub fn lend_all(desk: &mut Desk) {
-    desk[ORDINARY_SIZE] = words::SPACE;
-    desk[ORDINARY_RULES_SIZE] = words::SPACE;
-    desk[TRUSTED_SIZE] = words::SPACE;
-    desk[TRUSTED_RULES_SIZE] = words::SPACE;
+    lend(desk, words::SPACE, words::SPACE, words::SPACE, words::SPACE);
     desk[ROOM] = WHOLE;
 }

@@ -1,4 +1,5 @@
-// The four buffers of the board at the desk: filled, put and shown by hand, and held against what they should be.
+// The board's four buffers at the desk, one behind the other in one store: the ordinary bytes and rules, the trusted bytes and rules. They
+// are filled, put and shown by hand, and held against what they should be.
 use crate::judging;
 use crate::saying::put;
 use crate::saying::put_byte;
@@ -11,52 +12,101 @@ use crate::vocabulary;
 ghost use Prim.Native.Nat.{_≤_};
 ghost use Rattle.io.specs.Counts.{Counts};
 
-// A byte more than a space, so that one of another size can be lent.
-pub const LONG: usize = 4097;
+// The bytes of each buffer: a few more than a space has, so that one of another size can be lent.
+pub const LONG: usize = 4100;
+
+pub const STORE: usize = 16400;
+
+pub type Buffer = [u8; LONG];
+
+pub type Store = [u8; STORE];
+
+pub const ORDINARY: usize = 0;
+
+pub const ORDINARY_RULES: usize = 4100;
+
+pub const TRUSTED: usize = 8200;
+
+pub const TRUSTED_RULES: usize = 12300;
+
+// Where a buffer begins, or the end of the store for a word that names none.
+pub fn base_of(word: usize) -> usize {
+    match word {
+        vocabulary::ORDINARY => ORDINARY,
+        vocabulary::ORDINARY_RULES => ORDINARY_RULES,
+        vocabulary::TRUSTED => TRUSTED,
+        vocabulary::TRUSTED_RULES => TRUSTED_RULES,
+        _ => STORE,
+    }
+}
 
 // How much of a buffer is lent: as much as asked, or as much as there is.
 pub fn within(size: usize, bytes: &[u8]) -> usize
     ensures { λ r. ⌜ Counts r (now (bytes .entry)) ⌝ }
 {
-    if bytes.len() < size { bytes.len() } else { size }
+    if bytes.len() < size {
+        bytes.len()
+    } else {
+        size
+    }
 }
 
-// Puts the bytes that stand behind a word, from a place of the tokens to another: an offset, then the bytes there.
-pub fn put_behind(space: &mut [u8; LONG], tokens: &Tokens, from: usize, to: usize, word: usize) {
+// So many bytes of the store from a place on, or none.
+pub fn part(store: &[u8], base: usize, size: usize) -> &[u8] {
+    if store.len() < size {
+        return &store[..0];
+    }
+    if store.len() - size < base {
+        return &store[..0];
+    }
+    &store[base..base + size]
+}
+
+// A buffer of the store, and back.
+pub fn take_out(buffer: &mut Buffer, store: &Store, base: usize) {
+    words::put(buffer, 0, part(store, base, LONG));
+}
+
+pub fn put_back(store: &mut Store, base: usize, buffer: &Buffer) {
+    words::put(store, base, buffer);
+}
+
+// Puts the bytes that stand behind the words of buffers, from a place of the tokens to another: an offset, then the bytes there.
+pub fn put_behind(store: &mut Store, tokens: &Tokens, from: usize, to: usize) {
     let mut place = from;
-    let mut running = false;
-    let mut first = false;
-    let mut at = 0;
+    let mut base = STORE;
+    let mut at = STORE;
     while place < to {
-        let token = tokens::word(tokens, place);
-        if token != vocabulary::NUMERAL {
-            running = token == word;
-            first = true;
-        } else if running {
-            if first {
-                at = tokens::at(tokens, place);
-                first = false;
-            } else {
-                store(space, at, tokens::byte(tokens, place));
-                at = std::num::wrapping_add_usize(at, 1);
-            }
+        let word = tokens::word(tokens, place);
+        if word != vocabulary::NUMERAL {
+            base = base_of(word);
+            at = STORE;
+        } else if at == STORE {
+            at = std::num::wrapping_add_usize(base, tokens::at(tokens, place));
+        } else {
+            put_at(store, at, tokens::byte(tokens, place));
+            at = std::num::wrapping_add_usize(at, 1);
         }
         place += 1;
     }
 }
 
-pub fn store(space: &mut [u8; LONG], at: usize, byte: u8) {
-    if at < LONG {
-        space[at] = byte;
+pub fn put_at(store: &mut Store, at: usize, byte: u8) {
+    if at < STORE {
+        store[at] = byte;
     }
 }
 
-// The first place from `from` on where two spaces differ, or LONG where they do not.
-fn next_difference(one: &[u8; LONG], other: &[u8; LONG], from: usize) -> usize
+pub fn byte_of(bytes: &[u8], at: usize) -> u8 {
+    if at < bytes.len() { bytes[at] } else { 0 }
+}
+
+// The first place from `from` on where two stores differ, or STORE where they do not.
+fn next_difference(one: &Store, other: &Store, from: usize) -> usize
     ensures { λ r. ⌜ from ≤ r ⌝ }
 {
     let mut at = from;
-    while at < LONG {
+    while at < STORE {
         if one[at] != other[at] {
             return at;
         }
@@ -65,23 +115,17 @@ fn next_difference(one: &[u8; LONG], other: &[u8; LONG], from: usize) -> usize
     at
 }
 
-// Tells every word in which two spaces differ: as it was and as it is, or as it is and as it should be. Answers how many there are.
-pub fn tell_differences(
-    desk: &mut Desk,
-    judging: bool,
-    name: &[u8],
-    one: &[u8; LONG],
-    other: &[u8; LONG],
-) -> usize {
+// Tells every word in which two stores differ: as it was and as it is, or as it is and as it should be. Answers how many there are.
+pub fn tell_differences(desk: &mut Desk, judging: bool, one: &Store, other: &Store) -> usize {
     let mut at = 0;
     let mut told = 0;
-    while at < LONG {
+    while at < STORE {
         let place = next_difference(one, other, at);
-        if LONG <= place {
+        if STORE <= place {
             return told;
         }
         let word = place - place % 4;
-        tell_word(desk, judging, name, word);
+        tell_word(desk, judging, word);
         tell_both(judging, words::four(one, word), words::four(other, word));
         told = std::num::wrapping_add_usize(told, 1);
         at = word + 4;
@@ -89,15 +133,19 @@ pub fn tell_differences(
     told
 }
 
-fn tell_word(desk: &mut Desk, judging: bool, name: &[u8], word: usize) {
+// No rule ever changes.
+fn tell_word(desk: &mut Desk, judging: bool, word: usize) {
     if judging {
-        judging::begin_difference(desk, name);
+        judging::begin_difference(desk, b"");
     } else {
         put(b"  ");
-        put(name);
     }
-    put(b" ");
-    put_hex(word, 3);
+    if word < TRUSTED {
+        put(b"ordinary ");
+    } else {
+        put(b"trusted ");
+    }
+    put_hex(word % LONG, 3);
     put(b":");
 }
 
@@ -112,19 +160,14 @@ fn tell_both(judging: bool, one: [u8; 4], other: [u8; 4]) {
     put(b"\n");
 }
 
-// Shows so many bytes from an offset on, sixteen to a line.
-pub fn show(space: &[u8; LONG], from: usize, count: usize) {
+// Shows so many bytes of a buffer from an offset on, sixteen to a line.
+pub fn show(store: &Store, base: usize, from: usize, count: usize) {
     let mut done = 0;
     while done < count {
-        if done % 16 == 0 {
-            if done != 0 {
-                put(b"\n");
-            }
-            put_hex(std::num::wrapping_add_usize(from, done), 3);
-            put(b":");
-        }
+        let offset = std::num::wrapping_add_usize(from, done);
+        begin_line(done, offset);
         put(b" ");
-        put_byte(byte_at(space, std::num::wrapping_add_usize(from, done)));
+        put_byte(byte_of(store, std::num::wrapping_add_usize(base, offset)));
         done += 1;
     }
     if count != 0 {
@@ -132,6 +175,13 @@ pub fn show(space: &[u8; LONG], from: usize, count: usize) {
     }
 }
 
-pub fn byte_at(space: &[u8; LONG], at: usize) -> u8 {
-    if at < LONG { space[at] } else { 0 }
+fn begin_line(done: usize, offset: usize) {
+    if done % 16 != 0 {
+        return;
+    }
+    if done != 0 {
+        put(b"\n");
+    }
+    put_hex(offset, 3);
+    put(b":");
 }

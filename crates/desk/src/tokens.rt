@@ -1,8 +1,7 @@
 // A line as tokens: words, numbers of one to sixteen hexadecimal digits, commas. Blanks part them; a comma stands for itself; what follows
 // a # is a comment.
 use crate::vocabulary;
-ghost use mathlib.Core.Path.{_≡_};
-ghost use Prim.Native.Nat.{_+_, _≤_, _<_};
+ghost use Prim.Native.Nat.{_≤_, _<_};
 ghost use lib.ListN.{length};
 
 // No line has more tokens.
@@ -14,16 +13,13 @@ const DIGITS: usize = 16;
 // What `read` answers for a line that has.
 pub const TOO_MANY: usize = 129;
 
-// The word of each token, and then the value of each that is a number.
-pub const WIDTH: usize = 256;
+// The word of each token, then the value of each that is a number, then where each begins in its line.
+pub const WIDTH: usize = 384;
 
 pub type Tokens = [usize; WIDTH];
 
-// Where each token begins.
-pub type Places = [usize; MOST];
-
-// The tokens of a line, where each begins, and how many there are.
-pub fn read(line: &[u8], tokens: &mut Tokens, places: &mut Places) -> usize {
+// The tokens of a line, and how many there are.
+pub fn read(line: &[u8], tokens: &mut Tokens) -> usize {
     let mut at = 0;
     let mut count = 0;
     while at < line.len() {
@@ -37,7 +33,7 @@ pub fn read(line: &[u8], tokens: &mut Tokens, places: &mut Places) -> usize {
             }
             tokens[count] = token_of(&line[at..end], count);
             tokens[MOST + count] = number_of(&line[at..end]);
-            places[count] = at;
+            tokens[2 * MOST + count] = at;
             count += 1;
         }
         at = end;
@@ -130,12 +126,29 @@ fn wide(byte: u8) -> usize {
 
 // The word at a place; NUMERAL where a number stands, UNKNOWN past the last.
 pub fn word(tokens: &Tokens, place: usize) -> usize {
-    if place < MOST { tokens[place] } else { vocabulary::UNKNOWN }
+    if place < MOST {
+        tokens[place]
+    } else {
+        vocabulary::UNKNOWN
+    }
 }
 
 // The number at a place.
 pub fn at(tokens: &Tokens, place: usize) -> usize {
-    if place < MOST { tokens[MOST + place] } else { 0 }
+    if place < MOST {
+        tokens[MOST + place]
+    } else {
+        0
+    }
+}
+
+// Where the token at a place begins in its line.
+pub fn begin(tokens: &Tokens, place: usize) -> usize {
+    if place < MOST {
+        tokens[2 * MOST + place]
+    } else {
+        0
+    }
 }
 
 pub fn byte(tokens: &Tokens, place: usize) -> u8 {

@@ -10,7 +10,7 @@ use crate::saying::put_value;
 use crate::slots;
 use crate::slots::Desk;
 use crate::spaces;
-use crate::spaces::LONG;
+use crate::spaces::Store;
 use crate::tokens;
 use crate::tokens::Tokens;
 use crate::vocabulary;
@@ -32,10 +32,10 @@ pub fn kind_of(name: usize) -> Kind {
 }
 
 // A list is walked in the space where it lies.
-pub fn ask(desk: &mut Desk, tokens: &Tokens, count: usize, space: &[u8; LONG], size: usize) {
+pub fn ask(desk: &mut Desk, tokens: &Tokens, count: usize, space: &[u8]) {
     let mut room = [UNTOUCHED; ROOM];
     let kind = kind_of(tokens::word(tokens, 1));
-    let walked = walk(kind, space, size, desk[slots::ROOM], &mut room);
+    let walked = walk(kind, space, desk[slots::ROOM], &mut room);
     let answer = walked.answer;
     let number = answer.number();
     slots::lend_all(desk);
@@ -47,10 +47,9 @@ pub fn ask(desk: &mut Desk, tokens: &Tokens, count: usize, space: &[u8; LONG], s
     }
 }
 
-fn walk(kind: Kind, space: &[u8], size: usize, entries: usize, room: &mut [u16]) -> Walked {
-    let length = spaces::within(size, space);
+fn walk(kind: Kind, space: &[u8], entries: usize, room: &mut [u16]) -> Walked {
     let lent = within_room(entries, room);
-    lists::walk(kind, &space[..length], &mut room[..lent])
+    lists::walk(kind, space, &mut room[..lent])
 }
 
 fn within_room(size: usize, room: &[u16]) -> usize
@@ -95,7 +94,14 @@ fn judge_room(
     }
     for entry in 0..ROOM {
         if room[entry] != wanted[entry] {
-            judging::entry(desk, b"room entry ", entry, wide(room[entry]), wide(wanted[entry]), 4);
+            judging::entry(
+                desk,
+                b"room entry ",
+                entry,
+                wide(room[entry]),
+                wide(wanted[entry]),
+                4,
+            );
             return;
         }
     }
@@ -147,7 +153,7 @@ fn step(
 }
 
 // The headers that were listed, with what each says of itself.
-fn tell(kind: Kind, space: &[u8; LONG], count: usize, room: &[u16; ROOM]) {
+fn tell(kind: Kind, space: &[u8], count: usize, room: &[u16; ROOM]) {
     put(b"  listed: ");
     put_value(count);
     put(b"\n");
@@ -162,15 +168,15 @@ fn wide(offset: u16) -> usize {
     offset as usize
 }
 
-fn tell_header(kind: Kind, space: &[u8; LONG], at: usize) {
+fn tell_header(kind: Kind, space: &[u8], at: usize) {
     put(b"  ");
     put_hex(at, 3);
     put(b": ID ");
     match kind {
-        Kind::Compatible => put_byte(spaces::byte_at(space, at)),
+        Kind::Compatible => put_byte(spaces::byte_of(space, at)),
         Kind::Extended | Kind::Trusted => {
-            put_byte(spaces::byte_at(space, std::num::wrapping_add_usize(at, 1)));
-            put_byte(spaces::byte_at(space, at));
+            put_byte(spaces::byte_of(space, std::num::wrapping_add_usize(at, 1)));
+            put_byte(spaces::byte_of(space, at));
             put(b" version ");
             put_hex(version_at(space, std::num::wrapping_add_usize(at, 2)), 1);
         }
@@ -178,42 +184,53 @@ fn tell_header(kind: Kind, space: &[u8; LONG], at: usize) {
     put(b"\n");
 }
 
-fn version_at(space: &[u8; LONG], at: usize) -> usize {
-    (spaces::byte_at(space, at) % 16) as usize
+fn version_at(space: &[u8], at: usize) -> usize {
+    (spaces::byte_of(space, at) % 16) as usize
 }
 
 // Puts so many headers of a list, the first at an offset and each other at the one before it with a step added. Each points to the
 // next, and the last to a pointer of its own. The numbers are the count, the first, the step and that pointer.
-pub fn put_chain(space: &mut [u8; LONG], tokens: &Tokens) {
+pub fn put_chain(store: &mut Store, tokens: &Tokens) {
     let kind = kind_of(tokens::word(tokens, 1));
+    let base = base_of(kind);
     let headers = tokens::at(tokens, 2);
     let by = tokens::at(tokens, 4);
     let mut at = tokens::at(tokens, 3);
     let mut done = 1;
     while done < headers {
         let next = std::num::wrapping_add_usize(at, by) % 65536;
-        put_header(kind, space, at, next);
+        put_header(kind, store, base, at, next);
         at = next;
         done += 1;
     }
-    put_header(kind, space, at, tokens::at(tokens, 5));
+    put_header(kind, store, base, at, tokens::at(tokens, 5));
+}
+
+// Where the space of a list begins.
+fn base_of(kind: Kind) -> usize {
+    match kind {
+        Kind::Compatible | Kind::Extended => spaces::ORDINARY,
+        Kind::Trusted => spaces::TRUSTED,
+    }
 }
 
 // Compatible: ID byte, next byte. Extended and trusted: ID 15:0, version 19:16, next 31:20.
-fn put_header(kind: Kind, space: &mut [u8; LONG], at: usize, next: usize) {
-    let second = std::num::wrapping_add_usize(at, 1);
-    let third = std::num::wrapping_add_usize(at, 2);
-    let fourth = std::num::wrapping_add_usize(at, 3);
+fn put_header(kind: Kind, store: &mut Store, base: usize, at: usize, next: usize) {
     match kind {
-        Kind::Compatible => {
-            spaces::store(space, at, 0x05);
-            spaces::store(space, second, low(next));
-        }
+        Kind::Compatible => put_two(store, base, at, 0x05, low(next)),
         Kind::Extended | Kind::Trusted => {
-            spaces::store(space, at, 0x0b);
-            spaces::store(space, third, low(next) << 4 | 0x01);
-            spaces::store(space, fourth, low(next >> 4));
+            put_two(store, base, at, 0x0b, 0x00);
+            let second = std::num::wrapping_add_usize(at, 2);
+            put_two(store, base, second, low(next) << 4 | 0x01, low(next >> 4));
         }
+    }
+}
+
+// Two bytes at an offset, where they lie in a space.
+fn put_two(store: &mut Store, base: usize, at: usize, first: u8, second: u8) {
+    if at < words::SPACE {
+        spaces::put_at(store, std::num::wrapping_add_usize(base, at), first);
+        spaces::put_at(store, std::num::wrapping_add_usize(base, at + 1), second);
     }
 }
 

@@ -4,12 +4,10 @@ use Rattle.desk.proofs.session.run.Statement.{statement}
 use Rattle.desk.proofs.session.run.Tie as tie
 
 abbrev Inv-loop : tie.InvT-loop
-Inv-loop piece₀ ordinary₀ ordinary-rules₀ trusted₀ trusted-rules₀ desk₀ rest₀ turns₀ piece ordinary ordinary-rules trusted trusted-rules desk rest turns =
-    Unit {0}
+Inv-loop piece₀ store₀ desk₀ rest₀ turns₀ piece store desk rest turns = Unit {0}
 
 abbrev μ-loop : tie.MeasureT-loop
-μ-loop piece₀ ordinary₀ ordinary-rules₀ trusted₀ trusted-rules₀ desk₀ rest₀ turns₀ piece ordinary ordinary-rules trusted trusted-rules desk rest turns =
-    turns
+μ-loop piece₀ store₀ desk₀ rest₀ turns₀ piece store desk rest turns = turns
 
 begin-requires : tie.Need-begin-requires Inv-loop μ-loop
 begin-requires c κs = search needs

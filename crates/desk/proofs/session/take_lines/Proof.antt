@@ -1,17 +1,14 @@
 -- `desk::session::take_lines` is safe and ends. Assumes nothing.
 use borrow.Author.Needs.{needs}
 use Prim.Native.Nat.{_-_}
--- `desk::session::take_lines` is safe and ends. Assumes nothing.
 use Rattle.desk.proofs.session.take_lines.Statement.{statement}
 use Rattle.desk.proofs.session.take_lines.Tie as tie
 
 abbrev Inv-loop : tie.InvT-loop
-Inv-loop desk₀ piece end ordinary₀ ordinary-rules₀ trusted₀ trusted-rules₀ from₀ desk ordinary ordinary-rules trusted trusted-rules from =
-    Unit {0}
+Inv-loop desk₀ piece end store₀ from₀ desk store from = Unit {0}
 
 abbrev μ-loop : tie.MeasureT-loop
-μ-loop desk₀ piece end ordinary₀ ordinary-rules₀ trusted₀ trusted-rules₀ from₀ desk ordinary ordinary-rules trusted trusted-rules from =
-    end - from
+μ-loop desk₀ piece end store₀ from₀ desk store from = end - from
 
 loop-holds : tie.Need-loop-holds Inv-loop μ-loop
 loop-holds c = search needs

@@ -8,7 +8,7 @@ abbrev Inv-loop : tie.InvT-loop
 Inv-loop one other from at₀ at = from ≤ at
 
 abbrev μ-loop : tie.MeasureT-loop
-μ-loop one other from at₀ at = 4097 - at
+μ-loop one other from at₀ at = 16400 - at
 
 loop-holds : tie.Need-loop-holds Inv-loop μ-loop
 loop-holds c = search needs

@@ -5,13 +5,19 @@ use Rattle.desk.proofs.spaces.show.Statement.{statement}
 use Rattle.desk.proofs.spaces.show.Tie as tie
 
 abbrev Inv-loop : tie.InvT-loop
-Inv-loop space from count done₀ t5 t6 t7 t8 done = Unit {0}
+Inv-loop store base from count done₀ t7 t8 done = Unit {0}
 
 abbrev μ-loop : tie.MeasureT-loop
-μ-loop space from count done₀ t5 t6 t7 t8 done = count - done
+μ-loop store base from count done₀ t7 t8 done = count - done
 
 loop-holds : tie.Need-loop-holds Inv-loop μ-loop
 loop-holds c = search needs
+
+wrapping-add-usize-requires : tie.Need-wrapping-add-usize-requires Inv-loop μ-loop
+wrapping-add-usize-requires c κs = search needs
+
+begin-line-requires : tie.Need-begin-line-requires Inv-loop μ-loop
+begin-line-requires c κs = search needs
 
 slice-aggregate-put : tie.Need-slice-aggregate-put Inv-loop μ-loop
 slice-aggregate-put c = search needs
@@ -19,29 +25,11 @@ slice-aggregate-put c = search needs
 put-requires : tie.Need-put-requires Inv-loop μ-loop
 put-requires c κs = search needs
 
-wrapping-add-usize-requires : tie.Need-wrapping-add-usize-requires Inv-loop μ-loop
-wrapping-add-usize-requires c κs = search needs
-
-put-hex-requires : tie.Need-put-hex-requires Inv-loop μ-loop
-put-hex-requires c κs = search needs
-
-slice-aggregate-put-2 : tie.Need-slice-aggregate-put-2 Inv-loop μ-loop
-slice-aggregate-put-2 c = search needs
-
-put-requires-2 : tie.Need-put-requires-2 Inv-loop μ-loop
-put-requires-2 c κs = search needs
-
-slice-aggregate-put-3 : tie.Need-slice-aggregate-put-3 Inv-loop μ-loop
-slice-aggregate-put-3 c = search needs
-
-put-requires-3 : tie.Need-put-requires-3 Inv-loop μ-loop
-put-requires-3 c κs = search needs
-
 wrapping-add-usize-requires-2 : tie.Need-wrapping-add-usize-requires-2 Inv-loop μ-loop
 wrapping-add-usize-requires-2 c κs = search needs
 
-byte-at-requires : tie.Need-byte-at-requires Inv-loop μ-loop
-byte-at-requires c κs = search needs
+byte-of-requires : tie.Need-byte-of-requires Inv-loop μ-loop
+byte-of-requires c κs = search needs
 
 put-byte-requires : tie.Need-put-byte-requires Inv-loop μ-loop
 put-byte-requires c κs = search needs
@@ -55,11 +43,11 @@ loop-less c = search needs
 loop-again : tie.Need-loop-again Inv-loop μ-loop
 loop-again c = search needs
 
-slice-aggregate-put-4 : tie.Need-slice-aggregate-put-4 Inv-loop μ-loop
-slice-aggregate-put-4 c = search needs
+slice-aggregate-put-2 : tie.Need-slice-aggregate-put-2 Inv-loop μ-loop
+slice-aggregate-put-2 c = search needs
 
-put-requires-4 : tie.Need-put-requires-4 Inv-loop μ-loop
-put-requires-4 c κs = search needs
+put-requires-2 : tie.Need-put-requires-2 Inv-loop μ-loop
+put-requires-2 c κs = search needs
 
 returns : tie.Need-returns Inv-loop μ-loop
 returns c = search needs
@@ -74,21 +62,17 @@ show-spec =
     Inv-loop
     μ-loop
     loop-holds
+    wrapping-add-usize-requires
+    begin-line-requires
     slice-aggregate-put
     put-requires
-    wrapping-add-usize-requires
-    put-hex-requires
-    slice-aggregate-put-2
-    put-requires-2
-    slice-aggregate-put-3
-    put-requires-3
     wrapping-add-usize-requires-2
-    byte-at-requires
+    byte-of-requires
     put-byte-requires
     add-done
     loop-less
     loop-again
-    slice-aggregate-put-4
-    put-requires-4
+    slice-aggregate-put-2
+    put-requires-2
     returns
     returns-2)

@@ -5,10 +5,10 @@ use Rattle.desk.proofs.spaces.tell_differences.Statement.{statement}
 use Rattle.desk.proofs.spaces.tell_differences.Tie as tie
 
 abbrev Inv-loop : tie.InvT-loop
-Inv-loop desk₀ judging name one other at₀ told₀ desk at told = Unit {0}
+Inv-loop desk₀ judging one other at₀ told₀ desk at told = Unit {0}
 
 abbrev μ-loop : tie.MeasureT-loop
-μ-loop desk₀ judging name one other at₀ told₀ desk at told = 4097 - at
+μ-loop desk₀ judging one other at₀ told₀ desk at told = 16400 - at
 
 loop-holds : tie.Need-loop-holds Inv-loop μ-loop
 loop-holds c = search needs

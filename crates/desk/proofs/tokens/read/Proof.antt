@@ -6,10 +6,10 @@ use Rattle.desk.proofs.tokens.read.Statement.{statement}
 use Rattle.desk.proofs.tokens.read.Tie as tie
 
 abbrev Inv-loop : tie.InvT-loop
-Inv-loop line tokens₀ places₀ at₀ count₀ tokens places at count = at ≤ length line
+Inv-loop line tokens₀ at₀ count₀ tokens at count = at ≤ length line
 
 abbrev μ-loop : tie.MeasureT-loop
-μ-loop line tokens₀ places₀ at₀ count₀ tokens places at count = length line - at
+μ-loop line tokens₀ at₀ count₀ tokens at count = length line - at
 
 loop-holds : tie.Need-loop-holds Inv-loop μ-loop
 loop-holds c = search needs
@@ -71,11 +71,17 @@ mul-tokens-2 c = search needs
 element-write-tokens-2 : tie.Need-element-write-tokens-2 Inv-loop μ-loop
 element-write-tokens-2 c = search needs
 
-mul-places : tie.Need-mul-places Inv-loop μ-loop
-mul-places c = search needs
+mul-tokens-3 : tie.Need-mul-tokens-3 Inv-loop μ-loop
+mul-tokens-3 c = search needs
 
-element-write-places : tie.Need-element-write-places Inv-loop μ-loop
-element-write-places c = search needs
+add-tokens-2 : tie.Need-add-tokens-2 Inv-loop μ-loop
+add-tokens-2 c = search needs
+
+mul-tokens-4 : tie.Need-mul-tokens-4 Inv-loop μ-loop
+mul-tokens-4 c = search needs
+
+element-write-tokens-3 : tie.Need-element-write-tokens-3 Inv-loop μ-loop
+element-write-tokens-3 c = search needs
 
 add-count : tie.Need-add-count Inv-loop μ-loop
 add-count c = search needs
@@ -121,8 +127,10 @@ read-spec =
     add-tokens
     mul-tokens-2
     element-write-tokens-2
-    mul-places
-    element-write-places
+    mul-tokens-3
+    add-tokens-2
+    mul-tokens-4
+    element-write-tokens-3
     add-count
     loop-less
     loop-again

@@ -5,16 +5,19 @@ use Rattle.desk.proofs.walking.put_chain.Statement.{statement}
 use Rattle.desk.proofs.walking.put_chain.Tie as tie
 
 abbrev Inv-loop : tie.InvT-loop
-Inv-loop space₀ tokens kind headers by at₀ done₀ space at done = Unit {0}
+Inv-loop store₀ tokens kind base headers by at₀ done₀ store at done = Unit {0}
 
 abbrev μ-loop : tie.MeasureT-loop
-μ-loop space₀ tokens kind headers by at₀ done₀ space at done = headers - done
+μ-loop store₀ tokens kind base headers by at₀ done₀ store at done = headers - done
 
 word-requires : tie.Need-word-requires Inv-loop μ-loop
 word-requires c κs = search needs
 
 kind-of-requires : tie.Need-kind-of-requires Inv-loop μ-loop
 kind-of-requires c κs = search needs
+
+base-of-requires : tie.Need-base-of-requires Inv-loop μ-loop
+base-of-requires c κs = search needs
 
 at-requires : tie.Need-at-requires Inv-loop μ-loop
 at-requires c κs = search needs
@@ -60,6 +63,7 @@ put-chain-spec =
     μ-loop
     word-requires
     kind-of-requires
+    base-of-requires
     at-requires
     at-requires-2
     at-requires-3
