@@ -163,18 +163,27 @@ fn put_reply(reply: &[u8], length: usize) {
 // The completion, taken apart from its bytes; why it is unsupported, from the request.
 fn put_completion(cause: Cause, reply: &[u8; REPLY]) {
     put(b"  says: ");
-    if reply[6] == 0 {
-        put(b"successful");
-    } else {
-        put(b"unsupported request (UR): ");
-        put_cause(cause);
-    }
+    put_status(reply[6], cause);
     put_ids(reply);
-    if reply[0] == 0x4a {
-        put(b", data");
-        put_bytes(&words::four(reply, 12));
-    }
+    put_read(reply[0], words::four(reply, 12));
     put(b"\n");
+}
+
+fn put_status(status: u8, cause: Cause) {
+    if status == 0 {
+        put(b"successful");
+        return;
+    }
+    put(b"unsupported request (UR): ");
+    put_cause(cause);
+}
+
+// The data of a completion that has some.
+fn put_read(first: u8, data: [u8; 4]) {
+    if first == 0x4a {
+        put(b", data");
+        put_bytes(&data);
+    }
 }
 
 fn put_ids(reply: &[u8; REPLY]) {

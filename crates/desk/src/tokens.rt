@@ -27,18 +27,28 @@ pub fn read(line: &[u8], tokens: &mut Tokens) -> usize {
         if line[at] == b'#' {
             return count;
         }
-        if !is_blank(line[at]) {
-            if MOST <= count {
-                return TOO_MANY;
-            }
-            tokens[count] = token_of(&line[at..end], count);
-            tokens[MOST + count] = number_of(&line[at..end]);
-            tokens[2 * MOST + count] = at;
-            count += 1;
-        }
+        count = add(tokens, count, &line[at..end], at);
         at = end;
     }
     count
+}
+
+// One token more, unless it is a blank; TOO_MANY where there is no place for it.
+fn add(tokens: &mut Tokens, count: usize, text: &[u8], begin: usize) -> usize {
+    if is_blank(first_of(text)) {
+        return count;
+    }
+    if MOST <= count {
+        return TOO_MANY;
+    }
+    tokens[count] = token_of(text, count);
+    tokens[MOST + count] = number_of(text);
+    tokens[2 * MOST + count] = begin;
+    count + 1
+}
+
+fn first_of(text: &[u8]) -> u8 {
+    if text.len() == 0 { b' ' } else { text[0] }
 }
 
 // A carriage return is a blank, so that a sheet from another system reads the same.

@@ -89,22 +89,35 @@ fn judge_room(
     let mut wanted = [UNTOUCHED; ROOM];
     let listed = list(&mut wanted, tokens, arrow, count);
     let stepped = step(&mut wanted, listed, tokens, arrow, count);
-    if !judging::value(desk, b"count ", found, stepped) {
-        return;
+    if judging::value(desk, b"count ", found, stepped) {
+        judge_entries(desk, room, &wanted);
     }
-    for entry in 0..ROOM {
-        if room[entry] != wanted[entry] {
-            judging::entry(
-                desk,
-                b"room entry ",
-                entry,
-                wide(room[entry]),
-                wide(wanted[entry]),
-                4,
-            );
-            return;
+}
+
+// Tells the first entry that is another.
+fn judge_entries(desk: &mut Desk, room: &[u16; ROOM], wanted: &[u16; ROOM]) {
+    let entry = first_difference(room, wanted);
+    if entry < ROOM {
+        judging::entry(
+            desk,
+            b"room entry ",
+            entry,
+            wide(room[entry]),
+            wide(wanted[entry]),
+            4,
+        );
+    }
+}
+
+fn first_difference(one: &[u16; ROOM], other: &[u16; ROOM]) -> usize {
+    let mut entry = 0;
+    while entry < ROOM {
+        if one[entry] != other[entry] {
+            return entry;
         }
+        entry += 1;
     }
+    entry
 }
 
 fn enter(room: &mut [u16; ROOM], entry: usize, offset: usize) {
