@@ -15,7 +15,7 @@ entries() { # CRATE: a line 'NAME FILE' for each entry
 unseen() { # CRATE
     lib=crates/$1/src/lib.rt
     [ -f "$lib" ] || return
-    grep -nE '^pub mod |^pub use .*(\{| as )' "$lib" | sed "s|^|$lib: |"
+    grep -nE '^pub (mod|use) ' "$lib" | grep -vE '^[0-9]+:pub use [a-z_]+::([a-z_]+|[A-Z_]+);$' | sed "s|^|$lib: |"
     for file in crates/"$1"/src/*.rt; do
         [ "$file" = "$lib" ] || awk '/^impl /{t=1} /^}/{t=0} t && /^ *pub( extern "C")? fn /{print FILENAME": a public method outside lib.rt: "$0}' "$file"
     done
@@ -28,6 +28,10 @@ clauses() { # FILE NAME: from the signature of NAME, which may be Type::name, up
 
 buffers() { # MARK, clauses on standard input: the names of the parameters that are lent by & or &mut
     tr '\n' ' ' | sed 's/ requires .*//; s/ ensures .*//' | grep -oE "[a-z_]+: &('[a-z]+ )?$1\[" | sed 's/:.*//'
+}
+
+parameters() { # clauses on standard input: the name of every parameter
+    tr '\n' ' ' | sed -E 's/ (requires|ensures) \{.*//; s/^[^(]*\(//; s/\) *(->.*)?$//' | grep -oE '(^|[ (,])(mut )?[a-z_]+:( |$)|(^|[ (,])(mut )?self\b' | sed -E 's/[(,: ]|mut //g'
 }
 
 # The promise is DEFINITION of something, or that the result, or what it tells, is that: nothing beside it, and nothing around it; and it
@@ -44,6 +48,10 @@ promises() { # DEFINITION, clauses on standard input
     else
         case $promise in *⊎* | *→* | *×* | *∨* | *↔* | *¬*) echo "its promise is $1 and something else: $promise" ;; esac
     fi
+    printf '%s\n' "$promise" | grep -qE '(^|[ (])r([ )]|$)' || echo "its promise does not speak of the result: $promise"
+    for name in $(parameters <"$work/clauses"); do
+        printf '%s\n' "$promise" | grep -qE "(^|[ («])$name([ )»]|\$)" || echo "its promise does not speak of $name"
+    done
     for name in $(buffers '(mut )?' <"$work/clauses"); do
         case $promise in *"($name .entry)"* | *"(«$name» .entry)"*) ;; *) echo "its promise does not speak of $name as it was lent" ;; esac
     done
@@ -152,6 +160,15 @@ noticed 'a theorem that concludes nothing' 'words::four: words/proofs/Unique: fo
     '/^pub four-unique/,/^four-unique/s/→ r ≡ q$/→ r ≡ r/'
 noticed 'a theorem that leaves a buffer out' 'board::serve: board/proofs/Unique: serve-unique: it concludes 3 equations' crates/board/proofs/Unique.antt \
     's/ × \(after ≡ after′\)//'
+noticed 'a promise that says nothing of the result' 'records::dvsec: its promise is not dvsecSays' crates/records/src/lib.rt \
+    's/tellsDvsec r ≡ dvsecSays \(now \(space \.entry\)\) at ⌝/tellsDvsec q ≡ dvsecSays (now (space .entry)) at ⌝/'
+noticed 'a promise that is true of anything' 'records::dvsec: its promise does not speak of the result' crates/records/src/lib.rt \
+    's/tellsDvsec r ≡ dvsecSays (\(now \(space \.entry\)\) at) ⌝/dvsecSays \1 ≡ dvsecSays \1 ⌝/'
+noticed 'a promise about one offset' 'records::dvsec: its promise does not speak of at' crates/records/src/lib.rt \
+    's/dvsecSays \(now \(space \.entry\)\) at ⌝/dvsecSays (now (space .entry)) 0x100 ⌝/'
+noticed 'a promise about one list' 'lists::walk: its promise does not speak of kind' crates/lists/src/lib.rt \
+    's/⌜ Walks kind /⌜ Walks Compatible /'
+noticed 'a handed-on glob' 'crates/board/src/lib.rt: ' crates/board/src/lib.rt 's/^pub use serving::reset;/pub use serving::*;/'
 noticed 'a public module' 'crates/packet/src/lib.rt: ' crates/packet/src/lib.rt 's/^mod fields;/pub mod fields;/'
 noticed 'an entry without a row' 'board::reset: docs/ENTRIES.md has no row' docs/ENTRIES.md '/^\| `board::reset`/d'
 exit 0

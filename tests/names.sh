@@ -70,7 +70,7 @@ right 'must-fail edits are those that docs/TRACE.md names'
 # Every part of the sheet that TRACE names has a heading there.
 for part in $(grep -oE 'sheet, [a-z]+' docs/TRACE.md | sed 's/sheet, //' | sort -u); do
     seen=$((seen + 1))
-    grep -qi "^# .*$part" "$sheet" || wrong "docs/TRACE.md names the sheet's $part, and $sheet has no such heading"
+    grep -qi "^## .*$part" "$sheet" || wrong "docs/TRACE.md names the sheet's $part, and $sheet has no such heading"
 done
 right 'parts of the sheet that docs/TRACE.md names are there'
 

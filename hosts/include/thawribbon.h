@@ -445,7 +445,7 @@ THAWRIBBON_MUST_USE static inline const char *thawribbon_text(unsigned number)
     case THAWRIBBON_SERVED:
         return "served, though the completion may say Unsupported Request";
     case THAWRIBBON_BAD_DESCRIPTION:
-        return "a space or rule space is not 4,096 bytes or overlaps what is written, a captured device is over 31, "
+        return "a space or rule space of 4,096 bytes is not lent, a captured device is over 31, "
                "a function number or A or B is outside its range, or a record is asked for where none may stand";
     case THAWRIBBON_NO_ROOM:
         return "the reply is under 16 bytes, or the list room is under the list's maximum";

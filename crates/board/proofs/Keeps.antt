@@ -65,9 +65,6 @@ serve-keeps d p size =
 
 -- ---- well described
 
-pub described-well : (d : Board) → Well d → WellDescribed d
-described-well d w = rw (w .ordinaryBytes, w .ordinaryRules, w .trustedBytes, w .trustedRules, w .inRange)
-
 captured-range : (d : Description) (kept : Capture) (bus device : ℕ) → device ≤ 31 → outOfRange d kept ≡ false
     → outOfRange d (captured kept bus device) ≡ false
 captured-range d kept bus device h e =

@@ -32,8 +32,11 @@ pub fn perform(desk: &mut Desk, tokens: &Tokens, count: usize, store: &mut Store
             done();
         }
         vocabulary::CHAIN => {
-            walking::put_chain(store, tokens);
-            done();
+            if walking::put_chain(store, tokens) {
+                done();
+            } else {
+                faults::tell_whole(desk, faults::NO_CHAIN);
+            }
         }
         vocabulary::PACKET => packets::ask(desk, tokens, count, store),
         vocabulary::SHOW => show(tokens, store),

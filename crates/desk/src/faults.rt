@@ -51,10 +51,15 @@ pub const NO_SHEET: usize = 20;
 
 pub const NO_END: usize = 21;
 
+pub const RETURN: usize = 22;
+
+pub const NO_CHAIN: usize = 23;
+
+pub const UNREAD: usize = 24;
+
 // A line is not understood: from `from` on it does not fit.
 pub fn tell(desk: &mut Desk, line: &[u8], from: usize, what: usize) {
-    slots::count(desk, slots::FAULTS);
-    put_line_number(desk);
+    begin(desk);
     if from < line.len() {
         let end = tokens::end_of(line, from);
         put(b"'");
@@ -69,10 +74,16 @@ pub fn tell(desk: &mut Desk, line: &[u8], from: usize, what: usize) {
 
 // The same, of a line as a whole.
 pub fn tell_whole(desk: &mut Desk, what: usize) {
-    slots::count(desk, slots::FAULTS);
-    put_line_number(desk);
+    begin(desk);
     put_reason(what);
     put(b"\n");
+}
+
+// A line that is not understood uses up what was lent to the next question, so that no other question gets it.
+fn begin(desk: &mut Desk) {
+    slots::count(desk, slots::FAULTS);
+    slots::lend_all(desk);
+    put_line_number(desk);
 }
 
 // The table has the reasons in the order of their numbers.
@@ -90,16 +101,19 @@ is too large here
 does not fit: a space ends at FFF
 stands behind a statement that has no answer to expect
 cannot be expected of this
-is expected twice
+says again what is expected already
 stands a second time
 stands outside an expectation
 stands where the expected number is wanted first
 is no answer number: those are 0 to 10, and the only numbers in decimal
-longer than 4,000 characters; none of it is read
-more than 128 words and numbers; none of it is read
+has 4,000 characters or more; none of it is read
+has more than 128 words and numbers; none of it is read
 a sheet begins before the last one has ended
 a sheet ends that has not begun
 the sheet has no end: was it cut?
+a carriage return stands within the line; none of it is read
+the chain does not fit: its headers leave the space, or a pointer is too large
+the input could not be read to its end
 ",
         what,
     );

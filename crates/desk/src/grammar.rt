@@ -59,6 +59,18 @@ fn bytes_at() -> Form {
     }
 }
 
+// So many offsets, the first, and the step, which may go down.
+fn steps() -> Form {
+    Form {
+        named: false,
+        least: 3,
+        most: 3,
+        first: 0x3fe,
+        others: 0xffff,
+        fits: false,
+    }
+}
+
 fn form_of(word: usize) -> Form {
     match word {
         PACKET => numbers(0, 64, 0xff),
@@ -72,9 +84,9 @@ fn form_of(word: usize) -> Form {
         A | B | ROOM => numbers(1, 1, ANY),
         SIZES => numbers(4, 4, 0x1001),
         OFFSETS => numbers(1, 64, 0xffff),
-        STEPS => numbers(3, 3, 0xffff),
+        STEPS => steps(),
         HEADER => numbers(4, 4, 0xffff),
-        BODY => numbers(2, 2, 0xfff),
+        BODY => numbers(2, 2, 0x1000),
         WALK => named(0, 0),
         CHAIN => named(4, 0xffff),
         DVSEC | DUAL => named(1, ANY),
@@ -150,17 +162,22 @@ fn has_number(question: usize) -> bool {
     }
 }
 
-// A clause that stands before `place` already. Bytes of a space may be expected at several offsets.
+// A clause, or the other one of its pair, stands before `place` already.
 fn is_said(tokens: &Tokens, arrow: usize, place: usize, word: usize) -> bool {
+    if tokens::find(tokens, arrow, place, word) < place {
+        return true;
+    }
+    tokens::find(tokens, arrow, place, other_of(word)) < place
+}
+
+// Of two words that say the same in two ways, the other one.
+fn other_of(word: usize) -> usize {
     match word {
-        ORDINARY | TRUSTED => false,
-        CAPTURED | FORGOTTEN => {
-            if tokens::find(tokens, arrow, place, CAPTURED) < place {
-                return true;
-            }
-            tokens::find(tokens, arrow, place, FORGOTTEN) < place
-        }
-        _ => tokens::find(tokens, arrow, place, word) < place,
+        CAPTURED => FORGOTTEN,
+        FORGOTTEN => CAPTURED,
+        OFFSETS => STEPS,
+        STEPS => OFFSETS,
+        _ => word,
     }
 }
 
@@ -368,6 +385,9 @@ fn fault_of_number(word: usize, form: Form, given: usize, first: usize, number: 
     if word == NUMBER {
         return fault_of_answer(number);
     }
+    if word == MERGE {
+        return fault_of_enables(given, number);
+    }
     if given == 0 {
         return faults::NONE;
     }
@@ -386,14 +406,26 @@ fn fault_of_answer(number: usize) -> usize {
     }
 }
 
-// Where the bytes end that are put or shown from an offset on, or 0 where there are none.
+// The last number of a merge is the enables, four bits.
+fn fault_of_enables(given: usize, number: usize) -> usize {
+    if given < 12 {
+        return faults::NONE;
+    }
+    if 0xf < number {
+        faults::TOO_LARGE
+    } else {
+        faults::NONE
+    }
+}
+
+// Where the bytes end that are put, shown or expected from an offset on, or 0 where there are none.
 fn end_of(word: usize, form: Form, given: usize, offset: usize, number: usize) -> usize {
     let fits = form.fits;
-    if word == SHOW {
-        return std::num::wrapping_add_usize(offset, number);
-    }
     if fits {
         return std::num::wrapping_add_usize(offset, given);
     }
-    0
+    match word {
+        SHOW | BODY => std::num::wrapping_add_usize(offset, number),
+        _ => 0,
+    }
 }

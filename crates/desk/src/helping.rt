@@ -16,14 +16,16 @@ The board:
 Lent to the next question only:
   sizes O R T L      so many bytes of the ordinary space, its rules, the trusted space, its rules
   room N             so many bytes of the reply's buffer, or entries of the list room
+To look, without asking:
+  show SPACE N C     C bytes from offset N on; also of ordinary-rules and trusted-rules
 Questions:
   packet b b ..      the board is sent a packet
   reset              the board is reset
   walk LIST          compatible, extended or trusted
   dvsec SPACE N      the record at offset N; SPACE is ordinary or trusted; also: dual
   merge b b ..       four old bytes, four rules, four data bytes, the enables
-  show SPACE N C     C bytes from offset N on; also of the rules
 A question with an expectation is a check, and everything that is not said is expected to stay.
+A refusal has no reply, no offsets and no fields.
 Only the answer numbers, 0 to 10, are decimal:
   packet .. -> number N, reply b b .., captured BUS DEVICE, ordinary N b b .., trusted N b b ..
   reset -> forgotten
@@ -31,7 +33,7 @@ Only the answer numbers, 0 to 10, are decimal:
   dvsec SPACE N -> number N, header VENDOR REVISION ID LENGTH, body N C
   dual SPACE N -> number N, alternate FUNCTION DEVICE
   merge .. -> bytes b b b b
-Sheets: sheet begins one and end ends it; echo writes out each line as it is read.
+Sheets: sheet begins one and end ends it; echo writes out each line as it is read. help writes this.
 ",
     );
 }

@@ -1,10 +1,13 @@
 // The piece of the input that is in memory: read after what is left of the piece before.
 ghost use Prim.Native.Nat.{_≤_};
 ghost use lib.ListN.{length};
+use crate::slots;
+use crate::slots::Desk;
 use libc::STDIN_FILENO;
 
-// Reads more, after the `rest` bytes that the piece begins with, and answers where it ends now: not past `rest` where nothing came.
-pub fn read_more(piece: &mut [u8], rest: usize) -> usize
+// Reads more, after the `rest` bytes that the piece begins with, and answers where it ends now: not past `rest` where nothing came. Notes
+// where that is because the input could not be read.
+pub fn read_more(desk: &mut Desk, piece: &mut [u8], rest: usize) -> usize
     ensures { λ r. ⌜ r ≤ length (now (piece .exit)) ⌝ }
 {
     if piece.len() <= rest {
@@ -12,6 +15,9 @@ pub fn read_more(piece: &mut [u8], rest: usize) -> usize
     }
     let free = &mut piece[rest..];
     let got = libc::read(STDIN_FILENO, free);
+    if got < 0 {
+        slots::set(desk, slots::UNREAD, 1);
+    }
     rest + io::count(got, free)
 }
 
@@ -36,9 +42,16 @@ pub fn keep_rest(piece: &mut [u8], from: usize, end: usize) -> usize {
 pub fn line_end(piece: &[u8], from: usize, end: usize) -> usize
     ensures { λ r. ⌜ from ≤ r ⌝ }
 {
+    place_of(piece, from, end, b'\n')
+}
+
+// Where a byte stands from `from` on, or `end`.
+fn place_of(piece: &[u8], from: usize, end: usize, byte: u8) -> usize
+    ensures { λ r. ⌜ from ≤ r ⌝ }
+{
     let mut at = from;
     while at < end {
-        if is_line_end(piece, at) {
+        if is_at(piece, at, byte) {
             return at;
         }
         at += 1;
@@ -46,11 +59,11 @@ pub fn line_end(piece: &[u8], from: usize, end: usize) -> usize
     at
 }
 
-fn is_line_end(piece: &[u8], at: usize) -> bool {
+fn is_at(piece: &[u8], at: usize, byte: u8) -> bool {
     if piece.len() <= at {
         return false;
     }
-    piece[at] == b'\n'
+    piece[at] == byte
 }
 
 // The bytes between two places, or none.
@@ -62,4 +75,18 @@ pub fn between(piece: &[u8], from: usize, to: usize) -> &[u8] {
         return &piece[..0];
     }
     &piece[from..to]
+}
+
+// The line without the carriage return at its end, as other systems write one.
+pub fn without_return(line: &[u8]) -> &[u8] {
+    let last = std::num::wrapping_sub_usize(line.len(), 1);
+    if is_at(line, last, b'\r') {
+        return between(line, 0, last);
+    }
+    line
+}
+
+// Whether a carriage return stands within a line.
+pub fn has_return(line: &[u8]) -> bool {
+    place_of(line, 0, line.len(), b'\r') < line.len()
 }

@@ -8,7 +8,6 @@ use crate::saying::put_bytes;
 use crate::saying::put_hex;
 use crate::slots;
 use crate::slots::Desk;
-use crate::spaces;
 use crate::tokens;
 use crate::tokens::Tokens;
 use crate::vocabulary;
@@ -79,7 +78,7 @@ pub fn ask_dvsec(desk: &mut Desk, tokens: &Tokens, count: usize, space: &[u8]) {
     let record = dvsec_record(records::dvsec(space, at));
     let body = records::dvsec_body(space, at);
     slots::lend_all(desk);
-    if !judge_dvsec(desk, tokens, count, record, space, body) {
+    if !judge_dvsec(desk, tokens, count, record, body) {
         explaining::put_number(record.number);
         tell_header(record, body);
     }
@@ -91,7 +90,6 @@ fn judge_dvsec(
     tokens: &Tokens,
     count: usize,
     record: Record,
-    space: &[u8],
     body: &[u8],
 ) -> bool {
     let arrow = packets::asked(tokens, count);
@@ -100,7 +98,7 @@ fn judge_dvsec(
     }
     judging::begin(desk);
     judge(desk, tokens, arrow, count, record, vocabulary::HEADER);
-    judge_body(desk, tokens, arrow, count, space, body);
+    judge_body(desk, tokens, arrow, count, record, body);
     judging::end(desk)
 }
 
@@ -191,19 +189,29 @@ fn judge_body(
     tokens: &Tokens,
     arrow: usize,
     count: usize,
-    space: &[u8],
+    record: Record,
     found: &[u8],
 ) {
     let word = tokens::find(tokens, arrow, count, vocabulary::BODY);
+    if count <= word {
+        judging::value(desk, b"body's length ", found.len(), 0);
+        return;
+    }
     let start = tokens::at(tokens, std::num::wrapping_add_usize(word, 1));
     let size = tokens::at(tokens, std::num::wrapping_add_usize(word, 2));
-    let expected = if word < count { size } else { 0 };
-    if judging::value(desk, b"body's length ", found.len(), expected) {
-        judging::bytes(
-            desk,
-            b"body byte ",
-            found,
-            spaces::part(space, start, expected),
-        );
+    judging::value(
+        desk,
+        b"body's place ",
+        place_of_body(record, tokens::at(tokens, 2)),
+        start,
+    );
+    judging::value(desk, b"body's length ", found.len(), size);
+}
+
+// Where the body of a record lies, or 0 where there is no record.
+fn place_of_body(record: Record, at: usize) -> usize {
+    if record.count == 0 {
+        return 0;
     }
+    std::num::wrapping_add_usize(at, records::BODY)
 }

@@ -40,6 +40,10 @@ fn echo(desk: &Desk, line: &[u8]) {
 
 // Whether a line says something, and all of it fits; where not, why.
 fn is_understood(desk: &mut Desk, line: &[u8], tokens: &Tokens, count: usize) -> bool {
+    if input::has_return(line) {
+        faults::tell_whole(desk, faults::RETURN);
+        return false;
+    }
     if count == 0 {
         return false;
     }
@@ -62,7 +66,7 @@ fn is_understood(desk: &mut Desk, line: &[u8], tokens: &Tokens, count: usize) ->
 // A whole line, or the end of one whose beginning was given up.
 fn take_whole(desk: &mut Desk, line: &[u8], store: &mut Store) {
     if desk[slots::SKIPPING] == 0 {
-        take(desk, line, store);
+        take(desk, input::without_return(line), store);
         return;
     }
     desk[slots::SKIPPING] = 0;
@@ -112,7 +116,7 @@ pub fn run(piece: &mut [u8; PIECE], store: &mut Store) {
     slots::begin(&mut desk);
     while turns > 0 {
         turns -= 1;
-        let end = input::read_more(piece, rest);
+        let end = input::read_more(&mut desk, piece, rest);
         if end <= rest {
             break;
         }
@@ -124,6 +128,9 @@ pub fn run(piece: &mut [u8; PIECE], store: &mut Store) {
 }
 
 fn tell_end(desk: &mut Desk) {
+    if desk[slots::UNREAD] != 0 {
+        faults::tell_whole(desk, faults::UNREAD);
+    }
     if desk[slots::SHEET] != 0 {
         faults::tell_whole(desk, faults::NO_END);
     }

@@ -45,6 +45,9 @@ pub const ROOM: usize = 17;
 // The rest of a line that is too long is being read past.
 pub const SKIPPING: usize = 18;
 
+// The input could not be read to its end.
+pub const UNREAD: usize = 19;
+
 // All of a reply's buffer, and of a list's.
 const WHOLE: usize = 0xffff;
 

@@ -51,10 +51,9 @@ fn first_of(text: &[u8]) -> u8 {
     if text.len() == 0 { b' ' } else { text[0] }
 }
 
-// A carriage return is a blank, so that a sheet from another system reads the same.
 fn is_blank(byte: u8) -> bool {
     match byte {
-        b' ' | b'\t' | b'\r' => true,
+        b' ' | b'\t' => true,
         _ => false,
     }
 }

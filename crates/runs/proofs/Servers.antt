@@ -182,7 +182,7 @@ candid d p reply =
       reply = cond at (over (withData (completerOf d) (q .requester) (q .tag) word) reply) (x .reply);
     }
 
--- the statement: one with each fault of document 01, one that stores once, and for each trap one that is right in all else
+-- the statement: there is one with each fault of document 01, one that stores once, and one for each trap
 pub record SuchServersExist : Type 1 where
   pub wrong : (server : Server) × (bytes : List ℕ) × AnswersUR server × Always bytes server × LeavesOrdinary server × LeavesTrusted server × DropsRegisterBits server
   pub storesOnce : (m : Remembering) × StoresOnce m × ((d : Board) (p : List ℕ) → RightAt (m .answers (m .start)) d p)

@@ -73,7 +73,7 @@ impl Refusal {
     pub const fn text(self) -> &'static str {
         match self {
             Refusal::BadDescription => {
-                "a space or rule space is not 4,096 bytes or overlaps what is written, a captured device is over 31, \
+                "a space or rule space of 4,096 bytes is not lent, a captured device is over 31, \
                  a function number or A or B is outside its range, or a record is asked for where none may stand"
             }
             Refusal::NoRoom => "the reply is under 16 bytes, or the list room is under the list's maximum",

@@ -1,20 +1,20 @@
--- `desk::input::line_end` is safe and ends. Assumes nothing.
+-- `desk::input::place_of` is safe and ends. Assumes nothing.
 use borrow.Author.Needs.{needs}
 use Prim.Native.Nat.{_-_, _≤_}
-use Rattle.desk.proofs.input.line_end.Statement.{statement}
-use Rattle.desk.proofs.input.line_end.Tie as tie
+use Rattle.desk.proofs.input.place_of.Statement.{statement}
+use Rattle.desk.proofs.input.place_of.Tie as tie
 
 abbrev Inv-loop : tie.InvT-loop
-Inv-loop piece from end at₀ at = from ≤ at
+Inv-loop piece from end byte at₀ at = from ≤ at
 
 abbrev μ-loop : tie.MeasureT-loop
-μ-loop piece from end at₀ at = end - at
+μ-loop piece from end byte at₀ at = end - at
 
 loop-holds : tie.Need-loop-holds Inv-loop μ-loop
 loop-holds c = search needs
 
-is-line-end-requires : tie.Need-is-line-end-requires Inv-loop μ-loop
-is-line-end-requires c κs = search needs
+is-at-requires : tie.Need-is-at-requires Inv-loop μ-loop
+is-at-requires c κs = search needs
 
 returns : tie.Need-returns Inv-loop μ-loop
 returns c = search needs
@@ -31,14 +31,14 @@ loop-again c = search needs
 returns-2 : tie.Need-returns-2 Inv-loop μ-loop
 returns-2 c = search needs
 
-pub line-end-spec : {M : Type 1} → statement M
-line-end-spec =
+pub place-of-spec : {M : Type 1} → statement M
+place-of-spec =
     tie.close
     (tie.spec
     Inv-loop
     μ-loop
     loop-holds
-    is-line-end-requires
+    is-at-requires
     returns
     add-at
     loop-less
