@@ -254,7 +254,8 @@ else
 fi
 
 # 100,000 lines, and somebody who stops reading.
-yes 'reset -> forgotten' | head -n 100000 >"$work/in"
+yes 'packet 44 00 00 01 01 00 07 0F 05 18 00 04 11 22 33 44 -> number 0, reply 0A 00 00 00 05 18 00 04 01 00 07 00, captured 05 03
+reset -> forgotten' | head -n 100000 >"$work/in"
 { yes 'as expected' | head -n 100000 && echo 'checks 100000, as expected 100000, lines not understood 0'; } >"$work/wanted"
 answers "100,000 lines" 0 <"$work/in"
 first=$(yes 'reset -> forgotten' | timeout 60 ./run desk 2>"$work/errors" | head -n 1)
