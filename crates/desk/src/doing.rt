@@ -1,4 +1,5 @@
 // A line that was understood is done.
+use crate::chaining;
 use crate::faults;
 use crate::helping;
 use crate::packets;
@@ -19,30 +20,44 @@ const ORDINARY: u8 = 0x51;
 
 const TRUSTED: u8 = 0x72;
 
-pub fn perform(desk: &mut Desk, tokens: &Tokens, count: usize, store: &mut Store) {
+pub fn perform(desk: &mut Desk, tokens: &Tokens, store: &mut Store) {
     let word = tokens::word(tokens, 0);
     match word {
-        vocabulary::FRESH..=vocabulary::BLANK => {
-            slots::begin(desk);
-            fill(store, word);
-            done();
-        }
+        vocabulary::FRESH..=vocabulary::BLANK => begin_board(desk, store, word),
         vocabulary::ORDINARY..=vocabulary::TRUSTED_RULES => {
-            spaces::put_behind(store, tokens, 0, count);
+            spaces::put_behind(store, tokens, 0, tokens[tokens::COUNT]);
             done();
         }
-        vocabulary::CHAIN => {
-            if walking::put_chain(store, tokens) {
-                done();
-            } else {
-                faults::tell_whole(desk, faults::NO_CHAIN);
-            }
-        }
-        vocabulary::PACKET => packets::ask(desk, tokens, count, store),
+        vocabulary::CHAIN => put_chain(desk, tokens, store),
         vocabulary::SHOW => show(tokens, store),
-        vocabulary::WALK..=vocabulary::DUAL => ask_of_space(desk, tokens, count, store),
-        _ => perform_on_desk(desk, tokens, count),
+        vocabulary::PACKET..=vocabulary::DUAL => ask(desk, tokens, store),
+        _ => perform_on_desk(desk, tokens),
     }
+}
+
+fn begin_board(desk: &mut Desk, store: &mut Store, word: usize) {
+    slots::begin(desk);
+    fill(store, word);
+    done();
+}
+
+fn put_chain(desk: &mut Desk, tokens: &Tokens, store: &mut Store) {
+    if chaining::put_chain(store, tokens) {
+        done();
+    } else {
+        faults::tell_whole(desk, faults::NO_CHAIN);
+    }
+}
+
+// A question is lent what was said before it, and the next one everything again.
+fn ask(desk: &mut Desk, tokens: &Tokens, store: &mut Store) {
+    match tokens::word(tokens, 0) {
+        vocabulary::PACKET => packets::ask(desk, tokens, store),
+        vocabulary::RESET => packets::reset(desk, tokens),
+        vocabulary::MERGE => packets::merge(desk, tokens),
+        _ => ask_of_space(desk, tokens, store),
+    }
+    slots::lend_all(desk);
 }
 
 fn done() {
@@ -75,38 +90,26 @@ fn show(tokens: &Tokens, store: &Store) {
 }
 
 // A question about one space, lent as far as the desk says: the trusted one where that is named, else the ordinary one.
-fn ask_of_space(desk: &mut Desk, tokens: &Tokens, count: usize, store: &Store) {
+fn ask_of_space(desk: &mut Desk, tokens: &Tokens, store: &Store) {
     let ordinary = desk[slots::ORDINARY_SIZE];
     let trusted = desk[slots::TRUSTED_SIZE];
     if tokens::word(tokens, 1) == vocabulary::TRUSTED {
-        ask_of(
-            desk,
-            tokens,
-            count,
-            spaces::part(store, spaces::TRUSTED, trusted),
-        );
+        ask_of(desk, tokens, spaces::part(store, spaces::TRUSTED, trusted));
     } else {
-        ask_of(
-            desk,
-            tokens,
-            count,
-            spaces::part(store, spaces::ORDINARY, ordinary),
-        );
+        ask_of(desk, tokens, spaces::part(store, spaces::ORDINARY, ordinary));
     }
 }
 
-fn ask_of(desk: &mut Desk, tokens: &Tokens, count: usize, space: &[u8]) {
+fn ask_of(desk: &mut Desk, tokens: &Tokens, space: &[u8]) {
     match tokens::word(tokens, 0) {
-        vocabulary::WALK => walking::ask(desk, tokens, count, space),
-        vocabulary::DVSEC => reading::ask_dvsec(desk, tokens, count, space),
-        _ => reading::ask_dual(desk, tokens, count, space),
+        vocabulary::WALK => walking::ask(desk, tokens, space),
+        vocabulary::DVSEC => reading::ask_dvsec(desk, tokens, space),
+        _ => reading::ask_dual(desk, tokens, space),
     }
 }
 
-fn perform_on_desk(desk: &mut Desk, tokens: &Tokens, count: usize) {
+fn perform_on_desk(desk: &mut Desk, tokens: &Tokens) {
     match tokens::word(tokens, 0) {
-        vocabulary::RESET => packets::reset(desk, tokens, count),
-        vocabulary::MERGE => packets::merge(desk, tokens, count),
         vocabulary::HELP => helping::help(),
         vocabulary::SHEET => begin_sheet(desk),
         vocabulary::END => end_sheet(desk),
@@ -121,7 +124,6 @@ fn note(desk: &mut Desk, tokens: &Tokens) {
     let first = tokens::at(tokens, 1);
     let second = tokens::at(tokens, 2);
     match word {
-        vocabulary::CAPTURED => slots::capture(desk, first, second),
         vocabulary::SIZES => slots::lend(
             desk,
             first,
@@ -129,18 +131,20 @@ fn note(desk: &mut Desk, tokens: &Tokens) {
             tokens::at(tokens, 3),
             tokens::at(tokens, 4),
         ),
+        vocabulary::CAPTURED => {
+            slots::set(desk, slots::CAPTURED, slots::capture(first, second));
+        }
+        vocabulary::FORGOTTEN => slots::set(desk, slots::CAPTURED, slots::NOTHING),
         _ => slots::set(desk, slot_of(word), first),
     }
     done();
 }
 
-// Behind `forgotten` stands no number, which reads as 0.
 fn slot_of(word: usize) -> usize {
     match word {
         vocabulary::FUNCTION => slots::FUNCTION,
         vocabulary::A => slots::A,
         vocabulary::B => slots::B,
-        vocabulary::FORGOTTEN => slots::CAPTURED,
         _ => slots::ROOM,
     }
 }

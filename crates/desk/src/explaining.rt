@@ -1,29 +1,24 @@
 // What an answer means, in words: the number, what was asked, what the completion says, what is captured.
 use crate::packets;
-use crate::packets::PACKET;
-use crate::packets::REPLY;
 use crate::saying::put;
-use crate::saying::put_byte;
 use crate::saying::put_bytes;
-use crate::saying::put_decimal;
-use crate::saying::put_hex;
+use crate::saying::say;
+use crate::slots;
 use crate::slots::Desk;
 use crate::spaces;
+use crate::spaces::REPLY;
+use crate::spaces::Store;
 use crate::texts;
 use crate::tokens::Tokens;
 use board::Served;
-use capture::Capture;
 use packet::Decoded;
-use packet::Id;
 use packet::Request;
 use packet::Target;
 use reasons::Cause;
 
 // An answer number and what it means.
 pub fn put_number(number: u8) {
-    put(b"number ");
-    put_decimal(number as usize);
-    put(b": ");
+    say(b"number %d: ", &[number as usize]);
     put_meaning(number as usize);
     put(b"\n");
 }
@@ -47,24 +42,21 @@ its function vector has not exactly one bit
 }
 
 // A packet that was served: the number, what it asked for as the board read it, what the completion says of it, what is captured.
-pub fn packet(desk: &Desk, tokens: &Tokens, count: usize, served: Served, reply: &[u8; REPLY]) {
-    let mut bytes = [0u8; PACKET];
-    let length = packets::packet_of(&mut bytes, tokens, count);
+pub fn packet(desk: &Desk, tokens: &Tokens, served: Served, store: &Store) {
     let answer = served.answer;
     let state = served.capture;
     put_number(answer.number());
-    request(desk, packets::sent(&bytes, length), served.length, reply);
-    captured(state);
+    request(desk, packets::sent(tokens, store), served.length, store);
+    captured(packets::capture_number(state));
 }
 
-fn request(desk: &Desk, packet: &[u8], replied: usize, reply: &[u8; REPLY]) {
+fn request(desk: &Desk, packet: &[u8], replied: usize, store: &Store) {
     match packet::decode(packet) {
         Decoded::Refused(_) => {}
         Decoded::Asks(asked) => {
             put_request(asked, packet);
             if replied != 0 {
-                put_reply(reply, replied);
-                put_completion(cause_of(desk, asked), reply);
+                put_reply(cause_of(desk, asked), replied, store);
             }
         }
     }
@@ -84,11 +76,15 @@ fn put_request(asked: Request, packet: &[u8]) {
     put_target(asked);
     put_kind(asked);
     put_place(asked);
-    put(b", enables ");
-    put_enables(asked.enables);
     put_data(asked, packet);
-    put_sender(requester, asked.tag);
-    put(b"\n");
+    say(
+        b", requester %2 %2 tag %2\n",
+        &[
+            requester.high as usize,
+            requester.low as usize,
+            asked.tag as usize,
+        ],
+    );
 }
 
 fn put_target(asked: Request) {
@@ -98,17 +94,6 @@ fn put_target(asked: Request) {
         Target::Type1 => put(b"Type 1 "),
         Target::Trusted => put(b"trusted "),
     }
-}
-
-fn put_place(asked: Request) {
-    put(b", bus ");
-    put_byte(asked.bus);
-    put(b" device ");
-    put_byte(asked.device);
-    put(b" function ");
-    put_hex(asked.function as usize, 1);
-    put(b", offset ");
-    put_hex(asked.offset, 3);
 }
 
 fn put_kind(asked: Request) {
@@ -124,48 +109,41 @@ fn put_kind(asked: Request) {
     }
 }
 
-// Four bits, byte 3's first.
-fn put_enables(enables: u8) {
-    put_bit(enables >> 3);
-    put_bit(enables >> 2);
-    put_bit(enables >> 1);
-    put_bit(enables);
-}
-
-fn put_bit(bits: u8) {
-    put_hex((bits % 2) as usize, 1);
+fn put_place(asked: Request) {
+    say(
+        b", bus %2 device %2 function %1, offset %3, enables %e",
+        &[
+            asked.bus as usize,
+            asked.device as usize,
+            asked.function as usize,
+            asked.offset,
+            asked.enables as usize,
+        ],
+    );
 }
 
 fn put_data(asked: Request, packet: &[u8]) {
     let writes = asked.writes;
     if writes {
-        put(b", data");
-        put_bytes(&words::four(packet, 12));
+        put_part(b", data", spaces::part(packet, 12, 4));
     }
 }
 
-fn put_sender(requester: Id, tag: u8) {
-    put(b", requester ");
-    put_byte(requester.high);
-    put(b" ");
-    put_byte(requester.low);
-    put(b" tag ");
-    put_byte(tag);
+// Bytes behind a text.
+pub fn put_part(text: &[u8], bytes: &[u8]) {
+    put(text);
+    put_bytes(bytes);
 }
 
-fn put_reply(reply: &[u8], length: usize) {
-    let sent = spaces::within(length, reply);
-    put(b"  reply:");
-    put_bytes(&reply[..sent]);
-    put(b"\n");
-}
-
-// The completion, taken apart from its bytes; why it is unsupported, from the request.
-fn put_completion(cause: Cause, reply: &[u8; REPLY]) {
-    put(b"  says: ");
-    put_status(reply[6], cause);
-    put_ids(reply);
-    put_read(reply[0], words::four(reply, 12));
+// The completion as it is and taken apart from its bytes; why it is unsupported, from the request.
+fn put_reply(cause: Cause, length: usize, store: &[u8]) {
+    put_part(b"  reply:", spaces::part(store, REPLY, length));
+    put(b"\n  says: ");
+    put_status(spaces::byte_of(store, REPLY + 6), cause);
+    put_part(b"; completer", spaces::part(store, REPLY + 4, 2));
+    put_part(b", requester", spaces::part(store, REPLY + 8, 2));
+    put_part(b" tag", spaces::part(store, REPLY + 10, 1));
+    put_read(store);
     put(b"\n");
 }
 
@@ -179,25 +157,10 @@ fn put_status(status: u8, cause: Cause) {
 }
 
 // The data of a completion that has some.
-fn put_read(first: u8, data: [u8; 4]) {
-    if first == 0x4a {
-        put(b", data");
-        put_bytes(&data);
+fn put_read(store: &[u8]) {
+    if spaces::byte_of(store, REPLY) == 0x4a {
+        put_part(b", data", spaces::part(store, REPLY + 12, 4));
     }
-}
-
-fn put_ids(reply: &[u8; REPLY]) {
-    put(b"; completer ");
-    put_byte(reply[4]);
-    put(b" ");
-    put_byte(reply[5]);
-    put_sender(
-        Id {
-            high: reply[8],
-            low: reply[9],
-        },
-        reply[10],
-    );
 }
 
 fn put_cause(cause: Cause) {
@@ -225,26 +188,16 @@ fn cause_number(cause: Cause) -> usize {
 }
 
 // What is captured now.
-pub fn captured(capture: Capture) {
+pub fn captured(number: usize) {
     put(b"  captured: ");
-    put_capture(capture);
+    put_capture(number);
     put(b"\n");
 }
 
-pub fn put_capture(capture: Capture) {
-    match capture {
-        Capture::Nothing => put(b"nothing"),
-        Capture::Number { bus, device } => {
-            put(b"bus ");
-            put_byte(bus);
-            put(b" device ");
-            put_byte(device);
-        }
+pub fn put_capture(number: usize) {
+    if number == slots::NOTHING {
+        put(b"nothing");
+    } else {
+        say(b"bus %2 device %2", &[number >> 8, number]);
     }
-}
-
-pub fn merged(bytes: [u8; 4]) {
-    put(b"  merged:");
-    put_bytes(&bytes);
-    put(b"\n");
 }

@@ -1,7 +1,7 @@
 // Why a line is not understood, told with the line's number and the word at fault. Nothing of such a line is done.
 use crate::saying::put;
-use crate::saying::put_line_number;
 use crate::saying::put_plain;
+use crate::saying::say;
 use crate::slots;
 use crate::slots::Desk;
 use crate::texts;
@@ -83,7 +83,7 @@ pub fn tell_whole(desk: &mut Desk, what: usize) {
 fn begin(desk: &mut Desk) {
     slots::count(desk, slots::FAULTS);
     slots::lend_all(desk);
-    put_line_number(desk);
+    say(b"line %d: ", &[desk[slots::LINE]]);
 }
 
 // The table has the reasons in the order of their numbers.

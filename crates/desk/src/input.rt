@@ -21,6 +21,11 @@ pub fn read_more(desk: &mut Desk, piece: &mut [u8], rest: usize) -> usize
     rest + io::count(got, free)
 }
 
+// 1 where somebody types the input.
+pub fn is_typed() -> usize {
+    if libc::isatty(STDIN_FILENO) == 1 { 1 } else { 0 }
+}
+
 // Moves what stands from `from` to `end` to the front, and answers how many bytes these are.
 pub fn keep_rest(piece: &mut [u8], from: usize, end: usize) -> usize {
     if end < from {
@@ -46,7 +51,7 @@ pub fn line_end(piece: &[u8], from: usize, end: usize) -> usize
 }
 
 // Where a byte stands from `from` on, or `end`.
-fn place_of(piece: &[u8], from: usize, end: usize, byte: u8) -> usize
+pub fn place_of(piece: &[u8], from: usize, end: usize, byte: u8) -> usize
     ensures { λ r. ⌜ from ≤ r ⌝ }
 {
     let mut at = from;

@@ -1,102 +1,71 @@
 // What was found is held against what a line expects. Every difference is told; a check without one is as expected.
 use crate::saying::put;
-use crate::saying::put_bytes;
-use crate::saying::put_decimal;
-use crate::saying::put_hex;
-use crate::saying::put_line_number;
-use crate::saying::put_value;
+use crate::saying::say;
 use crate::slots;
 use crate::slots::Desk;
 use crate::spaces;
+use crate::tokens;
+use crate::tokens::Tokens;
+use crate::vocabulary;
 
-// A check begins.
-pub fn begin(desk: &mut Desk) {
-    desk[slots::WRONGS] = 0;
-    slots::count(desk, slots::CHECKS);
+// Whether a question is a check. One that is not has a difference to begin with, so that its answer is told.
+pub fn begins(desk: &mut Desk, tokens: &Tokens) -> bool {
+    let checks = tokens::arrow(tokens) < tokens[tokens::COUNT];
+    if checks {
+        slots::count(desk, slots::CHECKS);
+        desk[slots::WRONGS] = 0;
+    } else {
+        desk[slots::WRONGS] = 1;
+    }
+    checks
 }
 
-// A check ends, with a word if it is right. Says whether it is.
-pub fn end(desk: &mut Desk) -> bool {
+// Whether the answer is to be told, as it is unless a check was right.
+pub fn is_told(desk: &mut Desk) -> bool {
     if desk[slots::WRONGS] != 0 {
-        return false;
+        return true;
     }
     slots::count(desk, slots::RIGHT);
     put(b"as expected\n");
-    true
-}
-
-pub fn begin_difference(desk: &mut Desk, what: &[u8]) {
-    slots::count(desk, slots::WRONGS);
-    put_line_number(desk);
-    put(b"not as expected: ");
-    put(what);
-}
-
-// Two answer numbers, the only ones in decimal: the expected one was read as its digits.
-pub fn number(desk: &mut Desk, found: u8, digits: usize) {
-    let wanted = std::num::wrapping_add_usize(10 * (digits % 256 / 16), digits % 16);
-    if found as usize != wanted {
-        begin_difference(desk, b"number ");
-        put_decimal(found as usize);
-        put(b", expected ");
-        put_decimal(wanted);
-        put(b"\n");
-    }
-}
-
-// Two values or counts. Says whether they are the same.
-pub fn value(desk: &mut Desk, what: &[u8], found: usize, wanted: usize) -> bool {
-    if found == wanted {
-        return true;
-    }
-    begin_difference(desk, what);
-    put_value(found);
-    put(b", expected ");
-    put_value(wanted);
-    put(b"\n");
     false
 }
 
-// The value at a place of many, where it is another.
-pub fn entry(desk: &mut Desk, what: &[u8], at: usize, found: usize, wanted: usize, digits: usize) {
-    begin_difference(desk, what);
-    put_value(at);
-    put(b" is ");
-    put_hex(found, digits);
-    put(b", expected ");
-    put_hex(wanted, digits);
-    put(b"\n");
+// A difference is told; the text ends its line, or who calls does.
+pub fn differ(desk: &mut Desk, text: &[u8], numbers: &[usize]) {
+    slots::count(desk, slots::WRONGS);
+    say(b"line %d: not as expected: ", &[desk[slots::LINE]]);
+    say(text, numbers);
+}
+
+// Two values. Says whether they are the same.
+pub fn value(desk: &mut Desk, text: &[u8], found: usize, wanted: usize) -> bool {
+    if found == wanted {
+        return true;
+    }
+    differ(desk, text, &[found, wanted]);
+    false
+}
+
+// The answer number, the only one in decimal: the expected one was read as its digits.
+pub fn number(desk: &mut Desk, tokens: &Tokens, found: u8) {
+    let digits = tokens::at(tokens, tokens::behind(tokens, vocabulary::NUMBER));
+    let wanted = std::num::wrapping_add_usize(10 * (digits % 256 / 16), digits % 16);
+    value(desk, b"number %d, expected %d\n", found as usize, wanted);
 }
 
 // Bytes, one by one, up to the first that is another.
-pub fn bytes(desk: &mut Desk, what: &[u8], found: &[u8], wanted: &[u8]) {
+pub fn bytes(desk: &mut Desk, text: &[u8], found: &[u8], wanted: &[u8]) {
     let mut at = 0;
     while at < found.len() {
-        let is = found[at];
         let should = spaces::byte_of(wanted, at);
-        if is != should {
-            entry(desk, what, at, wide(is), wide(should), 2);
+        if found[at] != should {
+            differ_at(desk, text, at, found[at], should);
             return;
         }
         at += 1;
     }
 }
 
-fn wide(byte: u8) -> usize {
-    byte as usize
-}
-
-// Four bytes.
-pub fn four(desk: &mut Desk, found: [u8; 4], wanted: [u8; 4]) {
-    if number_of(found) != number_of(wanted) {
-        begin_difference(desk, b"bytes");
-        put_bytes(&found);
-        put(b", expected");
-        put_bytes(&wanted);
-        put(b"\n");
-    }
-}
-
-fn number_of(bytes: [u8; 4]) -> u32 {
-    words::joined(bytes[0], bytes[1], bytes[2], bytes[3])
+fn differ_at(desk: &mut Desk, text: &[u8], at: usize, found: u8, wanted: u8) {
+    differ(desk, text, &[at, found as usize, wanted as usize]);
 }

@@ -1,5 +1,6 @@
 // The desk: statements from standard input, each answered at once. `help` lists them. What decides is the proved code of the crates
 // below; here only safety is promised, and that every session ends.
+mod chaining;
 mod doing;
 mod explaining;
 mod faults;

@@ -1,13 +1,11 @@
 // A packet is served by the board at the desk. Everything afterwards is told, or held against what is expected: the number, the reply
-// with the rest of its buffer, the capture, and every byte of both spaces.
+// with the rest of its buffer, the capture, and every byte of both spaces. Resets and merges are asked for in the same way.
 use crate::explaining;
 use crate::judging;
 use crate::saying::put;
 use crate::slots;
 use crate::slots::Desk;
 use crate::spaces;
-use crate::spaces::Buffer;
-use crate::spaces::LONG;
 use crate::spaces::STORE;
 use crate::spaces::Store;
 use crate::tokens;
@@ -17,68 +15,73 @@ use board::Description;
 use board::Served;
 use capture::Capture;
 
-// The most bytes of a packet; the reply's buffer, and the byte that fills it before a packet is served.
-pub const PACKET: usize = 64;
-
-pub const REPLY: usize = 20;
+// The bytes of the reply's buffer, and the byte that fills it before a packet is served.
+const REPLY: usize = 20;
 
 const UNTOUCHED: u8 = 0xee;
 
-pub fn ask(desk: &mut Desk, tokens: &Tokens, count: usize, store: &mut Store) {
+type Reply = [u8; REPLY];
+
+pub fn ask(desk: &mut Desk, tokens: &Tokens, store: &mut Store) {
     let mut before = [0u8; STORE];
-    let mut reply = [UNTOUCHED; REPLY];
+    take_packet(store, tokens);
     words::put(&mut before, 0, store);
-    let served = send(desk, tokens, count, store, &mut reply);
-    if !judge(desk, tokens, count, served, &reply, &before, store) {
-        explaining::packet(desk, tokens, count, served, &reply);
-        if spaces::tell_differences(desk, false, &before, store) == 0 {
-            put(b"  no byte changed\n");
-        }
-    }
+    let served = send(desk, tokens, store);
     let state = served.capture;
-    keep_capture(desk, state);
-    slots::lend_all(desk);
+    answer(desk, tokens, served, &before, store);
+    desk[slots::CAPTURED] = capture_number(state);
 }
 
-// How many of the tokens are the question itself.
-pub fn asked(tokens: &Tokens, count: usize) -> usize {
-    tokens::find(tokens, 0, count, vocabulary::ARROW)
+// The packet's bytes, and an untouched reply, in the store.
+fn take_packet(store: &mut Store, tokens: &Tokens) {
+    spaces::put_behind(store, tokens, 0, tokens::arrow(tokens));
+    words::put(store, spaces::REPLY, &[UNTOUCHED; REPLY]);
 }
 
-// The packet's bytes at the front of a buffer; answers how many there are.
-pub fn packet_of(packet: &mut [u8; PACKET], tokens: &Tokens, count: usize) -> usize {
-    let end = asked(tokens, count);
-    gather(packet, tokens, 1, end);
-    std::num::wrapping_sub_usize(end, 1)
+// The packet that was sent: the tokens between the statement's word and its expectation.
+pub fn sent<'a>(tokens: &Tokens, store: &'a [u8]) -> &'a [u8] {
+    let length = std::num::wrapping_sub_usize(tokens::arrow(tokens), 1);
+    spaces::part(store, spaces::PACKET, length)
 }
 
-// The bytes from a place of the tokens to another.
-pub fn gather(bytes: &mut [u8], tokens: &Tokens, from: usize, to: usize) {
-    let mut place = from;
-    while place < to {
-        set(
-            bytes,
-            std::num::wrapping_sub_usize(place, from),
-            tokens::byte(tokens, place),
-        );
-        place += 1;
-    }
+// The board is lent its buffers out of the store, and what it leaves in the spaces and the reply is put back.
+fn send(desk: &Desk, tokens: &Tokens, store: &mut Store) -> Served {
+    let mut ordinary = spaces::copy_of(store, spaces::ORDINARY);
+    let mut trusted = spaces::copy_of(store, spaces::TRUSTED);
+    let mut reply = [UNTOUCHED; REPLY];
+    let served = serve(desk, tokens, store, &mut ordinary, &mut trusted, &mut reply);
+    spaces::put_back(store, spaces::ORDINARY, &ordinary);
+    spaces::put_back(store, spaces::TRUSTED, &trusted);
+    keep_reply(store, &reply);
+    served
 }
 
-fn set(bytes: &mut [u8], at: usize, byte: u8) {
-    if at < bytes.len() {
-        bytes[at] = byte;
-    }
+fn keep_reply(store: &mut Store, reply: &Reply) {
+    words::put(store, spaces::REPLY, reply);
 }
 
-pub fn capture_of(desk: &Desk) -> Capture {
-    if desk[slots::CAPTURED] == 0 {
-        return Capture::Nothing;
-    }
-    Capture::Number {
-        bus: (desk[slots::BUS] % 256) as u8,
-        device: (desk[slots::DEVICE] % 256) as u8,
-    }
+// Each buffer is lent as far as the desk says.
+fn serve(
+    desk: &Desk,
+    tokens: &Tokens,
+    store: &Store,
+    ordinary: &mut [u8],
+    trusted: &mut [u8],
+    reply: &mut [u8],
+) -> Served {
+    let first = spaces::within(desk[slots::ORDINARY_SIZE], ordinary);
+    let second = spaces::within(desk[slots::TRUSTED_SIZE], trusted);
+    let room = spaces::within(desk[slots::ROOM], reply);
+    board::serve(
+        description_of(desk),
+        capture_of(desk),
+        &mut ordinary[..first],
+        spaces::part(store, spaces::ORDINARY_RULES, desk[slots::ORDINARY_RULES_SIZE]),
+        &mut trusted[..second],
+        spaces::part(store, spaces::TRUSTED_RULES, desk[slots::TRUSTED_RULES_SIZE]),
+        sent(tokens, store),
+        &mut reply[..room],
+    )
 }
 
 pub fn description_of(desk: &Desk) -> Description {
@@ -89,193 +92,68 @@ pub fn description_of(desk: &Desk) -> Description {
     }
 }
 
-pub fn keep_capture(desk: &mut Desk, state: Capture) {
-    match state {
-        Capture::Nothing => desk[slots::CAPTURED] = 0,
-        Capture::Number { bus, device } => slots::capture(desk, bus as usize, device as usize),
+pub fn capture_of(desk: &Desk) -> Capture {
+    let number = desk[slots::CAPTURED];
+    if number == slots::NOTHING {
+        return Capture::Nothing;
+    }
+    Capture::Number {
+        bus: (number / 256 % 256) as u8,
+        device: (number % 256) as u8,
     }
 }
 
-// The board is lent its buffers out of the store, and what it leaves in the two spaces is put back.
-fn send(
-    desk: &Desk,
-    tokens: &Tokens,
-    count: usize,
-    store: &mut Store,
-    reply: &mut [u8; REPLY],
-) -> Served {
-    let mut ordinary = [0u8; LONG];
-    let mut ordinary_rules = [0u8; LONG];
-    let mut trusted = [0u8; LONG];
-    let mut trusted_rules = [0u8; LONG];
-    spaces::take_out(&mut ordinary, store, spaces::ORDINARY);
-    spaces::take_out(&mut ordinary_rules, store, spaces::ORDINARY_RULES);
-    spaces::take_out(&mut trusted, store, spaces::TRUSTED);
-    spaces::take_out(&mut trusted_rules, store, spaces::TRUSTED_RULES);
-    let served = serve(
-        desk,
-        tokens,
-        count,
-        &mut ordinary,
-        &ordinary_rules,
-        &mut trusted,
-        &trusted_rules,
-        reply,
-    );
-    spaces::put_back(store, spaces::ORDINARY, &ordinary);
-    spaces::put_back(store, spaces::TRUSTED, &trusted);
-    served
+// Bus and device in one number, and NOTHING for none.
+pub fn capture_number(capture: Capture) -> usize {
+    match capture {
+        Capture::Nothing => slots::NOTHING,
+        Capture::Number { bus, device } => slots::capture(bus as usize, device as usize),
+    }
 }
 
-// The arrays as slices.
-fn serve(
-    desk: &Desk,
-    tokens: &Tokens,
-    count: usize,
-    ordinary: &mut Buffer,
-    ordinary_rules: &Buffer,
-    trusted: &mut Buffer,
-    trusted_rules: &Buffer,
-    reply: &mut [u8; REPLY],
-) -> Served {
-    let mut packet = [0u8; PACKET];
-    let length = packet_of(&mut packet, tokens, count);
-    serve_parts(
-        desk,
-        ordinary,
-        ordinary_rules,
-        trusted,
-        trusted_rules,
-        sent(&packet, length),
-        reply,
-    )
+fn answer(desk: &mut Desk, tokens: &Tokens, served: Served, before: &Store, after: &Store) {
+    if judging::begins(desk, tokens) {
+        judge(desk, tokens, served, before, after);
+    }
+    if judging::is_told(desk) {
+        explaining::packet(desk, tokens, served, after);
+        if spaces::tell_differences(desk, false, before, after) == 0 {
+            put(b"  no byte changed\n");
+        }
+    }
 }
 
-// The packet without the rest of its buffer.
-pub fn sent(packet: &[u8; PACKET], length: usize) -> &[u8] {
-    spaces::part(packet, 0, length)
-}
-
-// Each buffer is lent as far as the desk says.
-fn serve_parts(
-    desk: &Desk,
-    ordinary: &mut [u8],
-    ordinary_rules: &[u8],
-    trusted: &mut [u8],
-    trusted_rules: &[u8],
-    packet: &[u8],
-    reply: &mut [u8],
-) -> Served {
-    let first = spaces::within(desk[slots::ORDINARY_SIZE], ordinary);
-    let second = spaces::within(desk[slots::ORDINARY_RULES_SIZE], ordinary_rules);
-    let third = spaces::within(desk[slots::TRUSTED_SIZE], trusted);
-    let fourth = spaces::within(desk[slots::TRUSTED_RULES_SIZE], trusted_rules);
-    let room = spaces::within(desk[slots::ROOM], reply);
-    board::serve(
-        description_of(desk),
-        capture_of(desk),
-        &mut ordinary[..first],
-        &ordinary_rules[..second],
-        &mut trusted[..third],
-        &trusted_rules[..fourth],
-        packet,
-        &mut reply[..room],
-    )
-}
-
-// Says whether something was expected, and is so: the answer, and every byte as before, except those that are expected to be others.
-fn judge(
-    desk: &mut Desk,
-    tokens: &Tokens,
-    count: usize,
-    served: Served,
-    reply: &[u8; REPLY],
-    before: &Store,
-    after: &Store,
-) -> bool {
+// The answer, and every byte as before, except those that are expected to be others.
+fn judge(desk: &mut Desk, tokens: &Tokens, served: Served, before: &Store, after: &Store) {
     let mut wanted = [0u8; STORE];
-    let arrow = asked(tokens, count);
-    if count <= arrow {
-        return false;
-    }
-    judging::begin(desk);
-    judge_answer(desk, tokens, arrow, count, served, reply);
-    words::put(&mut wanted, 0, before);
-    spaces::put_behind(&mut wanted, tokens, arrow, count);
-    spaces::tell_differences(desk, true, after, &wanted);
-    judging::end(desk)
-}
-
-fn judge_answer(
-    desk: &mut Desk,
-    tokens: &Tokens,
-    arrow: usize,
-    count: usize,
-    served: Served,
-    reply: &[u8; REPLY],
-) {
     let answer = served.answer;
     let state = served.capture;
-    judge_number(desk, tokens, arrow, count, answer.number());
-    judge_reply(desk, tokens, arrow, count, served.length, reply);
-    judge_capture(desk, tokens, arrow, count, state);
-}
-
-pub fn judge_number(desk: &mut Desk, tokens: &Tokens, arrow: usize, count: usize, found: u8) {
-    let place = tokens::find(tokens, arrow, count, vocabulary::NUMBER);
-    judging::number(
-        desk,
-        found,
-        tokens::at(tokens, std::num::wrapping_add_usize(place, 1)),
-    );
+    words::put(&mut wanted, 0, before);
+    spaces::put_behind(&mut wanted, tokens, tokens::arrow(tokens), tokens[tokens::COUNT]);
+    judging::number(desk, tokens, answer.number());
+    judge_reply(desk, tokens, served.length, after, &wanted);
+    judge_capture(desk, tokens, capture_number(state));
+    spaces::tell_differences(desk, true, after, &wanted);
 }
 
 // The reply's bytes at the front of its buffer, and the rest untouched.
-fn judge_reply(
-    desk: &mut Desk,
-    tokens: &Tokens,
-    arrow: usize,
-    count: usize,
-    length: usize,
-    reply: &[u8; REPLY],
-) {
-    let mut wanted = [UNTOUCHED; REPLY];
-    let word = tokens::find(tokens, arrow, count, vocabulary::REPLY);
-    let from = std::num::wrapping_add_usize(word, 1);
-    let to = tokens::numbers_end(tokens, from, count);
-    gather(&mut wanted, tokens, from, to);
-    if judging::value(desk, b"reply's length ", length, tokens::between(from, to)) {
-        judge_bytes(desk, reply, &wanted);
+fn judge_reply(desk: &mut Desk, tokens: &Tokens, length: usize, after: &Store, wanted: &Store) {
+    let given = tokens::numbers_from(tokens, tokens::behind(tokens, vocabulary::REPLY));
+    if judging::value(desk, b"reply's length %v, expected %v\n", length, given) {
+        judging::bytes(
+            desk,
+            b"reply byte %v is %2, expected %2\n",
+            spaces::part(after, spaces::REPLY, REPLY),
+            spaces::part(wanted, spaces::REPLY, REPLY),
+        );
     }
-}
-
-fn judge_bytes(desk: &mut Desk, reply: &[u8; REPLY], wanted: &[u8; REPLY]) {
-    judging::bytes(desk, b"reply byte ", reply, wanted);
 }
 
 // The capture that is expected: the one that is told, or the one from before.
-fn judge_capture(desk: &mut Desk, tokens: &Tokens, arrow: usize, count: usize, found: Capture) {
-    let place = tokens::find(tokens, arrow, count, vocabulary::CAPTURED);
-    let kept = capture_of(desk);
-    if place < count {
-        compare_captures(desk, found, told_capture(tokens, place));
-    } else if tokens::find(tokens, arrow, count, vocabulary::FORGOTTEN) < count {
-        compare_captures(desk, found, Capture::Nothing);
-    } else {
-        compare_captures(desk, found, kept);
-    }
-}
-
-fn told_capture(tokens: &Tokens, place: usize) -> Capture {
-    Capture::Number {
-        bus: tokens::byte(tokens, std::num::wrapping_add_usize(place, 1)),
-        device: tokens::byte(tokens, std::num::wrapping_add_usize(place, 2)),
-    }
-}
-
-fn compare_captures(desk: &mut Desk, found: Capture, wanted: Capture) {
-    if as_number(found) != as_number(wanted) {
-        judging::begin_difference(desk, b"captured ");
+fn judge_capture(desk: &mut Desk, tokens: &Tokens, found: usize) {
+    let wanted = wanted_capture(desk, tokens);
+    if found != wanted {
+        judging::differ(desk, b"captured ", &[]);
         explaining::put_capture(found);
         put(b", expected ");
         explaining::put_capture(wanted);
@@ -283,61 +161,55 @@ fn compare_captures(desk: &mut Desk, found: Capture, wanted: Capture) {
     }
 }
 
-// Bus and device in one number, and one over all of them for none.
-fn as_number(capture: Capture) -> usize {
-    match capture {
-        Capture::Nothing => 0x10000,
-        Capture::Number { bus, device } => (bus as usize) << 8 | device as usize,
+fn wanted_capture(desk: &Desk, tokens: &Tokens) -> usize {
+    let place = tokens::behind(tokens, vocabulary::CAPTURED);
+    if tokens::is_said(tokens, place) {
+        return slots::capture(
+            tokens::at(tokens, place),
+            tokens::at(tokens, std::num::wrapping_add_usize(place, 1)),
+        );
+    }
+    if tokens::is_said(tokens, tokens::behind(tokens, vocabulary::FORGOTTEN)) {
+        slots::NOTHING
+    } else {
+        desk[slots::CAPTURED]
     }
 }
 
 // A reset is asked for.
-pub fn reset(desk: &mut Desk, tokens: &Tokens, count: usize) {
-    let found = board::reset(capture_of(desk));
-    let right = judge_reset(desk, tokens, count, found);
-    keep_capture(desk, found);
-    slots::lend_all(desk);
-    if !right {
+pub fn reset(desk: &mut Desk, tokens: &Tokens) {
+    let found = capture_number(board::reset(capture_of(desk)));
+    if judging::begins(desk, tokens) {
+        judge_capture(desk, tokens, found);
+    }
+    if judging::is_told(desk) {
         explaining::captured(found);
     }
-}
-
-fn judge_reset(desk: &mut Desk, tokens: &Tokens, count: usize, found: Capture) -> bool {
-    let arrow = asked(tokens, count);
-    if count <= arrow {
-        return false;
-    }
-    judging::begin(desk);
-    judge_capture(desk, tokens, arrow, count, found);
-    judging::end(desk)
+    desk[slots::CAPTURED] = found;
 }
 
 // A merge is asked for: four old bytes, four rules, four data bytes, the enables.
-pub fn merge(desk: &mut Desk, tokens: &Tokens, count: usize) {
+pub fn merge(desk: &mut Desk, tokens: &Tokens) {
     let found = registers::merge(
         four_at(tokens, 1),
         four_at(tokens, 5),
         four_at(tokens, 9),
         tokens::byte(tokens, 13),
     );
-    slots::lend_all(desk);
-    if !judge_merge(desk, tokens, count, found) {
-        explaining::merged(found);
+    if judging::begins(desk, tokens) {
+        judge_merge(desk, found, four_at(tokens, tokens::behind(tokens, vocabulary::BYTES)));
+    }
+    if judging::is_told(desk) {
+        explaining::put_part(b"  merged:", &found);
+        put(b"\n");
     }
 }
 
-fn judge_merge(desk: &mut Desk, tokens: &Tokens, count: usize, found: [u8; 4]) -> bool {
-    let arrow = asked(tokens, count);
-    if count <= arrow {
-        return false;
+fn judge_merge(desk: &mut Desk, found: [u8; 4], wanted: [u8; 4]) {
+    if words::word(&found, 0) != words::word(&wanted, 0) {
+        judging::differ(desk, b"bytes", &[]);
+        spaces::tell_both(true, found, wanted);
     }
-    judging::begin(desk);
-    judging::four(
-        desk,
-        found,
-        four_at(tokens, std::num::wrapping_add_usize(arrow, 2)),
-    );
-    judging::end(desk)
 }
 
 fn four_at(tokens: &Tokens, place: usize) -> [u8; 4] {

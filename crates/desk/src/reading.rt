@@ -2,11 +2,8 @@
 // is expected.
 use crate::explaining;
 use crate::judging;
-use crate::packets;
 use crate::saying::put;
-use crate::saying::put_bytes;
-use crate::saying::put_hex;
-use crate::slots;
+use crate::saying::say;
 use crate::slots::Desk;
 use crate::tokens;
 use crate::tokens::Tokens;
@@ -16,201 +13,126 @@ use records::DualRead;
 use records::DvsecHeader;
 use records::DvsecRead;
 
-// A record as it was found or is expected: its number, how many fields it has, and those.
-struct Record {
-    number: u8,
-    count: usize,
-    first: usize,
-    second: usize,
-    third: usize,
-    fourth: usize,
-}
-
-fn refused(number: u8) -> Record {
-    Record {
-        number,
-        count: 0,
-        first: 0,
-        second: 0,
-        third: 0,
-        fourth: 0,
-    }
-}
-
-fn header_record(header: DvsecHeader) -> Record {
-    Record {
-        number: 0,
-        count: 4,
-        first: header.vendor as usize,
-        second: header.revision as usize,
-        third: header.id as usize,
-        fourth: header.length as usize,
-    }
-}
-
-fn alternate_record(alternate: Alternate) -> Record {
-    Record {
-        number: 0,
-        count: 2,
-        first: alternate.function as usize,
-        second: alternate.device as usize,
-        third: 0,
-        fourth: 0,
-    }
-}
-
-fn dvsec_record(read: DvsecRead) -> Record {
-    match read {
-        DvsecRead::Refused(refusal) => refused(refusal.number()),
-        DvsecRead::Found(header) => header_record(header),
-    }
-}
-
-fn dual_record(read: DualRead) -> Record {
-    match read {
-        DualRead::Refused(refusal) => refused(refusal.number()),
-        DualRead::Found(alternate) => alternate_record(alternate),
-    }
-}
-
-pub fn ask_dvsec(desk: &mut Desk, tokens: &Tokens, count: usize, space: &[u8]) {
+pub fn ask_dvsec(desk: &mut Desk, tokens: &Tokens, space: &[u8]) {
     let at = tokens::at(tokens, 2);
-    let record = dvsec_record(records::dvsec(space, at));
     let body = records::dvsec_body(space, at);
-    slots::lend_all(desk);
-    if !judge_dvsec(desk, tokens, count, record, body) {
-        explaining::put_number(record.number);
-        tell_header(record, body);
+    match records::dvsec(space, at) {
+        DvsecRead::Refused(refusal) => answer(desk, tokens, refusal.number(), &[], body),
+        DvsecRead::Found(header) => header_found(desk, tokens, header, body),
     }
 }
 
-// Says whether something was expected, and is so.
-fn judge_dvsec(
-    desk: &mut Desk,
-    tokens: &Tokens,
-    count: usize,
-    record: Record,
-    body: &[u8],
-) -> bool {
-    let arrow = packets::asked(tokens, count);
-    if count <= arrow {
-        return false;
-    }
-    judging::begin(desk);
-    judge(desk, tokens, arrow, count, record, vocabulary::HEADER);
-    judge_body(desk, tokens, arrow, count, record, body);
-    judging::end(desk)
+fn header_found(desk: &mut Desk, tokens: &Tokens, header: DvsecHeader, body: &[u8]) {
+    answer(
+        desk,
+        tokens,
+        0,
+        &[
+            header.vendor as usize,
+            header.revision as usize,
+            header.id as usize,
+            header.length as usize,
+        ],
+        body,
+    );
 }
 
-pub fn ask_dual(desk: &mut Desk, tokens: &Tokens, count: usize, space: &[u8]) {
-    let record = dual_record(records::dual_bdf(space, tokens::at(tokens, 2)));
-    slots::lend_all(desk);
-    if !judge_dual(desk, tokens, count, record) {
-        explaining::put_number(record.number);
-        tell_alternate(record);
+pub fn ask_dual(desk: &mut Desk, tokens: &Tokens, space: &[u8]) {
+    match records::dual_bdf(space, tokens::at(tokens, 2)) {
+        DualRead::Refused(refusal) => answer(desk, tokens, refusal.number(), &[], b""),
+        DualRead::Found(alternate) => alternate_found(desk, tokens, alternate),
     }
 }
 
-fn judge_dual(desk: &mut Desk, tokens: &Tokens, count: usize, record: Record) -> bool {
-    let arrow = packets::asked(tokens, count);
-    if count <= arrow {
-        return false;
-    }
-    judging::begin(desk);
-    judge(desk, tokens, arrow, count, record, vocabulary::ALTERNATE);
-    judging::end(desk)
+fn alternate_found(desk: &mut Desk, tokens: &Tokens, alternate: Alternate) {
+    answer(
+        desk,
+        tokens,
+        0,
+        &[alternate.function as usize, alternate.device as usize],
+        b"",
+    );
 }
 
-fn tell_header(record: Record, body: &[u8]) {
-    if record.count == 0 {
+// A record as it was found, or a refusal, which has no fields and no body; a Dual-BDF record has no body either.
+fn answer(desk: &mut Desk, tokens: &Tokens, number: u8, fields: &[usize], body: &[u8]) {
+    if judging::begins(desk, tokens) {
+        judging::number(desk, tokens, number);
+        judge_fields(desk, tokens, fields);
+        judge_body(desk, tokens, fields.len(), body.len());
+    }
+    if judging::is_told(desk) {
+        explaining::put_number(number);
+        tell(fields, body);
+    }
+}
+
+fn tell(fields: &[usize], body: &[u8]) {
+    match fields.len() {
+        0 => {}
+        2 => say(b"  alternate: function %1 device %2\n", fields),
+        _ => {
+            say(b"  vendor %4 revision %1 ID %4 length %3\n", fields);
+            explaining::put_part(b"  body:", body);
+            put(b"\n");
+        }
+    }
+}
+
+// How many fields are told, and each of them. A question has one word for its fields.
+fn judge_fields(desk: &mut Desk, tokens: &Tokens, fields: &[usize]) {
+    let from = tokens::behind(tokens, fields_word(tokens::word(tokens, 0)));
+    let given = tokens::numbers_from(tokens, from);
+    if judging::value(desk, b"count of fields %v, expected %v\n", fields.len(), given) {
+        judge_each(desk, tokens, from, fields);
+    }
+}
+
+fn fields_word(question: usize) -> usize {
+    if question == vocabulary::DVSEC {
+        vocabulary::HEADER
+    } else {
+        vocabulary::ALTERNATE
+    }
+}
+
+fn judge_each(desk: &mut Desk, tokens: &Tokens, from: usize, fields: &[usize]) {
+    let mut at = 0;
+    while at < fields.len() {
+        judging::value(
+            desk,
+            b"field %v, expected %v\n",
+            fields[at],
+            tokens::at(tokens, std::num::wrapping_add_usize(from, at)),
+        );
+        at += 1;
+    }
+}
+
+// The body is so many bytes of the space, from an offset on: the two numbers. Without them it is empty, and its place is not told.
+fn judge_body(desk: &mut Desk, tokens: &Tokens, fields: usize, length: usize) {
+    let word = tokens::behind(tokens, vocabulary::BODY);
+    if !tokens::is_said(tokens, word) {
+        judging::value(desk, b"body's length %v, expected %v\n", length, 0);
         return;
     }
-    put(b"  vendor ");
-    put_hex(record.first, 4);
-    put(b" revision ");
-    put_hex(record.second, 1);
-    put(b" ID ");
-    put_hex(record.third, 4);
-    put(b" length ");
-    put_hex(record.fourth, 3);
-    put(b"\n  body:");
-    put_bytes(body);
-    put(b"\n");
-}
-
-fn tell_alternate(record: Record) {
-    if record.count == 0 {
-        return;
-    }
-    put(b"  alternate: function ");
-    put_hex(record.first, 1);
-    put(b" device ");
-    put_hex(record.second, 2);
-    put(b"\n");
-}
-
-// The number, how many fields are told, and each of them.
-fn judge(
-    desk: &mut Desk,
-    tokens: &Tokens,
-    arrow: usize,
-    count: usize,
-    record: Record,
-    clause: usize,
-) {
-    let from = std::num::wrapping_add_usize(tokens::find(tokens, arrow, count, clause), 1);
-    let given = tokens::between(from, tokens::numbers_end(tokens, from, count));
-    packets::judge_number(desk, tokens, arrow, count, record.number);
-    if judging::value(desk, b"count of fields ", record.count, given) {
-        judge_field(desk, tokens, from, 0, given, record.first);
-        judge_field(desk, tokens, from, 1, given, record.second);
-        judge_field(desk, tokens, from, 2, given, record.third);
-        judge_field(desk, tokens, from, 3, given, record.fourth);
-    }
-}
-
-fn judge_field(
-    desk: &mut Desk,
-    tokens: &Tokens,
-    from: usize,
-    place: usize,
-    given: usize,
-    found: usize,
-) {
-    if place < given {
-        let wanted = tokens::at(tokens, std::num::wrapping_add_usize(from, place));
-        judging::value(desk, b"field ", found, wanted);
-    }
-}
-
-// The body is so many bytes of the space, from an offset on: the two numbers. Without them it is empty.
-fn judge_body(
-    desk: &mut Desk,
-    tokens: &Tokens,
-    arrow: usize,
-    count: usize,
-    record: Record,
-    found: &[u8],
-) {
-    let word = tokens::find(tokens, arrow, count, vocabulary::BODY);
-    if count <= word {
-        judging::value(desk, b"body's length ", found.len(), 0);
-        return;
-    }
-    let start = tokens::at(tokens, std::num::wrapping_add_usize(word, 1));
-    let size = tokens::at(tokens, std::num::wrapping_add_usize(word, 2));
     judging::value(
         desk,
-        b"body's place ",
-        place_of_body(record, tokens::at(tokens, 2)),
-        start,
+        b"body's place %v, expected %v\n",
+        place_of_body(fields, tokens::at(tokens, 2)),
+        tokens::at(tokens, word),
     );
-    judging::value(desk, b"body's length ", found.len(), size);
+    judging::value(
+        desk,
+        b"body's length %v, expected %v\n",
+        length,
+        tokens::at(tokens, std::num::wrapping_add_usize(word, 1)),
+    );
 }
 
 // Where the body of a record lies, or 0 where there is no record.
-fn place_of_body(record: Record, at: usize) -> usize {
-    if record.count == 0 {
+fn place_of_body(fields: usize, at: usize) -> usize {
+    if fields == 0 {
         return 0;
     }
     std::num::wrapping_add_usize(at, records::BODY)

@@ -1,18 +1,61 @@
-// What the desk writes: bytes, numbers, names, always on standard output.
-use crate::slots;
-use crate::slots::Desk;
+// What the desk writes, always on standard output: texts, with numbers and bytes in them.
+use crate::input;
 use libc::STDOUT_FILENO;
 
 pub fn put(text: &[u8]) {
     io::write_all(STDOUT_FILENO, text);
 }
 
-pub fn put_decimal(number: usize) {
-    io::print_decimal(STDOUT_FILENO, number as u64);
+// Writes a text in which %1 to %4 stand for so many hexadecimal digits of the next number, %v for as many as it has, %d for the number in
+// decimal, and %e for four enables.
+pub fn say(text: &[u8], numbers: &[usize]) {
+    let mut at = 0;
+    let mut next = 0;
+    while at < text.len() {
+        let mark = input::place_of(text, at, text.len(), b'%');
+        put(input::between(text, at, mark));
+        if text.len() <= mark {
+            return;
+        }
+        at = mark + 1;
+        if text.len() <= at {
+            return;
+        }
+        put_number(text[at], number_at(numbers, next));
+        next = std::num::wrapping_add_usize(next, 1);
+        at += 1;
+    }
+}
+
+fn number_at(numbers: &[usize], place: usize) -> usize {
+    if place < numbers.len() {
+        numbers[place]
+    } else {
+        0
+    }
+}
+
+fn put_number(form: u8, number: usize) {
+    match form {
+        b'd' => {
+            io::print_decimal(STDOUT_FILENO, number as u64);
+        }
+        b'e' => put_enables(number),
+        b'v' => put_hex(number, digits_of(number)),
+        _ => put_hex(number, (form % 16) as usize),
+    }
+}
+
+// Four bits, byte 3's first.
+fn put_enables(number: usize) {
+    put_digit(number >> 3 & 1);
+    put_digit(number >> 2 & 1);
+    put_digit(number >> 1 & 1);
+    put_digit(number & 1);
 }
 
 // The last digits of a number, so many of them.
-pub fn put_hex(number: usize, digits: usize) {
+fn put_hex(number: usize, digits: usize) {
     match digits {
         1 => {}
         2 => put_digit(number >> 4),
@@ -29,11 +72,6 @@ pub fn put_hex(number: usize, digits: usize) {
     put_digit(number);
 }
 
-// A number of up to four digits, without zeros before it.
-pub fn put_value(number: usize) {
-    put_hex(number, digits_of(number));
-}
-
 fn digits_of(number: usize) -> usize {
     match number {
         0..=0xf => 1,
@@ -46,16 +84,6 @@ fn digits_of(number: usize) -> usize {
 fn put_digit(number: usize) {
     let digits = *b"0123456789ABCDEF";
     put(&[digits[number % 16]]);
-}
-
-pub fn put_byte(byte: u8) {
-    put_hex(byte as usize, 2);
-}
-
-pub fn put_line_number(desk: &Desk) {
-    put(b"line ");
-    put_decimal(desk[slots::LINE]);
-    put(b": ");
 }
 
 // Text that was read, so that no terminal takes it for more than text.
@@ -82,4 +110,8 @@ pub fn put_bytes(bytes: &[u8]) {
         put_byte(bytes[at]);
         at += 1;
     }
+}
+
+fn put_byte(byte: u8) {
+    put_hex(byte as usize, 2);
 }

@@ -5,8 +5,8 @@ use crate::faults;
 use crate::grammar;
 use crate::input;
 use crate::saying::put;
-use crate::saying::put_decimal;
 use crate::saying::put_plain;
+use crate::saying::say;
 use crate::slots;
 use crate::slots::Desk;
 use crate::slots::SLOTS;
@@ -24,9 +24,9 @@ fn take(desk: &mut Desk, line: &[u8], store: &mut Store) {
     let mut tokens = [0usize; WIDTH];
     slots::count(desk, slots::LINE);
     echo(desk, line);
-    let count = tokens::read(line, &mut tokens);
-    if is_understood(desk, line, &tokens, count) {
-        doing::perform(desk, &tokens, count, store);
+    tokens::read(line, &mut tokens);
+    if is_understood(desk, line, &tokens) {
+        doing::perform(desk, &tokens, store);
     }
 }
 
@@ -39,18 +39,24 @@ fn echo(desk: &Desk, line: &[u8]) {
 }
 
 // Whether a line says something, and all of it fits; where not, why.
-fn is_understood(desk: &mut Desk, line: &[u8], tokens: &Tokens, count: usize) -> bool {
+fn is_understood(desk: &mut Desk, line: &[u8], tokens: &Tokens) -> bool {
+    let count = tokens[tokens::COUNT];
     if input::has_return(line) {
         faults::tell_whole(desk, faults::RETURN);
-        return false;
-    }
-    if count == 0 {
         return false;
     }
     if MOST < count {
         faults::tell_whole(desk, faults::TOO_MANY_TOKENS);
         return false;
     }
+    if count == 0 {
+        return false;
+    }
+    fits(desk, line, tokens, count)
+}
+
+// Whether every token is where it may be.
+fn fits(desk: &mut Desk, line: &[u8], tokens: &Tokens, count: usize) -> bool {
     let fault = grammar::fault_of(tokens, count);
     if fault.what == faults::NONE {
         return true;
@@ -114,8 +120,10 @@ pub fn run(piece: &mut [u8; PIECE], store: &mut Store) {
     let mut rest = 0;
     let mut turns = u64::MAX;
     slots::begin(&mut desk);
+    slots::set(&mut desk, slots::PROMPT, input::is_typed());
     while turns > 0 {
         turns -= 1;
+        prompt(&desk, rest);
         let end = input::read_more(&mut desk, piece, rest);
         if end <= rest {
             break;
@@ -127,18 +135,27 @@ pub fn run(piece: &mut [u8; PIECE], store: &mut Store) {
     tell_end(&mut desk);
 }
 
+// Who types is asked for each line.
+fn prompt(desk: &Desk, rest: usize) {
+    if rest == 0 {
+        if desk[slots::PROMPT] != 0 {
+            put(b"> ");
+        }
+    }
+}
+
 fn tell_end(desk: &mut Desk) {
+    if desk[slots::PROMPT] != 0 {
+        put(b"\n");
+    }
     if desk[slots::UNREAD] != 0 {
         faults::tell_whole(desk, faults::UNREAD);
     }
     if desk[slots::SHEET] != 0 {
         faults::tell_whole(desk, faults::NO_END);
     }
-    put(b"checks ");
-    put_decimal(desk[slots::CHECKS]);
-    put(b", as expected ");
-    put_decimal(desk[slots::RIGHT]);
-    put(b", lines not understood ");
-    put_decimal(desk[slots::FAULTS]);
-    put(b"\n");
+    say(
+        b"checks %d, as expected %d, lines not understood %d\n",
+        &[desk[slots::CHECKS], desk[slots::RIGHT], desk[slots::FAULTS]],
+    );
 }

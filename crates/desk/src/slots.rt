@@ -1,5 +1,5 @@
 // What the desk keeps in numbers from line to line, each at a place of its own.
-pub const SLOTS: usize = 24;
+pub const SLOTS: usize = 19;
 
 // The line's number; how many statements had an expectation, and how many of them were right; how many lines were not understood.
 pub const LINE: usize = 0;
@@ -18,7 +18,7 @@ pub const SHEET: usize = 5;
 
 pub const ECHO: usize = 6;
 
-// The board: its function number, A and B, and the capture (1 if there is one, its bus and device).
+// The board: its function number, A and B, and the capture, bus and device in one number.
 pub const FUNCTION: usize = 7;
 
 pub const A: usize = 8;
@@ -27,26 +27,28 @@ pub const B: usize = 9;
 
 pub const CAPTURED: usize = 10;
 
-pub const BUS: usize = 11;
-
-pub const DEVICE: usize = 12;
-
 // What is lent to the next question: so much of each of the four buffers, and of the reply or the list room.
-pub const ORDINARY_SIZE: usize = 13;
+pub const ORDINARY_SIZE: usize = 11;
 
-pub const ORDINARY_RULES_SIZE: usize = 14;
+pub const ORDINARY_RULES_SIZE: usize = 12;
 
-pub const TRUSTED_SIZE: usize = 15;
+pub const TRUSTED_SIZE: usize = 13;
 
-pub const TRUSTED_RULES_SIZE: usize = 16;
+pub const TRUSTED_RULES_SIZE: usize = 14;
 
-pub const ROOM: usize = 17;
+pub const ROOM: usize = 15;
 
 // The rest of a line that is too long is being read past.
-pub const SKIPPING: usize = 18;
+pub const SKIPPING: usize = 16;
 
 // The input could not be read to its end.
-pub const UNREAD: usize = 19;
+pub const UNREAD: usize = 17;
+
+// Somebody types, and is asked for each line.
+pub const PROMPT: usize = 18;
+
+// The capture while there is none: over every bus and device.
+pub const NOTHING: usize = 0x10000;
 
 // All of a reply's buffer, and of a list's.
 const WHOLE: usize = 0xffff;
@@ -70,14 +72,13 @@ pub fn begin(desk: &mut Desk) {
     desk[FUNCTION] = 0;
     desk[A] = 0x104;
     desk[B] = 0x00c;
-    desk[CAPTURED] = 0;
+    desk[CAPTURED] = NOTHING;
     lend_all(desk);
 }
 
-pub fn capture(desk: &mut Desk, bus: usize, device: usize) {
-    desk[CAPTURED] = 1;
-    desk[BUS] = bus;
-    desk[DEVICE] = device;
+// Bus and device in one number.
+pub fn capture(bus: usize, device: usize) -> usize {
+    bus << 8 | device
 }
 
 // The next question is lent so much of each buffer.

@@ -1,10 +1,9 @@
-// The board's four buffers at the desk, one behind the other in one store: the ordinary bytes and rules, the trusted bytes and rules. They
-// are filled, put and shown by hand, and held against what they should be.
+// The store: the board's four buffers at the desk one behind the other, then the packet that it is sent and the reply. They are filled,
+// put and shown by hand, and held against what they should be.
 use crate::judging;
 use crate::saying::put;
-use crate::saying::put_byte;
 use crate::saying::put_bytes;
-use crate::saying::put_hex;
+use crate::saying::say;
 use crate::slots::Desk;
 use crate::tokens;
 use crate::tokens::Tokens;
@@ -12,14 +11,10 @@ use crate::vocabulary;
 ghost use Prim.Native.Nat.{_≤_};
 ghost use Rattle.io.specs.Counts.{Counts};
 
-// The bytes of each buffer: a few more than a space has, so that one of another size can be lent.
+// The bytes of each of the four: a few more than a space has, so that one of another size can be lent.
 pub const LONG: usize = 4100;
 
-pub const STORE: usize = 16400;
-
 pub type Buffer = [u8; LONG];
-
-pub type Store = [u8; STORE];
 
 pub const ORDINARY: usize = 0;
 
@@ -29,6 +24,17 @@ pub const TRUSTED: usize = 8200;
 
 pub const TRUSTED_RULES: usize = 12300;
 
+// Where the four end: here the packet begins, of up to 64 bytes, and behind it the reply's buffer.
+pub const BOARD_END: usize = 16400;
+
+pub const PACKET: usize = 16400;
+
+pub const REPLY: usize = 16464;
+
+pub const STORE: usize = 16484;
+
+pub type Store = [u8; STORE];
+
 // Where a buffer begins, or the end of the store for a word that names none.
 pub fn base_of(word: usize) -> usize {
     match word {
@@ -36,6 +42,15 @@ pub fn base_of(word: usize) -> usize {
         vocabulary::ORDINARY_RULES => ORDINARY_RULES,
         vocabulary::TRUSTED => TRUSTED,
         vocabulary::TRUSTED_RULES => TRUSTED_RULES,
+        _ => STORE,
+    }
+}
+
+// Where the bytes behind a word go that has no offset before them, or the end of the store.
+fn start_of(word: usize) -> usize {
+    match word {
+        vocabulary::PACKET => PACKET,
+        vocabulary::REPLY => REPLY,
         _ => STORE,
     }
 }
@@ -63,8 +78,10 @@ pub fn part(store: &[u8], base: usize, size: usize) -> &[u8] {
 }
 
 // A buffer of the store, and back.
-pub fn take_out(buffer: &mut Buffer, store: &Store, base: usize) {
-    words::put(buffer, 0, part(store, base, LONG));
+pub fn copy_of(store: &Store, base: usize) -> Buffer {
+    let mut buffer = [0; LONG];
+    words::put(&mut buffer, 0, part(store, base, LONG));
+    buffer
 }
 
 pub fn put_back(store: &mut Store, base: usize, buffer: &Buffer) {
@@ -80,7 +97,7 @@ pub fn put_behind(store: &mut Store, tokens: &Tokens, from: usize, to: usize) {
         let word = tokens::word(tokens, place);
         if word != vocabulary::NUMERAL {
             base = base_of(word);
-            at = STORE;
+            at = start_of(word);
         } else if at == STORE {
             at = std::num::wrapping_add_usize(base, tokens::at(tokens, place));
         } else {
@@ -101,12 +118,12 @@ pub fn byte_of(bytes: &[u8], at: usize) -> u8 {
     if at < bytes.len() { bytes[at] } else { 0 }
 }
 
-// The first place from `from` on where two stores differ, or STORE where they do not.
+// The first place of the board from `from` on where two stores differ, or the board's end where they do not.
 fn next_difference(one: &Store, other: &Store, from: usize) -> usize
     ensures { λ r. ⌜ from ≤ r ⌝ }
 {
     let mut at = from;
-    while at < STORE {
+    while at < BOARD_END {
         if one[at] != other[at] {
             return at;
         }
@@ -115,13 +132,13 @@ fn next_difference(one: &Store, other: &Store, from: usize) -> usize
     at
 }
 
-// Tells every word in which two stores differ: as it was and as it is, or as it is and as it should be. Answers how many there are.
+// Tells every word in which two boards differ: as it was and as it is, or as it is and as it should be. Answers how many there are.
 pub fn tell_differences(desk: &mut Desk, judging: bool, one: &Store, other: &Store) -> usize {
     let mut at = 0;
     let mut told = 0;
-    while at < STORE {
+    while at < BOARD_END {
         let place = next_difference(one, other, at);
-        if STORE <= place {
+        if BOARD_END <= place {
             return told;
         }
         let word = place - place % 4;
@@ -136,20 +153,19 @@ pub fn tell_differences(desk: &mut Desk, judging: bool, one: &Store, other: &Sto
 // No rule ever changes.
 fn tell_word(desk: &mut Desk, judging: bool, word: usize) {
     if judging {
-        judging::begin_difference(desk, b"");
+        judging::differ(desk, b"", &[]);
     } else {
         put(b"  ");
     }
     if word < TRUSTED {
-        put(b"ordinary ");
+        say(b"ordinary %3:", &[word]);
     } else {
-        put(b"trusted ");
+        say(b"trusted %3:", &[word - TRUSTED]);
     }
-    put_hex(word % LONG, 3);
-    put(b":");
 }
 
-fn tell_both(judging: bool, one: [u8; 4], other: [u8; 4]) {
+// Four bytes as they were or are, and as they are or should be.
+pub fn tell_both(judging: bool, one: [u8; 4], other: [u8; 4]) {
     put_bytes(&one);
     if judging {
         put(b", expected");
@@ -162,26 +178,20 @@ fn tell_both(judging: bool, one: [u8; 4], other: [u8; 4]) {
 
 // Shows so many bytes of a buffer from an offset on, sixteen to a line.
 pub fn show(store: &Store, base: usize, from: usize, count: usize) {
-    let mut done = 0;
-    while done < count {
-        let offset = std::num::wrapping_add_usize(from, done);
-        begin_line(done, offset);
-        put(b" ");
-        put_byte(byte_of(store, std::num::wrapping_add_usize(base, offset)));
-        done += 1;
+    let mut offset = from;
+    let mut left = count;
+    while 16 < left {
+        show_line(store, base, offset, 16);
+        offset = std::num::wrapping_add_usize(offset, 16);
+        left -= 16;
     }
-    if count != 0 {
-        put(b"\n");
+    if left != 0 {
+        show_line(store, base, offset, left);
     }
 }
 
-fn begin_line(done: usize, offset: usize) {
-    if done % 16 != 0 {
-        return;
-    }
-    if done != 0 {
-        put(b"\n");
-    }
-    put_hex(offset, 3);
-    put(b":");
+fn show_line(store: &Store, base: usize, offset: usize, count: usize) {
+    say(b"%3:", &[offset]);
+    put_bytes(part(store, std::num::wrapping_add_usize(base, offset), count));
+    put(b"\n");
 }

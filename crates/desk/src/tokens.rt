@@ -10,41 +10,43 @@ pub const MOST: usize = 128;
 // The most digits of a number.
 const DIGITS: usize = 16;
 
-// What `read` answers for a line that has.
+// The count of a line that has.
 pub const TOO_MANY: usize = 129;
 
-// The word of each token, then the value of each that is a number, then where each begins in its line.
-pub const WIDTH: usize = 384;
+// The word of each token, then the value of each that is a number, then where each begins in its line, then how many there are.
+pub const WIDTH: usize = 385;
+
+pub const COUNT: usize = 384;
 
 pub type Tokens = [usize; WIDTH];
 
-// The tokens of a line, and how many there are.
-pub fn read(line: &[u8], tokens: &mut Tokens) -> usize {
+// The tokens of a line, behind those that are there.
+pub fn read(line: &[u8], tokens: &mut Tokens) {
     let mut at = 0;
-    let mut count = 0;
     while at < line.len() {
         let end = end_of(line, at);
         if line[at] == b'#' {
-            return count;
+            return;
         }
-        count = add(tokens, count, &line[at..end], at);
+        add(tokens, &line[at..end], at);
         at = end;
     }
-    count
 }
 
 // One token more, unless it is a blank; TOO_MANY where there is no place for it.
-fn add(tokens: &mut Tokens, count: usize, text: &[u8], begin: usize) -> usize {
+fn add(tokens: &mut Tokens, text: &[u8], begin: usize) {
+    let count = tokens[COUNT];
     if is_blank(first_of(text)) {
-        return count;
+        return;
     }
     if MOST <= count {
-        return TOO_MANY;
+        tokens[COUNT] = TOO_MANY;
+        return;
     }
     tokens[count] = token_of(text, count);
     tokens[MOST + count] = number_of(text);
     tokens[2 * MOST + count] = begin;
-    count + 1
+    tokens[COUNT] = count + 1;
 }
 
 fn first_of(text: &[u8]) -> u8 {
@@ -176,19 +178,37 @@ pub fn find(tokens: &Tokens, from: usize, to: usize, wanted: usize) -> usize {
     to
 }
 
-// Where the numbers that begin at a place end.
-pub fn numbers_end(tokens: &Tokens, from: usize, to: usize) -> usize {
-    let mut place = from;
-    while place < to {
-        if word(tokens, place) != vocabulary::NUMERAL {
-            return place;
-        }
-        place += 1;
-    }
-    place
+// Where the expectation begins, or the count where there is none.
+pub fn arrow(tokens: &Tokens) -> usize {
+    find(tokens, 0, tokens[COUNT], vocabulary::ARROW)
 }
 
-// How many tokens stand between two places.
-pub fn between(from: usize, to: usize) -> usize {
-    if to < from { 0 } else { to - from }
+// The place behind a word of the expectation; past the count where that does not have this word.
+pub fn behind(tokens: &Tokens, word: usize) -> usize {
+    let place = find(tokens, arrow(tokens), tokens[COUNT], word);
+    std::num::wrapping_add_usize(place, 1)
+}
+
+// Whether a place is behind a word that was found.
+pub fn is_said(tokens: &Tokens, behind: usize) -> bool {
+    behind <= tokens[COUNT]
+}
+
+// How many numbers stand from a place on.
+pub fn numbers_from(tokens: &Tokens, from: usize) -> usize {
+    let mut given = 0;
+    while given < MOST {
+        if !is_number_at(tokens, std::num::wrapping_add_usize(from, given)) {
+            return given;
+        }
+        given += 1;
+    }
+    given
+}
+
+fn is_number_at(tokens: &Tokens, place: usize) -> bool {
+    if tokens[COUNT] <= place {
+        return false;
+    }
+    word(tokens, place) == vocabulary::NUMERAL
 }

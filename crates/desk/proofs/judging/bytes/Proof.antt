@@ -6,28 +6,25 @@ use Rattle.desk.proofs.judging.bytes.Statement.{statement}
 use Rattle.desk.proofs.judging.bytes.Tie as tie
 
 abbrev Inv-loop : tie.InvT-loop
-Inv-loop desk₀ what found wanted at₀ desk at = Unit {0}
+Inv-loop desk₀ text found wanted at₀ desk at = Unit {0}
 
 abbrev μ-loop : tie.MeasureT-loop
-μ-loop desk₀ what found wanted at₀ desk at = length found - at
+μ-loop desk₀ text found wanted at₀ desk at = length found - at
 
 loop-holds : tie.Need-loop-holds Inv-loop μ-loop
 loop-holds c = search needs
 
-shared-slice-read-is : tie.Need-shared-slice-read-is Inv-loop μ-loop
-shared-slice-read-is c = search needs
-
 byte-of-requires : tie.Need-byte-of-requires Inv-loop μ-loop
 byte-of-requires c κs = search needs
 
-wide-requires : tie.Need-wide-requires Inv-loop μ-loop
-wide-requires c κs = search needs
+shared-slice-read-if1 : tie.Need-shared-slice-read-if1 Inv-loop μ-loop
+shared-slice-read-if1 c = search needs
 
-wide-requires-2 : tie.Need-wide-requires-2 Inv-loop μ-loop
-wide-requires-2 c κs = search needs
+shared-slice-read-differ-at : tie.Need-shared-slice-read-differ-at Inv-loop μ-loop
+shared-slice-read-differ-at c = search needs
 
-entry-requires : tie.Need-entry-requires Inv-loop μ-loop
-entry-requires c κs = search needs
+differ-at-requires : tie.Need-differ-at-requires Inv-loop μ-loop
+differ-at-requires c κs = search needs
 
 returns : tie.Need-returns Inv-loop μ-loop
 returns c = search needs
@@ -51,11 +48,10 @@ bytes-spec =
     Inv-loop
     μ-loop
     loop-holds
-    shared-slice-read-is
     byte-of-requires
-    wide-requires
-    wide-requires-2
-    entry-requires
+    shared-slice-read-if1
+    shared-slice-read-differ-at
+    differ-at-requires
     returns
     add-at
     loop-less

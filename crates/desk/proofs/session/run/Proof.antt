@@ -12,11 +12,20 @@ abbrev μ-loop : tie.MeasureT-loop
 begin-requires : tie.Need-begin-requires Inv-loop μ-loop
 begin-requires c κs = search needs
 
+is-typed-requires : tie.Need-is-typed-requires Inv-loop μ-loop
+is-typed-requires c κs = search needs
+
+set-requires : tie.Need-set-requires Inv-loop μ-loop
+set-requires c κs = search needs
+
 loop-holds : tie.Need-loop-holds Inv-loop μ-loop
 loop-holds c = search needs
 
 sub-turns : tie.Need-sub-turns Inv-loop μ-loop
 sub-turns c = search needs
+
+prompt-requires : tie.Need-prompt-requires Inv-loop μ-loop
+prompt-requires c κs = search needs
 
 read-more-requires : tie.Need-read-more-requires Inv-loop μ-loop
 read-more-requires c κs = search needs
@@ -52,8 +61,11 @@ run-spec =
     Inv-loop
     μ-loop
     begin-requires
+    is-typed-requires
+    set-requires
     loop-holds
     sub-turns
+    prompt-requires
     read-more-requires
     take-lines-requires
     keep-rest-requires

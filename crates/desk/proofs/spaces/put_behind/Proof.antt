@@ -19,6 +19,9 @@ word-requires c κs = search needs
 base-of-requires : tie.Need-base-of-requires Inv-loop μ-loop
 base-of-requires c κs = search needs
 
+start-of-requires : tie.Need-start-of-requires Inv-loop μ-loop
+start-of-requires c κs = search needs
+
 at-requires : tie.Need-at-requires Inv-loop μ-loop
 at-requires c κs = search needs
 
@@ -55,6 +58,7 @@ put-behind-spec =
     loop-holds
     word-requires
     base-of-requires
+    start-of-requires
     at-requires
     wrapping-add-usize-requires
     byte-requires

@@ -1,15 +1,15 @@
 -- `desk::tokens::read` is safe and ends. Assumes nothing.
 use borrow.Author.Needs.{needs}
-use Prim.Native.Nat.{_-_, _≤_}
+use Prim.Native.Nat.{_-_}
 use lib.ListN.{length}
 use Rattle.desk.proofs.tokens.read.Statement.{statement}
 use Rattle.desk.proofs.tokens.read.Tie as tie
 
 abbrev Inv-loop : tie.InvT-loop
-Inv-loop line tokens₀ at₀ count₀ tokens at count = at ≤ length line
+Inv-loop line tokens₀ at₀ tokens at = Unit {0}
 
 abbrev μ-loop : tie.MeasureT-loop
-μ-loop line tokens₀ at₀ count₀ tokens at count = length line - at
+μ-loop line tokens₀ at₀ tokens at = length line - at
 
 loop-holds : tie.Need-loop-holds Inv-loop μ-loop
 loop-holds c = search needs

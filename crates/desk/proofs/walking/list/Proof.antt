@@ -5,22 +5,22 @@ use Rattle.desk.proofs.walking.list.Statement.{statement}
 use Rattle.desk.proofs.walking.list.Tie as tie
 
 abbrev Inv-loop : tie.InvT-loop
-Inv-loop room₀ tokens arrow count word from to place₀ entry₀ room place entry = Unit {0}
+Inv-loop room₀ tokens from count entry₀ room entry = Unit {0}
 
 abbrev μ-loop : tie.MeasureT-loop
-μ-loop room₀ tokens arrow count word from to place₀ entry₀ room place entry = to - place
+μ-loop room₀ tokens from count entry₀ room entry = count - entry
 
-find-requires : tie.Need-find-requires Inv-loop μ-loop
-find-requires c κs = search needs
+behind-requires : tie.Need-behind-requires Inv-loop μ-loop
+behind-requires c κs = search needs
 
-wrapping-add-usize-requires : tie.Need-wrapping-add-usize-requires Inv-loop μ-loop
-wrapping-add-usize-requires c κs = search needs
-
-numbers-end-requires : tie.Need-numbers-end-requires Inv-loop μ-loop
-numbers-end-requires c κs = search needs
+numbers-from-requires : tie.Need-numbers-from-requires Inv-loop μ-loop
+numbers-from-requires c κs = search needs
 
 loop-holds : tie.Need-loop-holds Inv-loop μ-loop
 loop-holds c = search needs
+
+wrapping-add-usize-requires : tie.Need-wrapping-add-usize-requires Inv-loop μ-loop
+wrapping-add-usize-requires c κs = search needs
 
 at-requires : tie.Need-at-requires Inv-loop μ-loop
 at-requires c κs = search needs
@@ -28,11 +28,8 @@ at-requires c κs = search needs
 enter-requires : tie.Need-enter-requires Inv-loop μ-loop
 enter-requires c κs = search needs
 
-wrapping-add-usize-requires-2 : tie.Need-wrapping-add-usize-requires-2 Inv-loop μ-loop
-wrapping-add-usize-requires-2 c κs = search needs
-
-add-place : tie.Need-add-place Inv-loop μ-loop
-add-place c = search needs
+add-entry : tie.Need-add-entry Inv-loop μ-loop
+add-entry c = search needs
 
 loop-less : tie.Need-loop-less Inv-loop μ-loop
 loop-less c = search needs
@@ -49,14 +46,13 @@ list-spec =
     (tie.spec
     Inv-loop
     μ-loop
-    find-requires
-    wrapping-add-usize-requires
-    numbers-end-requires
+    behind-requires
+    numbers-from-requires
     loop-holds
+    wrapping-add-usize-requires
     at-requires
     enter-requires
-    wrapping-add-usize-requires-2
-    add-place
+    add-entry
     loop-less
     loop-again
     returns)

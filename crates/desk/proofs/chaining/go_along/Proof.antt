@@ -1,8 +1,8 @@
--- `desk::walking::go_along` is safe and ends. Assumes nothing.
+-- `desk::chaining::go_along` is safe and ends. Assumes nothing.
 use borrow.Author.Needs.{needs}
 use Prim.Native.Nat.{_-_}
-use Rattle.desk.proofs.walking.go_along.Statement.{statement}
-use Rattle.desk.proofs.walking.go_along.Tie as tie
+use Rattle.desk.proofs.chaining.go_along.Statement.{statement}
+use Rattle.desk.proofs.chaining.go_along.Tie as tie
 
 abbrev Inv-loop : tie.InvT-loop
 Inv-loop store₀ tokens putting kind headers by at₀ done₀ store at done = Unit {0}
