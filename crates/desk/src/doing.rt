@@ -4,7 +4,6 @@ use crate::faults;
 use crate::helping;
 use crate::packets;
 use crate::reading;
-use crate::saying::put;
 use crate::slots;
 use crate::slots::Desk;
 use crate::spaces;
@@ -14,6 +13,8 @@ use crate::tokens;
 use crate::tokens::Tokens;
 use crate::vocabulary;
 use crate::walking;
+use crate::wording;
+use crate::wording::say;
 
 // The bytes that stand in a fresh board's spaces.
 const ORDINARY: u8 = 0x51;
@@ -25,7 +26,7 @@ pub fn perform(desk: &mut Desk, tokens: &Tokens, store: &mut Store) {
     match word {
         vocabulary::FRESH..=vocabulary::BLANK => begin_board(desk, store, word),
         vocabulary::ORDINARY..=vocabulary::TRUSTED_RULES => {
-            spaces::put_behind(store, tokens, 0, tokens[tokens::COUNT]);
+            spaces::put_behind(store, tokens, 0, tokens::count(tokens));
             done();
         }
         vocabulary::CHAIN => put_chain(desk, tokens, store),
@@ -61,7 +62,7 @@ fn ask(desk: &mut Desk, tokens: &Tokens, store: &mut Store) {
 }
 
 fn done() {
-    put(b"ok\n");
+    say(wording::DONE);
 }
 
 fn fill(store: &mut Store, word: usize) {
@@ -91,12 +92,10 @@ fn show(tokens: &Tokens, store: &Store) {
 
 // A question about one space, lent as far as the desk says: the trusted one where that is named, else the ordinary one.
 fn ask_of_space(desk: &mut Desk, tokens: &Tokens, store: &Store) {
-    let ordinary = desk[slots::ORDINARY_SIZE];
-    let trusted = desk[slots::TRUSTED_SIZE];
     if tokens::word(tokens, 1) == vocabulary::TRUSTED {
-        ask_of(desk, tokens, spaces::part(store, spaces::TRUSTED, trusted));
+        ask_of(desk, tokens, spaces::lent(desk, store, spaces::TRUSTED));
     } else {
-        ask_of(desk, tokens, spaces::part(store, spaces::ORDINARY, ordinary));
+        ask_of(desk, tokens, spaces::lent(desk, store, spaces::ORDINARY));
     }
 }
 
@@ -150,17 +149,16 @@ fn slot_of(word: usize) -> usize {
 }
 
 fn begin_sheet(desk: &mut Desk) {
-    let line = desk[slots::LINE];
-    if desk[slots::SHEET] != 0 {
+    if slots::at(desk, slots::SHEET) != 0 {
         faults::tell_whole(desk, faults::SHEET_AGAIN);
         return;
     }
-    slots::set(desk, slots::SHEET, line);
+    slots::set(desk, slots::SHEET, slots::at(desk, slots::LINE));
     done();
 }
 
 fn end_sheet(desk: &mut Desk) {
-    if desk[slots::SHEET] == 0 {
+    if slots::at(desk, slots::SHEET) == 0 {
         faults::tell_whole(desk, faults::NO_SHEET);
         return;
     }

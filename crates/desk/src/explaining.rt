@@ -1,8 +1,6 @@
 // What an answer means, in words: the number, what was asked, what the completion says, what is captured.
 use crate::packets;
 use crate::saying::put;
-use crate::saying::put_bytes;
-use crate::saying::say;
 use crate::slots;
 use crate::slots::Desk;
 use crate::spaces;
@@ -10,6 +8,12 @@ use crate::spaces::REPLY;
 use crate::spaces::Store;
 use crate::texts;
 use crate::tokens::Tokens;
+use crate::wording;
+use crate::wording::say;
+use crate::wording::say_all;
+use crate::wording::say_one;
+use crate::wording::say_three;
+use crate::wording::say_two;
 use board::Served;
 use packet::Decoded;
 use packet::Request;
@@ -18,13 +22,13 @@ use reasons::Cause;
 
 // An answer number and what it means.
 pub fn put_number(number: u8) {
-    say(b"number %d: ", &[number as usize]);
+    say_one(wording::NUMBER, number as usize);
     put_meaning(number as usize);
-    put(b"\n");
+    say(wording::END);
 }
 
 fn put_meaning(number: usize) {
-    texts::put_entry(
+    put(texts::entry(
         b"answered
 badly described: a space of another size than 1000, or a number or an offset out of range
 no room: the reply's buffer or the list room is too small
@@ -38,7 +42,7 @@ the structure's length is wrong, or it does not fit
 its function vector has not exactly one bit
 ",
         number,
-    );
+    ));
 }
 
 // A packet that was served: the number, what it asked for as the board read it, what the completion says of it, what is captured.
@@ -72,132 +76,132 @@ fn cause_of(desk: &Desk, asked: Request) -> Cause {
 
 fn put_request(asked: Request, packet: &[u8]) {
     let requester = asked.requester;
-    put(b"  asks: ");
-    put_target(asked);
+    say(wording::ASKS);
     put_kind(asked);
     put_place(asked);
     put_data(asked, packet);
-    say(
-        b", requester %2 %2 tag %2\n",
-        &[
-            requester.high as usize,
-            requester.low as usize,
-            asked.tag as usize,
-        ],
+    say_three(
+        wording::SENDER,
+        requester.high as usize,
+        requester.low as usize,
+        asked.tag as usize,
     );
 }
 
-fn put_target(asked: Request) {
+fn put_kind(asked: Request) {
+    put(texts::entry(
+        b"Type 0 read
+Type 0 poisoned read
+Type 0 write
+Type 0 poisoned write
+Type 1 read
+Type 1 poisoned read
+Type 1 write
+Type 1 poisoned write
+trusted read
+trusted poisoned read
+trusted write
+trusted poisoned write
+",
+        std::num::wrapping_add_usize(target_number(asked), kind_number(asked)),
+    ));
+}
+
+fn target_number(asked: Request) -> usize {
     let target = asked.target;
     match target {
-        Target::Type0 => put(b"Type 0 "),
-        Target::Type1 => put(b"Type 1 "),
-        Target::Trusted => put(b"trusted "),
+        Target::Type0 => 0,
+        Target::Type1 => 4,
+        Target::Trusted => 8,
     }
 }
 
-fn put_kind(asked: Request) {
+fn kind_number(asked: Request) -> usize {
     let writes = asked.writes;
     let poisoned = asked.poisoned;
-    if poisoned {
-        put(b"poisoned ");
-    }
     if writes {
-        put(b"write");
-    } else {
-        put(b"read");
+        return if poisoned { 3 } else { 2 };
     }
+    if poisoned { 1 } else { 0 }
 }
 
 fn put_place(asked: Request) {
-    say(
-        b", bus %2 device %2 function %1, offset %3, enables %e",
-        &[
-            asked.bus as usize,
-            asked.device as usize,
-            asked.function as usize,
-            asked.offset,
-            asked.enables as usize,
-        ],
+    say_all(
+        wording::PLACE,
+        asked.bus as usize,
+        asked.device as usize,
+        asked.function as usize,
+        asked.offset,
+        asked.enables as usize,
     );
 }
 
 fn put_data(asked: Request, packet: &[u8]) {
     let writes = asked.writes;
     if writes {
-        put_part(b", data", spaces::part(packet, 12, 4));
+        spaces::tell_part(wording::DATA, packet, 12, 4);
     }
-}
-
-// Bytes behind a text.
-pub fn put_part(text: &[u8], bytes: &[u8]) {
-    put(text);
-    put_bytes(bytes);
 }
 
 // The completion as it is and taken apart from its bytes; why it is unsupported, from the request.
 fn put_reply(cause: Cause, length: usize, store: &[u8]) {
-    put_part(b"  reply:", spaces::part(store, REPLY, length));
-    put(b"\n  says: ");
+    spaces::tell_part(wording::REPLY, store, REPLY, length);
+    say(wording::SAYS);
     put_status(spaces::byte_of(store, REPLY + 6), cause);
-    put_part(b"; completer", spaces::part(store, REPLY + 4, 2));
-    put_part(b", requester", spaces::part(store, REPLY + 8, 2));
-    put_part(b" tag", spaces::part(store, REPLY + 10, 1));
+    spaces::tell_part(wording::COMPLETER, store, REPLY + 4, 2);
+    spaces::tell_part(wording::REQUESTER, store, REPLY + 8, 2);
+    spaces::tell_part(wording::TAG, store, REPLY + 10, 1);
     put_read(store);
-    put(b"\n");
-}
-
-fn put_status(status: u8, cause: Cause) {
-    if status == 0 {
-        put(b"successful");
-        return;
-    }
-    put(b"unsupported request (UR): ");
-    put_cause(cause);
+    say(wording::END);
 }
 
 // The data of a completion that has some.
 fn put_read(store: &[u8]) {
     if spaces::byte_of(store, REPLY) == 0x4a {
-        put_part(b", data", spaces::part(store, REPLY + 12, 4));
+        spaces::tell_part(wording::DATA, store, REPLY + 12, 4);
     }
 }
 
-fn put_cause(cause: Cause) {
-    texts::put_entry(
-        b"none
-a Type 1 request
-a Type 0 request for another function
-a trusted request while nothing is captured
-a trusted request that does not name the captured bus and device and the board's function
-a poisoned write
+fn put_status(status: u8, cause: Cause) {
+    put(texts::entry(
+        b"successful
+unsupported request (UR): none
+unsupported request (UR): a Type 1 request
+unsupported request (UR): a Type 0 request for another function
+unsupported request (UR): a trusted request while nothing is captured
+unsupported request (UR): a trusted request that does not name the captured bus and device and the board's function
+unsupported request (UR): a poisoned write
 ",
-        cause_number(cause),
-    );
+        status_number(status, cause),
+    ));
 }
 
-fn cause_number(cause: Cause) -> usize {
+fn status_number(status: u8, cause: Cause) -> usize {
+    if status == 0 {
+        return 0;
+    }
     match cause {
-        Cause::Supported => 0,
-        Cause::Type1 => 1,
-        Cause::OtherFunction => 2,
-        Cause::NothingCaptured => 3,
-        Cause::OtherAddress => 4,
-        Cause::PoisonedWrite => 5,
+        Cause::Supported => 1,
+        Cause::Type1 => 2,
+        Cause::OtherFunction => 3,
+        Cause::NothingCaptured => 4,
+        Cause::OtherAddress => 5,
+        Cause::PoisonedWrite => 6,
     }
 }
 
 // What is captured now.
 pub fn captured(number: usize) {
-    put(b"  captured: ");
-    put_capture(number);
-    put(b"\n");
+    put_capture(wording::CAPTURED, number);
+    say(wording::END);
 }
 
-pub fn put_capture(number: usize) {
+// A text, and a capture behind it.
+pub fn put_capture(text: usize, number: usize) {
+    say(text);
     if number == slots::NOTHING {
-        put(b"nothing");
+        say(wording::NOTHING);
     } else {
-        say(b"bus %2 device %2", &[number >> 8, number]);
+        say_two(wording::ADDRESS, number >> 8, number);
     }
 }

@@ -1,11 +1,13 @@
 // Why a line is not understood, told with the line's number and the word at fault. Nothing of such a line is done.
 use crate::saying::put;
 use crate::saying::put_plain;
-use crate::saying::say;
 use crate::slots;
 use crate::slots::Desk;
 use crate::texts;
 use crate::tokens;
+use crate::wording;
+use crate::wording::say;
+use crate::wording::say_one;
 
 pub const NONE: usize = 0;
 
@@ -60,35 +62,37 @@ pub const UNREAD: usize = 24;
 // A line is not understood: from `from` on it does not fit.
 pub fn tell(desk: &mut Desk, line: &[u8], from: usize, what: usize) {
     begin(desk);
+    put_place(line, from);
+    put_reason(what);
+}
+
+fn put_place(line: &[u8], from: usize) {
     if from < line.len() {
         let end = tokens::end_of(line, from);
-        put(b"'");
+        say(wording::QUOTE);
         put_plain(&line[from..end]);
-        put(b"' ");
+        say(wording::UNQUOTE);
     } else {
-        put(b"the line's end ");
+        say(wording::LINE_END);
     }
-    put_reason(what);
-    put(b"\n");
 }
 
 // The same, of a line as a whole.
 pub fn tell_whole(desk: &mut Desk, what: usize) {
     begin(desk);
     put_reason(what);
-    put(b"\n");
 }
 
 // A line that is not understood uses up what was lent to the next question, so that no other question gets it.
 fn begin(desk: &mut Desk) {
     slots::count(desk, slots::FAULTS);
     slots::lend_all(desk);
-    say(b"line %d: ", &[desk[slots::LINE]]);
+    say_one(wording::LINE, slots::at(desk, slots::LINE));
 }
 
 // The table has the reasons in the order of their numbers.
 fn put_reason(what: usize) {
-    texts::put_entry(
+    put(texts::entry(
         b"is understood
 is no word of the desk, and no number of one to sixteen hexadecimal digits
 is not a statement; help lists them
@@ -116,5 +120,6 @@ the chain does not fit: its headers leave the space, or a pointer is too large
 the input could not be read to its end
 ",
         what,
-    );
+    ));
+    say(wording::END);
 }

@@ -18,12 +18,15 @@ mod texts;
 mod tokens;
 mod vocabulary;
 mod walking;
+mod wording;
 
 use session::PIECE;
+use slots::SLOTS;
 use spaces::STORE;
 
 fn main() {
+    let mut desk = [0; SLOTS];
     let mut piece = [0; PIECE];
     let mut store = [0; STORE];
-    session::run(&mut piece, &mut store);
+    session::run(&mut desk, &mut piece, &mut store);
 }

@@ -2,7 +2,6 @@
 // with the rest of its buffer, the capture, and every byte of both spaces. Resets and merges are asked for in the same way.
 use crate::explaining;
 use crate::judging;
-use crate::saying::put;
 use crate::slots;
 use crate::slots::Desk;
 use crate::spaces;
@@ -11,6 +10,8 @@ use crate::spaces::Store;
 use crate::tokens;
 use crate::tokens::Tokens;
 use crate::vocabulary;
+use crate::wording;
+use crate::wording::say;
 use board::Description;
 use board::Served;
 use capture::Capture;
@@ -29,7 +30,7 @@ pub fn ask(desk: &mut Desk, tokens: &Tokens, store: &mut Store) {
     let served = send(desk, tokens, store);
     let state = served.capture;
     answer(desk, tokens, served, &before, store);
-    desk[slots::CAPTURED] = capture_number(state);
+    slots::set(desk, slots::CAPTURED, capture_number(state));
 }
 
 // The packet's bytes, and an untouched reply, in the store.
@@ -69,16 +70,16 @@ fn serve(
     trusted: &mut [u8],
     reply: &mut [u8],
 ) -> Served {
-    let first = spaces::within(desk[slots::ORDINARY_SIZE], ordinary);
-    let second = spaces::within(desk[slots::TRUSTED_SIZE], trusted);
-    let room = spaces::within(desk[slots::ROOM], reply);
+    let first = spaces::within(spaces::lent_size(desk, spaces::ORDINARY), ordinary);
+    let second = spaces::within(spaces::lent_size(desk, spaces::TRUSTED), trusted);
+    let room = spaces::within(slots::at(desk, slots::ROOM), reply);
     board::serve(
         description_of(desk),
         capture_of(desk),
         &mut ordinary[..first],
-        spaces::part(store, spaces::ORDINARY_RULES, desk[slots::ORDINARY_RULES_SIZE]),
+        spaces::lent(desk, store, spaces::ORDINARY_RULES),
         &mut trusted[..second],
-        spaces::part(store, spaces::TRUSTED_RULES, desk[slots::TRUSTED_RULES_SIZE]),
+        spaces::lent(desk, store, spaces::TRUSTED_RULES),
         sent(tokens, store),
         &mut reply[..room],
     )
@@ -86,14 +87,14 @@ fn serve(
 
 pub fn description_of(desk: &Desk) -> Description {
     Description {
-        function: (desk[slots::FUNCTION] % 256) as u8,
-        a: desk[slots::A],
-        b: desk[slots::B],
+        function: (slots::at(desk, slots::FUNCTION) % 256) as u8,
+        a: slots::at(desk, slots::A),
+        b: slots::at(desk, slots::B),
     }
 }
 
 pub fn capture_of(desk: &Desk) -> Capture {
-    let number = desk[slots::CAPTURED];
+    let number = slots::at(desk, slots::CAPTURED);
     if number == slots::NOTHING {
         return Capture::Nothing;
     }
@@ -117,47 +118,53 @@ fn answer(desk: &mut Desk, tokens: &Tokens, served: Served, before: &Store, afte
     }
     if judging::is_told(desk) {
         explaining::packet(desk, tokens, served, after);
-        if spaces::tell_differences(desk, false, before, after) == 0 {
-            put(b"  no byte changed\n");
-        }
+        tell_changes(desk, before, after);
+    }
+}
+
+fn tell_changes(desk: &mut Desk, before: &Store, after: &Store) {
+    if spaces::tell_differences(desk, false, before, after) == 0 {
+        say(wording::UNCHANGED);
     }
 }
 
 // The answer, and every byte as before, except those that are expected to be others.
 fn judge(desk: &mut Desk, tokens: &Tokens, served: Served, before: &Store, after: &Store) {
     let mut wanted = [0u8; STORE];
+    words::put(&mut wanted, 0, before);
+    spaces::put_behind(&mut wanted, tokens, tokens::arrow(tokens), tokens::count(tokens));
+    judge_answer(desk, tokens, served, after, &wanted);
+    spaces::tell_differences(desk, true, after, &wanted);
+}
+
+fn judge_answer(desk: &mut Desk, tokens: &Tokens, served: Served, after: &Store, wanted: &Store) {
     let answer = served.answer;
     let state = served.capture;
-    words::put(&mut wanted, 0, before);
-    spaces::put_behind(&mut wanted, tokens, tokens::arrow(tokens), tokens[tokens::COUNT]);
     judging::number(desk, tokens, answer.number());
-    judge_reply(desk, tokens, served.length, after, &wanted);
+    judge_reply(desk, tokens, served.length, after, wanted);
     judge_capture(desk, tokens, capture_number(state));
-    spaces::tell_differences(desk, true, after, &wanted);
 }
 
 // The reply's bytes at the front of its buffer, and the rest untouched.
 fn judge_reply(desk: &mut Desk, tokens: &Tokens, length: usize, after: &Store, wanted: &Store) {
     let given = tokens::numbers_from(tokens, tokens::behind(tokens, vocabulary::REPLY));
-    if judging::value(desk, b"reply's length %v, expected %v\n", length, given) {
-        judging::bytes(
-            desk,
-            b"reply byte %v is %2, expected %2\n",
-            spaces::part(after, spaces::REPLY, REPLY),
-            spaces::part(wanted, spaces::REPLY, REPLY),
-        );
+    if judging::value(desk, wording::WRONG_LENGTH, length, given) {
+        judging::reply(desk, reply_of(after), reply_of(wanted));
     }
+}
+
+fn reply_of(store: &Store) -> &[u8] {
+    spaces::part(store, spaces::REPLY, REPLY)
 }
 
 // The capture that is expected: the one that is told, or the one from before.
 fn judge_capture(desk: &mut Desk, tokens: &Tokens, found: usize) {
     let wanted = wanted_capture(desk, tokens);
     if found != wanted {
-        judging::differ(desk, b"captured ", &[]);
-        explaining::put_capture(found);
-        put(b", expected ");
-        explaining::put_capture(wanted);
-        put(b"\n");
+        judging::begin_difference(desk);
+        explaining::put_capture(wording::WRONG_CAPTURE, found);
+        explaining::put_capture(wording::EXPECTED_CAPTURE, wanted);
+        say(wording::END);
     }
 }
 
@@ -170,10 +177,9 @@ fn wanted_capture(desk: &Desk, tokens: &Tokens) -> usize {
         );
     }
     if tokens::is_said(tokens, tokens::behind(tokens, vocabulary::FORGOTTEN)) {
-        slots::NOTHING
-    } else {
-        desk[slots::CAPTURED]
+        return slots::NOTHING;
     }
+    slots::at(desk, slots::CAPTURED)
 }
 
 // A reset is asked for.
@@ -185,29 +191,39 @@ pub fn reset(desk: &mut Desk, tokens: &Tokens) {
     if judging::is_told(desk) {
         explaining::captured(found);
     }
-    desk[slots::CAPTURED] = found;
+    slots::set(desk, slots::CAPTURED, found);
 }
 
 // A merge is asked for: four old bytes, four rules, four data bytes, the enables.
 pub fn merge(desk: &mut Desk, tokens: &Tokens) {
-    let found = registers::merge(
+    let found = merged(tokens);
+    let wanted = four_at(tokens, tokens::behind(tokens, vocabulary::BYTES));
+    answer_merge(desk, tokens, &found, &wanted);
+}
+
+fn merged(tokens: &Tokens) -> [u8; 4] {
+    registers::merge(
         four_at(tokens, 1),
         four_at(tokens, 5),
         four_at(tokens, 9),
         tokens::byte(tokens, 13),
-    );
+    )
+}
+
+fn answer_merge(desk: &mut Desk, tokens: &Tokens, found: &[u8], wanted: &[u8]) {
     if judging::begins(desk, tokens) {
-        judge_merge(desk, found, four_at(tokens, tokens::behind(tokens, vocabulary::BYTES)));
+        judge_merge(desk, found, wanted);
     }
     if judging::is_told(desk) {
-        explaining::put_part(b"  merged:", &found);
-        put(b"\n");
+        spaces::tell_part(wording::MERGED, found, 0, 4);
+        say(wording::END);
     }
 }
 
-fn judge_merge(desk: &mut Desk, found: [u8; 4], wanted: [u8; 4]) {
-    if words::word(&found, 0) != words::word(&wanted, 0) {
-        judging::differ(desk, b"bytes", &[]);
+fn judge_merge(desk: &mut Desk, found: &[u8], wanted: &[u8]) {
+    if words::word(found, 0) != words::word(wanted, 0) {
+        judging::begin_difference(desk);
+        say(wording::WRONG_BYTES);
         spaces::tell_both(true, found, wanted);
     }
 }

@@ -2,12 +2,15 @@
 // is expected.
 use crate::explaining;
 use crate::judging;
-use crate::saying::put;
-use crate::saying::say;
 use crate::slots::Desk;
+use crate::spaces;
 use crate::tokens;
 use crate::tokens::Tokens;
 use crate::vocabulary;
+use crate::wording;
+use crate::wording::say;
+use crate::wording::say_all;
+use crate::wording::say_two;
 use records::Alternate;
 use records::DualRead;
 use records::DvsecHeader;
@@ -17,7 +20,7 @@ pub fn ask_dvsec(desk: &mut Desk, tokens: &Tokens, space: &[u8]) {
     let at = tokens::at(tokens, 2);
     let body = records::dvsec_body(space, at);
     match records::dvsec(space, at) {
-        DvsecRead::Refused(refusal) => answer(desk, tokens, refusal.number(), &[], body),
+        DvsecRead::Refused(refusal) => refused(desk, tokens, refusal.number(), body),
         DvsecRead::Found(header) => header_found(desk, tokens, header, body),
     }
 }
@@ -37,24 +40,30 @@ fn header_found(desk: &mut Desk, tokens: &Tokens, header: DvsecHeader, body: &[u
     );
 }
 
+// A Dual-BDF record has no body.
 pub fn ask_dual(desk: &mut Desk, tokens: &Tokens, space: &[u8]) {
     match records::dual_bdf(space, tokens::at(tokens, 2)) {
-        DualRead::Refused(refusal) => answer(desk, tokens, refusal.number(), &[], b""),
-        DualRead::Found(alternate) => alternate_found(desk, tokens, alternate),
+        DualRead::Refused(refusal) => refused(desk, tokens, refusal.number(), &space[..0]),
+        DualRead::Found(alternate) => alternate_found(desk, tokens, alternate, &space[..0]),
     }
 }
 
-fn alternate_found(desk: &mut Desk, tokens: &Tokens, alternate: Alternate) {
+fn alternate_found(desk: &mut Desk, tokens: &Tokens, alternate: Alternate, body: &[u8]) {
     answer(
         desk,
         tokens,
         0,
         &[alternate.function as usize, alternate.device as usize],
-        b"",
+        body,
     );
 }
 
-// A record as it was found, or a refusal, which has no fields and no body; a Dual-BDF record has no body either.
+// A refusal has no fields.
+fn refused(desk: &mut Desk, tokens: &Tokens, number: u8, body: &[u8]) {
+    answer(desk, tokens, number, &[], body);
+}
+
+// A record as it was found, or a refusal.
 fn answer(desk: &mut Desk, tokens: &Tokens, number: u8, fields: &[usize], body: &[u8]) {
     if judging::begins(desk, tokens) {
         judging::number(desk, tokens, number);
@@ -70,12 +79,29 @@ fn answer(desk: &mut Desk, tokens: &Tokens, number: u8, fields: &[usize], body: 
 fn tell(fields: &[usize], body: &[u8]) {
     match fields.len() {
         0 => {}
-        2 => say(b"  alternate: function %1 device %2\n", fields),
-        _ => {
-            say(b"  vendor %4 revision %1 ID %4 length %3\n", fields);
-            explaining::put_part(b"  body:", body);
-            put(b"\n");
-        }
+        2 => say_two(wording::ALTERNATE, field(fields, 0), field(fields, 1)),
+        _ => tell_header(fields, body),
+    }
+}
+
+fn tell_header(fields: &[usize], body: &[u8]) {
+    say_all(
+        wording::HEADER,
+        field(fields, 0),
+        field(fields, 1),
+        field(fields, 2),
+        field(fields, 3),
+        0,
+    );
+    spaces::tell_part(wording::BODY, body, 0, body.len());
+    say(wording::END);
+}
+
+fn field(fields: &[usize], place: usize) -> usize {
+    if place < fields.len() {
+        fields[place]
+    } else {
+        0
     }
 }
 
@@ -83,7 +109,7 @@ fn tell(fields: &[usize], body: &[u8]) {
 fn judge_fields(desk: &mut Desk, tokens: &Tokens, fields: &[usize]) {
     let from = tokens::behind(tokens, fields_word(tokens::word(tokens, 0)));
     let given = tokens::numbers_from(tokens, from);
-    if judging::value(desk, b"count of fields %v, expected %v\n", fields.len(), given) {
+    if judging::value(desk, wording::WRONG_FIELDS, fields.len(), given) {
         judge_each(desk, tokens, from, fields);
     }
 }
@@ -101,7 +127,7 @@ fn judge_each(desk: &mut Desk, tokens: &Tokens, from: usize, fields: &[usize]) {
     while at < fields.len() {
         judging::value(
             desk,
-            b"field %v, expected %v\n",
+            wording::WRONG_FIELD,
             fields[at],
             tokens::at(tokens, std::num::wrapping_add_usize(from, at)),
         );
@@ -113,18 +139,18 @@ fn judge_each(desk: &mut Desk, tokens: &Tokens, from: usize, fields: &[usize]) {
 fn judge_body(desk: &mut Desk, tokens: &Tokens, fields: usize, length: usize) {
     let word = tokens::behind(tokens, vocabulary::BODY);
     if !tokens::is_said(tokens, word) {
-        judging::value(desk, b"body's length %v, expected %v\n", length, 0);
+        judging::value(desk, wording::WRONG_BODY, length, 0);
         return;
     }
     judging::value(
         desk,
-        b"body's place %v, expected %v\n",
+        wording::WRONG_BODY_PLACE,
         place_of_body(fields, tokens::at(tokens, 2)),
         tokens::at(tokens, word),
     );
     judging::value(
         desk,
-        b"body's length %v, expected %v\n",
+        wording::WRONG_BODY,
         length,
         tokens::at(tokens, std::num::wrapping_add_usize(word, 1)),
     );

@@ -6,9 +6,8 @@ pub fn put(text: &[u8]) {
     io::write_all(STDOUT_FILENO, text);
 }
 
-// Writes a text in which %1 to %4 stand for so many hexadecimal digits of the next number, %v for as many as it has, %d for the number in
-// decimal, and %e for four enables.
-pub fn say(text: &[u8], numbers: &[usize]) {
+// Writes a text, with its numbers where it has marks: wording.rt says which there are.
+pub fn fill(text: &[u8], numbers: &[usize]) {
     let mut at = 0;
     let mut next = 0;
     while at < text.len() {
@@ -41,6 +40,8 @@ fn put_number(form: u8, number: usize) {
             io::print_decimal(STDOUT_FILENO, number as u64);
         }
         b'e' => put_enables(number),
+        b'n' => put(b"\n"),
+        b'_' => put(b" "),
         b'v' => put_hex(number, digits_of(number)),
         _ => put_hex(number, (form % 16) as usize),
     }

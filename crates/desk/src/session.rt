@@ -4,17 +4,17 @@ use crate::doing;
 use crate::faults;
 use crate::grammar;
 use crate::input;
-use crate::saying::put;
 use crate::saying::put_plain;
-use crate::saying::say;
 use crate::slots;
 use crate::slots::Desk;
-use crate::slots::SLOTS;
 use crate::spaces::Store;
 use crate::tokens;
 use crate::tokens::MOST;
 use crate::tokens::Tokens;
 use crate::tokens::WIDTH;
+use crate::wording;
+use crate::wording::say;
+use crate::wording::say_three;
 
 // What is read at once; a line is shorter.
 pub const PIECE: usize = 4000;
@@ -31,16 +31,16 @@ fn take(desk: &mut Desk, line: &[u8], store: &mut Store) {
 }
 
 fn echo(desk: &Desk, line: &[u8]) {
-    if desk[slots::ECHO] != 0 {
-        put(b"> ");
+    if slots::at(desk, slots::ECHO) != 0 {
+        say(wording::PROMPT);
         put_plain(line);
-        put(b"\n");
+        say(wording::END);
     }
 }
 
 // Whether a line says something, and all of it fits; where not, why.
 fn is_understood(desk: &mut Desk, line: &[u8], tokens: &Tokens) -> bool {
-    let count = tokens[tokens::COUNT];
+    let count = tokens::count(tokens);
     if input::has_return(line) {
         faults::tell_whole(desk, faults::RETURN);
         return false;
@@ -71,11 +71,11 @@ fn fits(desk: &mut Desk, line: &[u8], tokens: &Tokens, count: usize) -> bool {
 
 // A whole line, or the end of one whose beginning was given up.
 fn take_whole(desk: &mut Desk, line: &[u8], store: &mut Store) {
-    if desk[slots::SKIPPING] == 0 {
+    if slots::at(desk, slots::SKIPPING) == 0 {
         take(desk, input::without_return(line), store);
         return;
     }
-    desk[slots::SKIPPING] = 0;
+    slots::set(desk, slots::SKIPPING, 0);
     slots::count(desk, slots::LINE);
     faults::tell_whole(desk, faults::TOO_LONG);
 }
@@ -95,18 +95,32 @@ fn take_lines(desk: &mut Desk, piece: &[u8; PIECE], end: usize, store: &mut Stor
 }
 
 // What is left of a line, `rest` bytes of it: given up where it fills the piece.
-fn give_up(desk: &mut Desk, rest: usize) -> usize {
+fn give_up(desk: &mut Desk, rest: usize) {
     if rest < PIECE {
-        return rest;
+        slots::set(desk, slots::REST, rest);
+        return;
     }
-    desk[slots::SKIPPING] = 1;
-    0
+    slots::set(desk, slots::SKIPPING, 1);
+    slots::set(desk, slots::REST, 0);
+}
+
+// More of the input is read, and the lines in it are taken. Says whether there was more.
+fn go_on(desk: &mut Desk, piece: &mut [u8; PIECE], store: &mut Store) -> bool {
+    let rest = slots::at(desk, slots::REST);
+    let end = input::read_more(desk, piece, rest);
+    if end <= rest {
+        return false;
+    }
+    let from = take_lines(desk, piece, end, store);
+    give_up(desk, input::keep_rest(piece, from, end));
+    true
 }
 
 // A line without a line end, where the input ends.
-fn take_last(desk: &mut Desk, piece: &[u8; PIECE], rest: usize, store: &mut Store) {
+fn take_last(desk: &mut Desk, piece: &[u8; PIECE], store: &mut Store) {
+    let rest = slots::at(desk, slots::REST);
     if rest == 0 {
-        if desk[slots::SKIPPING] == 0 {
+        if slots::at(desk, slots::SKIPPING) == 0 {
             return;
         }
     }
@@ -115,47 +129,53 @@ fn take_last(desk: &mut Desk, piece: &[u8; PIECE], rest: usize, store: &mut Stor
 
 // The whole input. A proved loop has to end, and nothing says that the input does: so the turns are counted down, from a number that no
 // session uses up.
-pub fn run(piece: &mut [u8; PIECE], store: &mut Store) {
-    let mut desk = [0usize; SLOTS];
-    let mut rest = 0;
+pub fn run(desk: &mut Desk, piece: &mut [u8; PIECE], store: &mut Store) {
     let mut turns = u64::MAX;
-    slots::begin(&mut desk);
-    slots::set(&mut desk, slots::PROMPT, input::is_typed());
+    begin(desk);
     while turns > 0 {
         turns -= 1;
-        prompt(&desk, rest);
-        let end = input::read_more(&mut desk, piece, rest);
-        if end <= rest {
+        prompt(desk);
+        if !go_on(desk, piece, store) {
             break;
         }
-        let from = take_lines(&mut desk, piece, end, store);
-        rest = give_up(&mut desk, input::keep_rest(piece, from, end));
     }
-    take_last(&mut desk, piece, rest, store);
-    tell_end(&mut desk);
+    take_last(desk, piece, store);
+    tell_end(desk);
+}
+
+fn begin(desk: &mut Desk) {
+    slots::begin(desk);
+    slots::set(desk, slots::PROMPT, input::is_typed());
 }
 
 // Who types is asked for each line.
-fn prompt(desk: &Desk, rest: usize) {
-    if rest == 0 {
-        if desk[slots::PROMPT] != 0 {
-            put(b"> ");
+fn prompt(desk: &Desk) {
+    if slots::at(desk, slots::PROMPT) != 0 {
+        if slots::at(desk, slots::REST) == 0 {
+            say(wording::PROMPT);
         }
     }
 }
 
+// What is wrong at the end, and the tally.
 fn tell_end(desk: &mut Desk) {
-    if desk[slots::PROMPT] != 0 {
-        put(b"\n");
+    if slots::at(desk, slots::PROMPT) != 0 {
+        say(wording::END);
     }
-    if desk[slots::UNREAD] != 0 {
+    if slots::at(desk, slots::UNREAD) != 0 {
         faults::tell_whole(desk, faults::UNREAD);
     }
-    if desk[slots::SHEET] != 0 {
+    if slots::at(desk, slots::SHEET) != 0 {
         faults::tell_whole(desk, faults::NO_END);
     }
-    say(
-        b"checks %d, as expected %d, lines not understood %d\n",
-        &[desk[slots::CHECKS], desk[slots::RIGHT], desk[slots::FAULTS]],
+    tell_tally(desk);
+}
+
+fn tell_tally(desk: &Desk) {
+    say_three(
+        wording::TALLY,
+        slots::at(desk, slots::CHECKS),
+        slots::at(desk, slots::RIGHT),
+        slots::at(desk, slots::FAULTS),
     );
 }

@@ -1,5 +1,5 @@
 // What the desk keeps in numbers from line to line, each at a place of its own.
-pub const SLOTS: usize = 19;
+pub const SLOTS: usize = 20;
 
 // The line's number; how many statements had an expectation, and how many of them were right; how many lines were not understood.
 pub const LINE: usize = 0;
@@ -47,6 +47,9 @@ pub const UNREAD: usize = 17;
 // Somebody types, and is asked for each line.
 pub const PROMPT: usize = 18;
 
+// How many bytes of a line that is not whole yet the piece begins with.
+pub const REST: usize = 19;
+
 // The capture while there is none: over every bus and device.
 pub const NOTHING: usize = 0x10000;
 
@@ -54,6 +57,10 @@ pub const NOTHING: usize = 0x10000;
 const WHOLE: usize = 0xffff;
 
 pub type Desk = [usize; SLOTS];
+
+pub fn at(desk: &Desk, slot: usize) -> usize {
+    if slot < SLOTS { desk[slot] } else { 0 }
+}
 
 pub fn count(desk: &mut Desk, slot: usize) {
     if slot < SLOTS {

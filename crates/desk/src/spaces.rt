@@ -3,11 +3,15 @@
 use crate::judging;
 use crate::saying::put;
 use crate::saying::put_bytes;
-use crate::saying::say;
+use crate::slots;
 use crate::slots::Desk;
+use crate::texts;
 use crate::tokens;
 use crate::tokens::Tokens;
 use crate::vocabulary;
+use crate::wording;
+use crate::wording::say;
+use crate::wording::say_one;
 ghost use Prim.Native.Nat.{_≤_};
 ghost use Rattle.io.specs.Counts.{Counts};
 
@@ -77,6 +81,16 @@ pub fn part(store: &[u8], base: usize, size: usize) -> &[u8] {
     &store[base..base + size]
 }
 
+// A buffer of the board, as far as the desk lends it.
+pub fn lent<'a>(desk: &Desk, store: &'a [u8], base: usize) -> &'a [u8] {
+    part(store, base, lent_size(desk, base))
+}
+
+// How much of a buffer the desk lends.
+pub fn lent_size(desk: &Desk, base: usize) -> usize {
+    slots::at(desk, std::num::wrapping_add_usize(slots::ORDINARY_SIZE, base / LONG))
+}
+
 // A buffer of the store, and back.
 pub fn copy_of(store: &Store, base: usize) -> Buffer {
     let mut buffer = [0; LONG];
@@ -118,6 +132,10 @@ pub fn byte_of(bytes: &[u8], at: usize) -> u8 {
     if at < bytes.len() { bytes[at] } else { 0 }
 }
 
+pub fn value_of(bytes: &[u8], at: usize) -> usize {
+    byte_of(bytes, at) as usize
+}
+
 // The first place of the board from `from` on where two stores differ, or the board's end where they do not.
 fn next_difference(one: &Store, other: &Store, from: usize) -> usize
     ensures { λ r. ⌜ from ≤ r ⌝ }
@@ -142,38 +160,45 @@ pub fn tell_differences(desk: &mut Desk, judging: bool, one: &Store, other: &Sto
             return told;
         }
         let word = place - place % 4;
-        tell_word(desk, judging, word);
-        tell_both(judging, words::four(one, word), words::four(other, word));
+        tell_place(desk, judging, word);
+        tell_both(judging, part(one, word, 4), part(other, word, 4));
         told = std::num::wrapping_add_usize(told, 1);
         at = word + 4;
     }
     told
 }
 
-// No rule ever changes.
-fn tell_word(desk: &mut Desk, judging: bool, word: usize) {
+fn tell_place(desk: &mut Desk, judging: bool, word: usize) {
     if judging {
-        judging::differ(desk, b"", &[]);
+        judging::begin_difference(desk);
     } else {
-        put(b"  ");
+        say(wording::INDENT);
     }
-    if word < TRUSTED {
-        say(b"ordinary %3:", &[word]);
-    } else {
-        say(b"trusted %3:", &[word - TRUSTED]);
-    }
+    put_buffer(word / LONG);
+    say_one(wording::SHOWN, word % LONG);
+}
+
+// The name of a buffer.
+fn put_buffer(number: usize) {
+    put(texts::entry(b"ordinary \nordinary-rules \ntrusted \ntrusted-rules \n", number));
 }
 
 // Four bytes as they were or are, and as they are or should be.
-pub fn tell_both(judging: bool, one: [u8; 4], other: [u8; 4]) {
-    put_bytes(&one);
+pub fn tell_both(judging: bool, one: &[u8], other: &[u8]) {
+    put_bytes(one);
     if judging {
-        put(b", expected");
+        say(wording::EXPECTED);
     } else {
-        put(b" ->");
+        say(wording::BECOMES);
     }
-    put_bytes(&other);
-    put(b"\n");
+    put_bytes(other);
+    say(wording::END);
+}
+
+// A text and the bytes of a part of the store behind it.
+pub fn tell_part(text: usize, store: &[u8], base: usize, size: usize) {
+    say(text);
+    put_bytes(part(store, base, size));
 }
 
 // Shows so many bytes of a buffer from an offset on, sixteen to a line.
@@ -191,7 +216,7 @@ pub fn show(store: &Store, base: usize, from: usize, count: usize) {
 }
 
 fn show_line(store: &Store, base: usize, offset: usize, count: usize) {
-    say(b"%3:", &[offset]);
+    say_one(wording::SHOWN, offset);
     put_bytes(part(store, std::num::wrapping_add_usize(base, offset), count));
-    put(b"\n");
+    say(wording::END);
 }

@@ -1,6 +1,5 @@
-// Tables of text, a line for each entry, every line with its line end: entries found by their text, and written by their number.
+// Tables of text, a line for each entry, every line with its line end: entries found by their text, and by their number.
 use crate::input;
-use crate::saying::put;
 
 fn is(text: &[u8], word: &[u8]) -> bool {
     if text.len() != word.len() {
@@ -37,10 +36,10 @@ pub fn place_of(text: &[u8], table: &[u8]) -> usize {
     NOWHERE
 }
 
-// Writes the entry with this number, without its line end, or nothing.
-pub fn put_entry(table: &[u8], number: usize) {
+// The entry with this number, without its line end, or nothing.
+pub fn entry(table: &[u8], number: usize) -> &[u8] {
     let from = begin_of(table, number);
-    put(input::between(table, from, input::line_end(table, from, table.len())));
+    input::between(table, from, input::line_end(table, from, table.len()))
 }
 
 // Where the entry with this number begins, or the end of the table.

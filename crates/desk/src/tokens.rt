@@ -178,20 +178,25 @@ pub fn find(tokens: &Tokens, from: usize, to: usize, wanted: usize) -> usize {
     to
 }
 
+// How many there are.
+pub fn count(tokens: &Tokens) -> usize {
+    tokens[COUNT]
+}
+
 // Where the expectation begins, or the count where there is none.
 pub fn arrow(tokens: &Tokens) -> usize {
-    find(tokens, 0, tokens[COUNT], vocabulary::ARROW)
+    find(tokens, 0, count(tokens), vocabulary::ARROW)
 }
 
 // The place behind a word of the expectation; past the count where that does not have this word.
 pub fn behind(tokens: &Tokens, word: usize) -> usize {
-    let place = find(tokens, arrow(tokens), tokens[COUNT], word);
+    let place = find(tokens, arrow(tokens), count(tokens), word);
     std::num::wrapping_add_usize(place, 1)
 }
 
 // Whether a place is behind a word that was found.
 pub fn is_said(tokens: &Tokens, behind: usize) -> bool {
-    behind <= tokens[COUNT]
+    behind <= count(tokens)
 }
 
 // How many numbers stand from a place on.
@@ -207,7 +212,7 @@ pub fn numbers_from(tokens: &Tokens, from: usize) -> usize {
 }
 
 fn is_number_at(tokens: &Tokens, place: usize) -> bool {
-    if tokens[COUNT] <= place {
+    if count(tokens) <= place {
         return false;
     }
     word(tokens, place) == vocabulary::NUMERAL

@@ -2,13 +2,16 @@
 // expected. The compatible and the extended list lie in the ordinary space, the trusted list in the trusted one.
 use crate::explaining;
 use crate::judging;
-use crate::saying::say;
 use crate::slots;
 use crate::slots::Desk;
 use crate::spaces;
 use crate::tokens;
 use crate::tokens::Tokens;
 use crate::vocabulary;
+use crate::wording;
+use crate::wording::say_one;
+use crate::wording::say_three;
+use crate::wording::say_two;
 use lists::Kind;
 use lists::Walked;
 ghost use Rattle.io.specs.Counts.{Counts};
@@ -32,7 +35,7 @@ pub fn kind_of(name: usize) -> Kind {
 pub fn ask(desk: &mut Desk, tokens: &Tokens, space: &[u8]) {
     let mut room = [UNTOUCHED; ROOM];
     let kind = kind_of(tokens::word(tokens, 1));
-    let walked = walk(kind, space, desk[slots::ROOM], &mut room);
+    let walked = walk(kind, space, slots::at(desk, slots::ROOM), &mut room);
     if judging::begins(desk, tokens) {
         judge(desk, tokens, walked, &room);
     }
@@ -63,7 +66,7 @@ fn judge(desk: &mut Desk, tokens: &Tokens, walked: Walked, room: &Room) {
     let listed = list(&mut wanted, tokens);
     let stepped = step(&mut wanted, tokens, listed);
     judging::number(desk, tokens, number_of(walked));
-    if judging::value(desk, b"count %v, expected %v\n", walked.count, stepped) {
+    if judging::value(desk, wording::WRONG_COUNT, walked.count, stepped) {
         judge_entries(desk, room, &wanted);
     }
 }
@@ -77,11 +80,7 @@ fn judge_entries(desk: &mut Desk, room: &Room, wanted: &Room) {
 }
 
 fn differ(desk: &mut Desk, entry: usize, found: u16, wanted: u16) {
-    judging::differ(
-        desk,
-        b"room entry %v is %4, expected %4\n",
-        &[entry, found as usize, wanted as usize],
-    );
+    judging::entry(desk, wording::WRONG_ENTRY, entry, found as usize, wanted as usize);
 }
 
 fn first_difference(one: &Room, other: &Room) -> usize {
@@ -139,7 +138,7 @@ fn step(room: &mut Room, tokens: &Tokens, before: usize) -> usize {
 fn tell(kind: Kind, space: &[u8], walked: Walked, room: &Room) {
     explaining::put_number(number_of(walked));
     if number_of(walked) == 0 {
-        say(b"  listed: %v\n", &[walked.count]);
+        say_one(wording::LISTED, walked.count);
         tell_headers(kind, space, walked.count, room);
     }
 }
@@ -157,10 +156,9 @@ fn tell_header(kind: Kind, space: &[u8], offset: u16) {
     let at = offset as usize;
     let word = words::word(space, at);
     match kind {
-        Kind::Compatible => say(b"  %3: ID %2\n", &[at, word as usize]),
-        Kind::Extended | Kind::Trusted => say(
-            b"  %3: ID %4 version %1\n",
-            &[at, word as usize, (word >> 16) as usize],
-        ),
+        Kind::Compatible => say_two(wording::SHORT_HEADER, at, word as usize),
+        Kind::Extended | Kind::Trusted => {
+            say_three(wording::LONG_HEADER, at, word as usize, (word >> 16) as usize);
+        }
     }
 }

@@ -6,16 +6,13 @@ use Rattle.desk.proofs.reading.judge_each.Statement.{statement}
 use Rattle.desk.proofs.reading.judge_each.Tie as tie
 
 abbrev Inv-loop : tie.InvT-loop
-Inv-loop desk₀ tokens from fields at₀ t6 desk at = Unit {0}
+Inv-loop desk₀ tokens from fields at₀ desk at = Unit {0}
 
 abbrev μ-loop : tie.MeasureT-loop
-μ-loop desk₀ tokens from fields at₀ t6 desk at = length fields - at
+μ-loop desk₀ tokens from fields at₀ desk at = length fields - at
 
 loop-holds : tie.Need-loop-holds Inv-loop μ-loop
 loop-holds c = search needs
-
-slice-aggregate-value : tie.Need-slice-aggregate-value Inv-loop μ-loop
-slice-aggregate-value c = search needs
 
 mul-value : tie.Need-mul-value Inv-loop μ-loop
 mul-value c = search needs
@@ -51,7 +48,6 @@ judge-each-spec =
     Inv-loop
     μ-loop
     loop-holds
-    slice-aggregate-value
     mul-value
     shared-slice-read-value
     wrapping-add-usize-requires

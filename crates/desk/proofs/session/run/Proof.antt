@@ -4,19 +4,13 @@ use Rattle.desk.proofs.session.run.Statement.{statement}
 use Rattle.desk.proofs.session.run.Tie as tie
 
 abbrev Inv-loop : tie.InvT-loop
-Inv-loop piece₀ store₀ desk₀ rest₀ turns₀ piece store desk rest turns = Unit {0}
+Inv-loop desk₀ piece₀ store₀ turns₀ desk piece store turns = Unit {0}
 
 abbrev μ-loop : tie.MeasureT-loop
-μ-loop piece₀ store₀ desk₀ rest₀ turns₀ piece store desk rest turns = turns
+μ-loop desk₀ piece₀ store₀ turns₀ desk piece store turns = turns
 
 begin-requires : tie.Need-begin-requires Inv-loop μ-loop
 begin-requires c κs = search needs
-
-is-typed-requires : tie.Need-is-typed-requires Inv-loop μ-loop
-is-typed-requires c κs = search needs
-
-set-requires : tie.Need-set-requires Inv-loop μ-loop
-set-requires c κs = search needs
 
 loop-holds : tie.Need-loop-holds Inv-loop μ-loop
 loop-holds c = search needs
@@ -27,17 +21,8 @@ sub-turns c = search needs
 prompt-requires : tie.Need-prompt-requires Inv-loop μ-loop
 prompt-requires c κs = search needs
 
-read-more-requires : tie.Need-read-more-requires Inv-loop μ-loop
-read-more-requires c κs = search needs
-
-take-lines-requires : tie.Need-take-lines-requires Inv-loop μ-loop
-take-lines-requires c κs = search needs
-
-keep-rest-requires : tie.Need-keep-rest-requires Inv-loop μ-loop
-keep-rest-requires c κs = search needs
-
-give-up-requires : tie.Need-give-up-requires Inv-loop μ-loop
-give-up-requires c κs = search needs
+go-on-requires : tie.Need-go-on-requires Inv-loop μ-loop
+go-on-requires c κs = search needs
 
 loop-less : tie.Need-loop-less Inv-loop μ-loop
 loop-less c = search needs
@@ -61,15 +46,10 @@ run-spec =
     Inv-loop
     μ-loop
     begin-requires
-    is-typed-requires
-    set-requires
     loop-holds
     sub-turns
     prompt-requires
-    read-more-requires
-    take-lines-requires
-    keep-rest-requires
-    give-up-requires
+    go-on-requires
     loop-less
     loop-again
     take-last-requires

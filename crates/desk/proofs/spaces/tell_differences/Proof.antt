@@ -22,14 +22,14 @@ returns c = search needs
 sub-word : tie.Need-sub-word Inv-loop μ-loop
 sub-word c = search needs
 
-tell-word-requires : tie.Need-tell-word-requires Inv-loop μ-loop
-tell-word-requires c κs = search needs
+tell-place-requires : tie.Need-tell-place-requires Inv-loop μ-loop
+tell-place-requires c κs = search needs
 
-four-requires : tie.Need-four-requires Inv-loop μ-loop
-four-requires c κs = search needs
+part-requires : tie.Need-part-requires Inv-loop μ-loop
+part-requires c κs = search needs
 
-four-requires-2 : tie.Need-four-requires-2 Inv-loop μ-loop
-four-requires-2 c κs = search needs
+part-requires-2 : tie.Need-part-requires-2 Inv-loop μ-loop
+part-requires-2 c κs = search needs
 
 tell-both-requires : tie.Need-tell-both-requires Inv-loop μ-loop
 tell-both-requires c κs = search needs
@@ -59,9 +59,9 @@ tell-differences-spec =
     next-difference-requires
     returns
     sub-word
-    tell-word-requires
-    four-requires
-    four-requires-2
+    tell-place-requires
+    part-requires
+    part-requires-2
     tell-both-requires
     wrapping-add-usize-requires
     add-at

@@ -1,9 +1,9 @@
--- `desk::saying::say` is safe and ends. Assumes nothing.
+-- `desk::saying::fill` is safe and ends. Assumes nothing.
 use borrow.Author.Needs.{needs}
 use Prim.Native.Nat.{_-_}
 use lib.ListN.{length}
-use Rattle.desk.proofs.saying.say.Statement.{statement}
-use Rattle.desk.proofs.saying.say.Tie as tie
+use Rattle.desk.proofs.saying.fill.Statement.{statement}
+use Rattle.desk.proofs.saying.fill.Tie as tie
 
 abbrev Inv-loop : tie.InvT-loop
 Inv-loop text numbers at₀ next₀ at next = Unit {0}
@@ -56,8 +56,8 @@ loop-again c = search needs
 returns-3 : tie.Need-returns-3 Inv-loop μ-loop
 returns-3 c = search needs
 
-pub say-spec : {M : Type 1} → statement M
-say-spec =
+pub fill-spec : {M : Type 1} → statement M
+fill-spec =
     tie.close
     (tie.spec
     Inv-loop

@@ -1,0 +1,178 @@
+// What the desk says, a line for each text: %1 to %4 stand for so many hexadecimal digits of the next number, %v for as many as it has,
+// %d for the number in decimal, %e for four enables, and behind the last number %n for a line end and %_ for a blank. Help, faults and
+// meanings have tables of their own.
+use crate::saying;
+use crate::texts;
+
+pub const AS_EXPECTED: usize = 0;
+
+pub const DONE: usize = 1;
+
+pub const END: usize = 2;
+
+pub const NUMBER: usize = 3;
+
+// A request, in its parts.
+pub const ASKS: usize = 4;
+
+pub const PLACE: usize = 5;
+
+pub const DATA: usize = 6;
+
+pub const SENDER: usize = 7;
+
+// A completion, in its parts.
+pub const REPLY: usize = 8;
+
+pub const SAYS: usize = 9;
+
+pub const COMPLETER: usize = 10;
+
+pub const REQUESTER: usize = 11;
+
+pub const TAG: usize = 12;
+
+// The capture.
+pub const CAPTURED: usize = 13;
+
+pub const ADDRESS: usize = 14;
+
+pub const NOTHING: usize = 15;
+
+// Bytes of the board.
+pub const UNCHANGED: usize = 16;
+
+pub const INDENT: usize = 17;
+
+pub const BECOMES: usize = 18;
+
+pub const EXPECTED: usize = 19;
+
+pub const MERGED: usize = 20;
+
+pub const SHOWN: usize = 21;
+
+// Lists and records.
+pub const LISTED: usize = 22;
+
+pub const SHORT_HEADER: usize = 23;
+
+pub const LONG_HEADER: usize = 24;
+
+pub const ALTERNATE: usize = 25;
+
+pub const HEADER: usize = 26;
+
+pub const BODY: usize = 27;
+
+// What is not as expected.
+pub const DIFFERENCE: usize = 28;
+
+pub const WRONG_NUMBER: usize = 29;
+
+pub const WRONG_LENGTH: usize = 30;
+
+pub const WRONG_BYTE: usize = 31;
+
+pub const WRONG_CAPTURE: usize = 32;
+
+pub const EXPECTED_CAPTURE: usize = 33;
+
+pub const WRONG_BYTES: usize = 34;
+
+pub const WRONG_COUNT: usize = 35;
+
+pub const WRONG_ENTRY: usize = 36;
+
+pub const WRONG_FIELDS: usize = 37;
+
+pub const WRONG_FIELD: usize = 38;
+
+pub const WRONG_BODY: usize = 39;
+
+pub const WRONG_BODY_PLACE: usize = 40;
+
+// The session.
+pub const LINE: usize = 41;
+
+pub const PROMPT: usize = 42;
+
+pub const QUOTE: usize = 43;
+
+pub const UNQUOTE: usize = 44;
+
+pub const LINE_END: usize = 45;
+
+pub const TALLY: usize = 46;
+
+// A text with its numbers, as many as it has places for.
+pub fn say_all(number: usize, first: usize, second: usize, third: usize, fourth: usize, fifth: usize) {
+    let text = texts::entry(
+        b"as expected%n
+ok%n
+%n
+number %d:%_
+  asks:%_
+, bus %2 device %2 function %1, offset %3, enables %e
+, data
+, requester %2 %2 tag %2%n
+  reply:
+%n  says:%_
+; completer
+, requester
+ tag
+  captured:%_
+bus %2 device %2
+nothing
+  no byte changed%n
+ %_
+ ->
+, expected
+  merged:
+%3:
+  listed: %v%n
+  %3: ID %2%n
+  %3: ID %4 version %1%n
+  alternate: function %1 device %2%n
+  vendor %4 revision %1 ID %4 length %3%n
+  body:
+line %d: not as expected:%_
+number %d, expected %d%n
+reply's length %v, expected %v%n
+reply byte %v is %2, expected %2%n
+captured%_
+, expected%_
+bytes
+count %v, expected %v%n
+room entry %v is %4, expected %4%n
+count of fields %v, expected %v%n
+field %v, expected %v%n
+body's length %v, expected %v%n
+body's place %v, expected %v%n
+line %d:%_
+>%_
+'
+'%_
+the line's end%_
+checks %d, as expected %d, lines not understood %d%n
+",
+        number,
+    );
+    saying::fill(text, &[first, second, third, fourth, fifth]);
+}
+
+pub fn say(text: usize) {
+    say_all(text, 0, 0, 0, 0, 0);
+}
+
+pub fn say_one(text: usize, number: usize) {
+    say_all(text, number, 0, 0, 0, 0);
+}
+
+pub fn say_two(text: usize, first: usize, second: usize) {
+    say_all(text, first, second, 0, 0, 0);
+}
+
+pub fn say_three(text: usize, first: usize, second: usize, third: usize) {
+    say_all(text, first, second, third, 0, 0);
+}
