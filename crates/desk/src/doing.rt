@@ -38,8 +38,23 @@ pub fn perform(desk: &mut Desk, tokens: &Tokens, store: &mut Store) {
 
 fn begin_board(desk: &mut Desk, store: &mut Store, word: usize) {
     slots::begin(desk);
-    fill(store, word);
+    match word {
+        vocabulary::FRESH => fill(store, ORDINARY, TRUSTED, 0),
+        vocabulary::OPEN => fill(store, ORDINARY, TRUSTED, 0xff),
+        _ => fill(store, 0, 0, 0),
+    }
     done();
+}
+
+fn fill(store: &mut Store, ordinary: u8, trusted: u8, rule: u8) {
+    put_all(store, spaces::ORDINARY, ordinary);
+    put_all(store, spaces::ORDINARY_RULES, rule);
+    put_all(store, spaces::TRUSTED, trusted);
+    put_all(store, spaces::TRUSTED_RULES, rule);
+}
+
+fn put_all(store: &mut Store, base: usize, byte: u8) {
+    spaces::put_back(store, base, &[byte; LONG]);
 }
 
 fn put_chain(desk: &mut Desk, tokens: &Tokens, store: &mut Store) {
@@ -65,26 +80,6 @@ fn done() {
     say(wording::DONE);
 }
 
-fn fill(store: &mut Store, word: usize) {
-    let rule = rule_of(word);
-    put_all(store, spaces::ORDINARY, filling(word, ORDINARY));
-    put_all(store, spaces::ORDINARY_RULES, rule);
-    put_all(store, spaces::TRUSTED, filling(word, TRUSTED));
-    put_all(store, spaces::TRUSTED_RULES, rule);
-}
-
-fn put_all(store: &mut Store, base: usize, byte: u8) {
-    spaces::put_back(store, base, &[byte; LONG]);
-}
-
-fn filling(word: usize, byte: u8) -> u8 {
-    if word == vocabulary::BLANK { 0 } else { byte }
-}
-
-fn rule_of(word: usize) -> u8 {
-    if word == vocabulary::OPEN { 0xff } else { 0 }
-}
-
 fn show(tokens: &Tokens, store: &Store) {
     let base = spaces::base_of(tokens::word(tokens, 1));
     spaces::show(store, base, tokens::at(tokens, 2), tokens::at(tokens, 3));
@@ -92,14 +87,7 @@ fn show(tokens: &Tokens, store: &Store) {
 
 // A question about one space, lent as far as the desk says: the trusted one where that is named, else the ordinary one.
 fn ask_of_space(desk: &mut Desk, tokens: &Tokens, store: &Store) {
-    if tokens::word(tokens, 1) == vocabulary::TRUSTED {
-        ask_of(desk, tokens, spaces::lent(desk, store, spaces::TRUSTED));
-    } else {
-        ask_of(desk, tokens, spaces::lent(desk, store, spaces::ORDINARY));
-    }
-}
-
-fn ask_of(desk: &mut Desk, tokens: &Tokens, space: &[u8]) {
+    let space = spaces::lent(desk, store, base_asked(tokens::word(tokens, 1)));
     match tokens::word(tokens, 0) {
         vocabulary::WALK => walking::ask(desk, tokens, space),
         vocabulary::DVSEC => reading::ask_dvsec(desk, tokens, space),
@@ -107,11 +95,21 @@ fn ask_of(desk: &mut Desk, tokens: &Tokens, space: &[u8]) {
     }
 }
 
+fn base_asked(name: usize) -> usize {
+    if name == vocabulary::TRUSTED {
+        spaces::TRUSTED
+    } else {
+        spaces::ORDINARY
+    }
+}
+
 fn perform_on_desk(desk: &mut Desk, tokens: &Tokens) {
     match tokens::word(tokens, 0) {
         vocabulary::HELP => helping::help(),
-        vocabulary::SHEET => begin_sheet(desk),
-        vocabulary::END => end_sheet(desk),
+        vocabulary::SHEET => {
+            change_sheet(desk, slots::at(desk, slots::LINE), faults::SHEET_AGAIN);
+        }
+        vocabulary::END => change_sheet(desk, 0, faults::NO_SHEET),
         vocabulary::ECHO => slots::set(desk, slots::ECHO, 1),
         _ => note(desk, tokens),
     }
@@ -148,20 +146,13 @@ fn slot_of(word: usize) -> usize {
     }
 }
 
-fn begin_sheet(desk: &mut Desk) {
-    if slots::at(desk, slots::SHEET) != 0 {
-        faults::tell_whole(desk, faults::SHEET_AGAIN);
+// The line where a sheet begins is kept, and 0 outside one: a sheet begins outside and ends inside.
+fn change_sheet(desk: &mut Desk, line: usize, fault: usize) {
+    let inside = slots::at(desk, slots::SHEET) != 0;
+    if inside == (line != 0) {
+        faults::tell_whole(desk, fault);
         return;
     }
-    slots::set(desk, slots::SHEET, slots::at(desk, slots::LINE));
-    done();
-}
-
-fn end_sheet(desk: &mut Desk) {
-    if slots::at(desk, slots::SHEET) == 0 {
-        faults::tell_whole(desk, faults::NO_SHEET);
-        return;
-    }
-    slots::set(desk, slots::SHEET, 0);
+    slots::set(desk, slots::SHEET, line);
     done();
 }

@@ -1,196 +1,107 @@
 // What a line may say. A statement is a word with its numbers; a question may have an expectation behind an arrow: clauses, each a word
 // with its numbers, parted by commas. The first token that does not fit is found before anything is done.
 use crate::faults;
+use crate::spaces;
 use crate::tokens;
 use crate::tokens::Tokens;
 use crate::vocabulary::*;
 
-// Before a word is read.
-const NOTHING: usize = 0;
-
-// The largest number there is.
-const ANY: usize = 0xffffffffffffffff;
-
 // The end of a space.
 const SPACE_END: usize = 0x1000;
 
-// What follows a word: whether the name of a list or space does, how many numbers at least and at most, how large the first and the
-// others may be, and whether they are an offset and what lies there, so that it has to fit into a space.
-struct Form {
-    named: bool,
-    least: usize,
-    most: usize,
-    first: usize,
-    others: usize,
-    fits: bool,
+// The columns of the table below, and what a row has.
+const LEAST: usize = 16;
+
+const MOST: usize = 19;
+
+const FIRST: usize = 22;
+
+const OTHERS: usize = 28;
+
+const NAME: usize = 34;
+
+const NAMES: usize = 36;
+
+const QUESTIONS: usize = 40;
+
+const ROW: usize = 47;
+
+// What a limit reads as that is none.
+const ANY: usize = 0xfffff;
+
+// What a column of one character reads as where there is no mark.
+const UNMARKED: usize = 16;
+
+// What follows each word, in the order of their numbers: how many numbers at least and at most; how large the first and the others may be;
+// which kind of name comes before them, of a list (0), a buffer (1) or a space (2); of which of these kinds it is a name itself; and of
+// which questions it may be expected: packet, reset, merge, walk, dvsec, dual.
+fn column(word: usize, from: usize, size: usize) -> usize {
+    let row = std::num::wrapping_sub_usize(word, HELP) % 64;
+    tokens::number_of(spaces::part(
+        b"help            00 00 00000 00000 - --- ------
+echo            00 00 00000 00000 - --- ------
+sheet           00 00 00000 00000 - --- ------
+end             00 00 00000 00000 - --- ------
+fresh           00 00 00000 00000 - --- ------
+open            00 00 00000 00000 - --- ------
+blank           00 00 00000 00000 - --- ------
+function        01 01 000FF 000FF - --- ------
+A               01 01 FFFFF FFFFF - --- ------
+B               01 01 FFFFF FFFFF - --- ------
+captured        02 02 000FF 000FF - --- 11----
+forgotten       00 00 00000 00000 - --- 11----
+ordinary        02 41 00FFF 000FF - -11 1-----
+trusted         02 41 00FFF 000FF - 111 1-----
+ordinary-rules  02 41 00FFF 000FF - -1- ------
+trusted-rules   02 41 00FFF 000FF - -1- ------
+chain           04 04 0FFFF 0FFFF 0 --- ------
+sizes           04 04 01001 01001 - --- ------
+room            01 01 FFFFF FFFFF - --- ------
+show            02 02 01000 01000 1 --- ------
+packet          00 40 000FF 000FF - --- ------
+reset           00 00 00000 00000 - --- ------
+merge           0D 0D 000FF 000FF - --- ------
+walk            00 00 00000 00000 0 --- ------
+dvsec           01 01 FFFFF FFFFF 2 --- ------
+dual            01 01 FFFFF FFFFF 2 --- ------
+number          01 01 00010 00010 - --- 1--111
+reply           01 14 000FF 000FF - --- 1-----
+bytes           04 04 000FF 000FF - --- --1---
+offsets         01 40 0FFFF 0FFFF - --- ---1--
+steps           03 03 003FE 0FFFF - --- ---1--
+header          04 04 0FFFF 0FFFF - --- ----1-
+body            02 02 01000 01000 - --- ----1-
+alternate       02 02 000FF 000FF - --- -----1
+compatible      00 00 00000 00000 - 1-- ------
+extended        00 00 00000 00000 - 1-- ------
+",
+        std::num::wrapping_add_usize(ROW * row, from),
+        size,
+    ))
 }
 
-fn numbers(least: usize, most: usize, largest: usize) -> Form {
-    Form {
-        named: false,
-        least,
-        most,
-        first: largest,
-        others: largest,
-        fits: false,
-    }
-}
-
-fn named(count: usize, largest: usize) -> Form {
-    Form {
-        named: true,
-        least: count,
-        most: count,
-        first: largest,
-        others: largest,
-        fits: false,
-    }
-}
-
-// An offset and the bytes there.
-fn bytes_at() -> Form {
-    Form {
-        named: false,
-        least: 2,
-        most: 65,
-        first: 0xfff,
-        others: 0xff,
-        fits: true,
-    }
-}
-
-// So many offsets, the first, and the step, which may go down.
-fn steps() -> Form {
-    Form {
-        named: false,
-        least: 3,
-        most: 3,
-        first: 0x3fe,
-        others: 0xffff,
-        fits: false,
-    }
-}
-
-fn form_of(word: usize) -> Form {
-    match word {
-        PACKET => numbers(0, 64, 0xff),
-        ORDINARY | TRUSTED | ORDINARY_RULES | TRUSTED_RULES => bytes_at(),
-        FUNCTION => numbers(1, 1, 0xff),
-        NUMBER => numbers(1, 1, 0x10),
-        CAPTURED | ALTERNATE => numbers(2, 2, 0xff),
-        REPLY => numbers(1, 20, 0xff),
-        MERGE => numbers(13, 13, 0xff),
-        BYTES => numbers(4, 4, 0xff),
-        A | B | ROOM => numbers(1, 1, ANY),
-        SIZES => numbers(4, 4, 0x1001),
-        OFFSETS => numbers(1, 64, 0xffff),
-        STEPS => steps(),
-        HEADER => numbers(4, 4, 0xffff),
-        BODY => numbers(2, 2, 0x1000),
-        WALK => named(0, 0),
-        CHAIN => named(4, 0xffff),
-        DVSEC | DUAL => named(1, ANY),
-        SHOW => named(2, 0x1000),
-        _ => numbers(0, 0, 0),
-    }
-}
-
-fn is_statement(word: usize) -> bool {
-    match word {
-        HELP..=DUAL => true,
-        _ => false,
-    }
+fn is_marked(word: usize, column_of_mark: usize) -> bool {
+    column(word, column_of_mark, 1) == 1
 }
 
 // Whether a word names what another word is about.
 fn is_name(word: usize, name: usize) -> bool {
-    match word {
-        WALK | CHAIN => match name {
-            COMPATIBLE | EXTENDED | TRUSTED => true,
-            _ => false,
-        },
-        SHOW => match name {
-            ORDINARY | TRUSTED | ORDINARY_RULES | TRUSTED_RULES => true,
-            _ => false,
-        },
-        _ => match name {
-            ORDINARY | TRUSTED => true,
-            _ => false,
-        },
-    }
+    is_marked(name, std::num::wrapping_add_usize(NAMES, column(word, NAME, 1)))
 }
 
-// What may be expected of a question. Of all else nothing may.
+// Whether a word may be expected of a question.
 fn is_clause(question: usize, word: usize) -> bool {
-    match question {
-        PACKET => match word {
-            NUMBER | REPLY | CAPTURED | FORGOTTEN | ORDINARY | TRUSTED => true,
-            _ => false,
-        },
-        RESET => match word {
-            CAPTURED | FORGOTTEN => true,
-            _ => false,
-        },
-        MERGE => word == BYTES,
-        WALK => match word {
-            NUMBER | OFFSETS | STEPS => true,
-            _ => false,
-        },
-        DVSEC => match word {
-            NUMBER | HEADER | BODY => true,
-            _ => false,
-        },
-        DUAL => match word {
-            NUMBER | ALTERNATE => true,
-            _ => false,
-        },
-        _ => false,
-    }
+    is_marked(
+        word,
+        std::num::wrapping_add_usize(QUESTIONS, std::num::wrapping_sub_usize(question, PACKET)),
+    )
 }
 
-fn is_question(word: usize) -> bool {
-    match word {
-        PACKET..=DUAL => true,
-        _ => false,
+fn is_within(word: usize, first: usize, last: usize) -> bool {
+    if word < first {
+        return false;
     }
-}
-
-fn has_number(question: usize) -> bool {
-    match question {
-        RESET | MERGE => false,
-        _ => true,
-    }
-}
-
-// A clause, or the other one of its pair, stands before `place` already.
-fn is_said(tokens: &Tokens, arrow: usize, place: usize, word: usize) -> bool {
-    if tokens::find(tokens, arrow, place, word) < place {
-        return true;
-    }
-    tokens::find(tokens, arrow, place, other_of(word)) < place
-}
-
-// Of two words that say the same in two ways, the other one.
-fn other_of(word: usize) -> usize {
-    match word {
-        CAPTURED => FORGOTTEN,
-        FORGOTTEN => CAPTURED,
-        OFFSETS => STEPS,
-        STEPS => OFFSETS,
-        _ => word,
-    }
-}
-
-// How far a line is read: its statement; where its arrow stands, or 0; the word whose numbers are read, whether that has its name, how
-// many numbers it has, and the first; and the fault, if one was met.
-struct Reading {
-    statement: usize,
-    arrow: usize,
-    word: usize,
-    named: bool,
-    given: usize,
-    first: usize,
-    fault: usize,
+    word <= last
 }
 
 pub struct Fault {
@@ -198,203 +109,116 @@ pub struct Fault {
     pub place: usize,
 }
 
-// The first token that does not fit, or that the line breaks off, or no fault.
+// The first token that does not fit, or that the line breaks off, or no fault. A clause, as the statement, begins with its head.
 pub fn fault_of(tokens: &Tokens, count: usize) -> Fault {
-    let mut reading = Reading {
-        statement: NOTHING,
-        arrow: 0,
-        word: NOTHING,
-        named: false,
-        given: 0,
-        first: 0,
-        fault: faults::NONE,
-    };
+    let mut head = 0;
     let mut place = 0;
     while place < count {
-        reading = reading.with_token(tokens, place);
-        if reading.fault != faults::NONE {
-            return Fault {
-                what: reading.fault,
-                place,
-            };
+        let what = fault_at(tokens, head, place);
+        if what != faults::NONE {
+            return Fault { what, place };
+        }
+        if ARROW <= tokens::word(tokens, place) {
+            head = place + 1;
         }
         place += 1;
     }
     Fault {
-        what: reading.end(),
+        what: fault_of_end(tokens, head, place),
         place,
     }
 }
 
-impl Reading {
-    fn with_token(self, tokens: &Tokens, place: usize) -> Reading {
-        let token = tokens::word(tokens, place);
-        match token {
-            NUMERAL => self.with_number(tokens::at(tokens, place)),
-            UNKNOWN => self.faulty(unknown(self.statement)),
-            ARROW => self.with_arrow(place),
-            COMMA => self.with_comma(),
-            _ => self.with_word(tokens, place, token),
-        }
-    }
-
-    fn faulty(self, fault: usize) -> Reading {
-        let mut next = self;
-        next.fault = fault;
-        next
-    }
-
-    fn with_number(self, number: usize) -> Reading {
-        let mut next = self;
-        let form = form_of(self.word);
-        if self.word == NOTHING {
-            return self.faulty(faults::NO_WORD);
-        }
-        if lacks_name(form, self.named) {
-            return self.faulty(faults::NO_NAME);
-        }
-        if form.most <= self.given {
-            return self.faulty(faults::TOO_MANY);
-        }
-        let fault = fault_of_number(self.word, form, self.given, self.first, number);
-        if fault != faults::NONE {
-            return self.faulty(fault);
-        }
-        if self.given == 0 {
-            next.first = number;
-        }
-        next.given = std::num::wrapping_add_usize(self.given, 1);
-        next
-    }
-
-    fn with_arrow(self, place: usize) -> Reading {
-        let fault = self.end();
-        if fault != faults::NONE {
-            return self.faulty(fault);
-        }
-        if self.arrow != 0 {
-            return self.faulty(faults::ARROW_AGAIN);
-        }
-        if !is_question(self.statement) {
-            return self.faulty(faults::NO_QUESTION);
-        }
-        let mut next = self;
-        next.arrow = place;
-        next.word = NOTHING;
-        next
-    }
-
-    fn with_comma(self) -> Reading {
-        let fault = self.end();
-        if fault != faults::NONE {
-            return self.faulty(fault);
-        }
-        if self.arrow == 0 {
-            return self.faulty(faults::COMMA);
-        }
-        let mut next = self;
-        next.word = NOTHING;
-        next
-    }
-
-    fn with_word(self, tokens: &Tokens, place: usize, word: usize) -> Reading {
-        let mut next = self;
-        if self.statement == NOTHING {
-            if !is_statement(word) {
-                return self.faulty(faults::NO_STATEMENT);
-            }
-            next.statement = word;
-            return next.begun(word);
-        }
-        if self.word == NOTHING {
-            return self.with_clause(tokens, place, word);
-        }
-        if lacks_name(form_of(self.word), self.named) {
-            if !is_name(self.word, word) {
-                return self.faulty(faults::NO_NAME);
-            }
-            next.named = true;
-            return next;
-        }
-        self.faulty(faults::NO_NUMBER)
-    }
-
-    fn with_clause(self, tokens: &Tokens, place: usize, word: usize) -> Reading {
-        if !is_clause(self.statement, word) {
-            return self.faulty(faults::NO_CLAUSE);
-        }
-        if is_said(tokens, self.arrow, place, word) {
-            return self.faulty(faults::AGAIN);
-        }
-        if has_number(self.statement) {
-            if tokens::find(tokens, self.arrow, place, NUMBER) == place {
-                if word != NUMBER {
-                    return self.faulty(faults::NUMBER_FIRST);
-                }
-            }
-        }
-        self.begun(word)
-    }
-
-    fn begun(self, word: usize) -> Reading {
-        let mut next = self;
-        next.word = word;
-        next.named = false;
-        next.given = 0;
-        next
-    }
-
-    // What is missing where the word's numbers end.
-    fn end(self) -> usize {
-        let form = form_of(self.word);
-        if self.word == NOTHING {
-            return faults::NO_WORD;
-        }
-        if lacks_name(form, self.named) {
-            return faults::NO_NAME;
-        }
-        if self.given < form.least {
-            return faults::TOO_FEW;
-        }
-        faults::NONE
+fn fault_at(tokens: &Tokens, head: usize, place: usize) -> usize {
+    let token = tokens::word(tokens, place);
+    match token {
+        NUMERAL => fault_of_number(tokens, head, place),
+        UNKNOWN => fault_of_unknown(place),
+        ARROW | COMMA => fault_of_mark(tokens, head, place),
+        _ => fault_of_word(tokens, head, place),
     }
 }
 
-fn unknown(statement: usize) -> usize {
-    if statement == NOTHING {
+fn fault_of_unknown(place: usize) -> usize {
+    if place == 0 {
         faults::NO_STATEMENT
     } else {
         faults::UNKNOWN
     }
 }
 
-fn lacks_name(form: Form, has: bool) -> bool {
-    let wants = form.named;
-    if wants { !has } else { false }
+// Where the numbers of a head begin: behind it, and behind the name that it wants.
+fn numbers_begin(tokens: &Tokens, head: usize) -> usize {
+    if column(tokens::word(tokens, head), NAME, 1) == UNMARKED {
+        return std::num::wrapping_add_usize(head, 1);
+    }
+    std::num::wrapping_add_usize(head, 2)
 }
 
-fn largest(form: Form, given: usize) -> usize {
-    if given == 0 { form.first } else { form.others }
+// What is wanted where the numbers of a head have not begun.
+fn wanted_first(head: usize, place: usize) -> usize {
+    if head == place {
+        faults::NO_WORD
+    } else {
+        faults::NO_NAME
+    }
+}
+
+fn fault_of_number(tokens: &Tokens, head: usize, place: usize) -> usize {
+    let begin = numbers_begin(tokens, head);
+    let word = tokens::word(tokens, head);
+    if place < begin {
+        return wanted_first(head, place);
+    }
+    if column(word, MOST, 2) <= place - begin {
+        return faults::TOO_MANY;
+    }
+    fault_of_value(
+        word,
+        tokens::at(tokens, begin),
+        place - begin,
+        tokens::at(tokens, place),
+    )
 }
 
 // What is wrong with a number behind a word that has so many already, of which this is the first.
-fn fault_of_number(word: usize, form: Form, given: usize, first: usize, number: usize) -> usize {
-    if largest(form, given) < number {
+fn fault_of_value(word: usize, first: usize, given: usize, number: usize) -> usize {
+    if is_too_large(word, given, number) {
         return faults::TOO_LARGE;
+    }
+    if SPACE_END < end_of(word, first, given, number) {
+        return faults::NO_FIT;
     }
     if word == NUMBER {
         return fault_of_answer(number);
     }
-    if word == MERGE {
-        return fault_of_enables(given, number);
-    }
-    if given == 0 {
-        return faults::NONE;
-    }
-    if SPACE_END < end_of(word, form, given, first, number) {
-        return faults::NO_FIT;
-    }
     faults::NONE
+}
+
+// The last number of a merge is the enables, four bits.
+fn is_too_large(word: usize, given: usize, number: usize) -> bool {
+    if word == MERGE {
+        if given == 12 {
+            return 0xf < number;
+        }
+    }
+    let largest = column(word, if given == 0 { FIRST } else { OTHERS }, 5);
+    if largest == ANY {
+        return false;
+    }
+    largest < number
+}
+
+// Where the bytes end that are put, shown or expected from an offset on, or 0 where there are none yet.
+fn end_of(word: usize, offset: usize, given: usize, number: usize) -> usize {
+    if given == 0 {
+        return 0;
+    }
+    match word {
+        ORDINARY | TRUSTED | ORDINARY_RULES | TRUSTED_RULES => std::num::wrapping_add_usize(offset, given),
+        SHOW | BODY => std::num::wrapping_add_usize(offset, number),
+        _ => 0,
+    }
 }
 
 // An answer number is written in decimal.
@@ -406,26 +230,108 @@ fn fault_of_answer(number: usize) -> usize {
     }
 }
 
-// The last number of a merge is the enables, four bits.
-fn fault_of_enables(given: usize, number: usize) -> usize {
-    if given < 12 {
-        return faults::NONE;
+// What is missing where a head's numbers end.
+fn fault_of_end(tokens: &Tokens, head: usize, place: usize) -> usize {
+    let begin = numbers_begin(tokens, head);
+    if place < begin {
+        return wanted_first(head, place);
     }
-    if 0xf < number {
-        faults::TOO_LARGE
-    } else {
+    if place - begin < column(tokens::word(tokens, head), LEAST, 2) {
+        return faults::TOO_FEW;
+    }
+    faults::NONE
+}
+
+// An arrow or a comma.
+fn fault_of_mark(tokens: &Tokens, head: usize, place: usize) -> usize {
+    let fault = fault_of_end(tokens, head, place);
+    let arrow = tokens::arrow(tokens);
+    if fault != faults::NONE {
+        return fault;
+    }
+    if tokens::word(tokens, place) == COMMA {
+        return if place < arrow { faults::COMMA } else { faults::NONE };
+    }
+    if arrow < place {
+        return faults::ARROW_AGAIN;
+    }
+    if is_within(tokens::word(tokens, 0), PACKET, DUAL) {
         faults::NONE
+    } else {
+        faults::NO_QUESTION
     }
 }
 
-// Where the bytes end that are put, shown or expected from an offset on, or 0 where there are none.
-fn end_of(word: usize, form: Form, given: usize, offset: usize, number: usize) -> usize {
-    let fits = form.fits;
-    if fits {
-        return std::num::wrapping_add_usize(offset, given);
+fn fault_of_word(tokens: &Tokens, head: usize, place: usize) -> usize {
+    if head == place {
+        return fault_of_head(tokens, place);
     }
+    if numbers_begin(tokens, head) <= place {
+        return faults::NO_NUMBER;
+    }
+    if is_name(tokens::word(tokens, head), tokens::word(tokens, place)) {
+        faults::NONE
+    } else {
+        faults::NO_NAME
+    }
+}
+
+fn fault_of_head(tokens: &Tokens, place: usize) -> usize {
+    if place != 0 {
+        return fault_of_clause(tokens, place);
+    }
+    if is_within(tokens::word(tokens, 0), HELP, DUAL) {
+        faults::NONE
+    } else {
+        faults::NO_STATEMENT
+    }
+}
+
+// Where a number can be expected, it comes first.
+fn fault_of_clause(tokens: &Tokens, place: usize) -> usize {
+    let word = tokens::word(tokens, place);
+    let question = tokens::word(tokens, 0);
+    if !is_clause(question, word) {
+        return faults::NO_CLAUSE;
+    }
+    if is_said(tokens, place, word) {
+        return faults::AGAIN;
+    }
+    if word != NUMBER {
+        if is_clause(question, NUMBER) {
+            return fault_of_first(tokens, place);
+        }
+    }
+    faults::NONE
+}
+
+fn fault_of_first(tokens: &Tokens, place: usize) -> usize {
+    if is_before(tokens, place, NUMBER) {
+        faults::NONE
+    } else {
+        faults::NUMBER_FIRST
+    }
+}
+
+// A clause, or the other one of its pair, stands before `place` already.
+fn is_said(tokens: &Tokens, place: usize, word: usize) -> bool {
+    if is_before(tokens, place, word) {
+        return true;
+    }
+    is_before(tokens, place, other_of(word))
+}
+
+fn is_before(tokens: &Tokens, place: usize, word: usize) -> bool {
+    tokens::find(tokens, tokens::arrow(tokens), place, word) < place
+}
+
+// Of two words that say the same in two ways, the other one.
+fn other_of(word: usize) -> usize {
     match word {
-        SHOW | BODY => std::num::wrapping_add_usize(offset, number),
-        _ => 0,
+        CAPTURED => FORGOTTEN,
+        FORGOTTEN => CAPTURED,
+        OFFSETS => STEPS,
+        STEPS => OFFSETS,
+        _ => word,
     }
 }

@@ -5,7 +5,6 @@ use crate::judging;
 use crate::slots;
 use crate::slots::Desk;
 use crate::spaces;
-use crate::spaces::STORE;
 use crate::spaces::Store;
 use crate::tokens;
 use crate::tokens::Tokens;
@@ -24,9 +23,8 @@ const UNTOUCHED: u8 = 0xee;
 type Reply = [u8; REPLY];
 
 pub fn ask(desk: &mut Desk, tokens: &Tokens, store: &mut Store) {
-    let mut before = [0u8; STORE];
     take_packet(store, tokens);
-    words::put(&mut before, 0, store);
+    let before = *store;
     let served = send(desk, tokens, store);
     let state = served.capture;
     answer(desk, tokens, served, &before, store);
@@ -130,8 +128,7 @@ fn tell_changes(desk: &mut Desk, before: &Store, after: &Store) {
 
 // The answer, and every byte as before, except those that are expected to be others.
 fn judge(desk: &mut Desk, tokens: &Tokens, served: Served, before: &Store, after: &Store) {
-    let mut wanted = [0u8; STORE];
-    words::put(&mut wanted, 0, before);
+    let mut wanted = *before;
     spaces::put_behind(&mut wanted, tokens, tokens::arrow(tokens), tokens::count(tokens));
     judge_answer(desk, tokens, served, after, &wanted);
     spaces::tell_differences(desk, true, after, &wanted);

@@ -2,6 +2,7 @@
 // is expected.
 use crate::explaining;
 use crate::judging;
+use crate::saying::number_at;
 use crate::slots::Desk;
 use crate::spaces;
 use crate::tokens;
@@ -79,7 +80,7 @@ fn answer(desk: &mut Desk, tokens: &Tokens, number: u8, fields: &[usize], body: 
 fn tell(fields: &[usize], body: &[u8]) {
     match fields.len() {
         0 => {}
-        2 => say_two(wording::ALTERNATE, field(fields, 0), field(fields, 1)),
+        2 => say_two(wording::ALTERNATE, number_at(fields, 0), number_at(fields, 1)),
         _ => tell_header(fields, body),
     }
 }
@@ -87,22 +88,14 @@ fn tell(fields: &[usize], body: &[u8]) {
 fn tell_header(fields: &[usize], body: &[u8]) {
     say_all(
         wording::HEADER,
-        field(fields, 0),
-        field(fields, 1),
-        field(fields, 2),
-        field(fields, 3),
+        number_at(fields, 0),
+        number_at(fields, 1),
+        number_at(fields, 2),
+        number_at(fields, 3),
         0,
     );
     spaces::tell_part(wording::BODY, body, 0, body.len());
     say(wording::END);
-}
-
-fn field(fields: &[usize], place: usize) -> usize {
-    if place < fields.len() {
-        fields[place]
-    } else {
-        0
-    }
 }
 
 // How many fields are told, and each of them. A question has one word for its fields.

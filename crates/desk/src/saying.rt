@@ -26,7 +26,7 @@ pub fn fill(text: &[u8], numbers: &[usize]) {
     }
 }
 
-fn number_at(numbers: &[usize], place: usize) -> usize {
+pub fn number_at(numbers: &[usize], place: usize) -> usize {
     if place < numbers.len() {
         numbers[place]
     } else {

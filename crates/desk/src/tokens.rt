@@ -111,7 +111,7 @@ fn is_number(text: &[u8]) -> bool {
 }
 
 // The value of a text that is a number.
-fn number_of(text: &[u8]) -> usize {
+pub fn number_of(text: &[u8]) -> usize {
     let mut number = 0;
     let mut at = 0;
     while at < text.len() {

@@ -5,16 +5,13 @@ use Rattle.desk.proofs.chaining.go_along.Statement.{statement}
 use Rattle.desk.proofs.chaining.go_along.Tie as tie
 
 abbrev Inv-loop : tie.InvT-loop
-Inv-loop store₀ tokens putting kind headers by at₀ done₀ store at done = Unit {0}
+Inv-loop store₀ tokens putting list headers by at₀ done₀ store at done = Unit {0}
 
 abbrev μ-loop : tie.MeasureT-loop
-μ-loop store₀ tokens putting kind headers by at₀ done₀ store at done = headers - done
+μ-loop store₀ tokens putting list headers by at₀ done₀ store at done = headers - done
 
 word-requires : tie.Need-word-requires Inv-loop μ-loop
 word-requires c κs = search needs
-
-kind-of-requires : tie.Need-kind-of-requires Inv-loop μ-loop
-kind-of-requires c κs = search needs
 
 at-requires : tie.Need-at-requires Inv-loop μ-loop
 at-requires c κs = search needs
@@ -68,7 +65,6 @@ go-along-spec =
     Inv-loop
     μ-loop
     word-requires
-    kind-of-requires
     at-requires
     at-requires-2
     at-requires-3

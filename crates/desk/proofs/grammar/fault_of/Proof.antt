@@ -5,19 +5,25 @@ use Rattle.desk.proofs.grammar.fault_of.Statement.{statement}
 use Rattle.desk.proofs.grammar.fault_of.Tie as tie
 
 abbrev Inv-loop : tie.InvT-loop
-Inv-loop tokens count reading₀ place₀ reading place = Unit {0}
+Inv-loop tokens count head₀ place₀ head place = Unit {0}
 
 abbrev μ-loop : tie.MeasureT-loop
-μ-loop tokens count reading₀ place₀ reading place = count - place
+μ-loop tokens count head₀ place₀ head place = count - place
 
 loop-holds : tie.Need-loop-holds Inv-loop μ-loop
 loop-holds c = search needs
 
-with-token-requires : tie.Need-with-token-requires Inv-loop μ-loop
-with-token-requires c κs = search needs
+fault-at-requires : tie.Need-fault-at-requires Inv-loop μ-loop
+fault-at-requires c κs = search needs
 
 returns : tie.Need-returns Inv-loop μ-loop
 returns c = search needs
+
+word-requires : tie.Need-word-requires Inv-loop μ-loop
+word-requires c κs = search needs
+
+add-head : tie.Need-add-head Inv-loop μ-loop
+add-head c = search needs
 
 add-place : tie.Need-add-place Inv-loop μ-loop
 add-place c = search needs
@@ -28,8 +34,8 @@ loop-less c = search needs
 loop-again : tie.Need-loop-again Inv-loop μ-loop
 loop-again c = search needs
 
-end-requires : tie.Need-end-requires Inv-loop μ-loop
-end-requires c κs = search needs
+fault-of-end-requires : tie.Need-fault-of-end-requires Inv-loop μ-loop
+fault-of-end-requires c κs = search needs
 
 returns-2 : tie.Need-returns-2 Inv-loop μ-loop
 returns-2 c = search needs
@@ -41,10 +47,12 @@ fault-of-spec =
     Inv-loop
     μ-loop
     loop-holds
-    with-token-requires
+    fault-at-requires
     returns
+    word-requires
+    add-head
     add-place
     loop-less
     loop-again
-    end-requires
+    fault-of-end-requires
     returns-2)
