@@ -133,17 +133,15 @@ fn fault_at(tokens: &Tokens, head: usize, place: usize) -> usize {
     let token = tokens::word(tokens, place);
     match token {
         NUMERAL => fault_of_number(tokens, head, place),
-        UNKNOWN => fault_of_unknown(place),
+        UNKNOWN => {
+            if place == 0 {
+                faults::NO_STATEMENT
+            } else {
+                faults::UNKNOWN
+            }
+        }
         ARROW | COMMA => fault_of_mark(tokens, head, place),
         _ => fault_of_word(tokens, head, place),
-    }
-}
-
-fn fault_of_unknown(place: usize) -> usize {
-    if place == 0 {
-        faults::NO_STATEMENT
-    } else {
-        faults::UNKNOWN
     }
 }
 
@@ -181,7 +179,7 @@ fn fault_of_number(tokens: &Tokens, head: usize, place: usize) -> usize {
     )
 }
 
-// What is wrong with a number behind a word that has so many already, of which this is the first.
+// What is wrong with a number behind a word that has so many already, of which this is the first. An answer number is written in decimal.
 fn fault_of_value(word: usize, first: usize, given: usize, number: usize) -> usize {
     if is_too_large(word, given, number) {
         return faults::TOO_LARGE;
@@ -190,7 +188,9 @@ fn fault_of_value(word: usize, first: usize, given: usize, number: usize) -> usi
         return faults::NO_FIT;
     }
     if word == NUMBER {
-        return fault_of_answer(number);
+        if 9 < number % 16 {
+            return faults::NO_ANSWER;
+        }
     }
     faults::NONE
 }
@@ -218,15 +218,6 @@ fn end_of(word: usize, offset: usize, given: usize, number: usize) -> usize {
         ORDINARY | TRUSTED | ORDINARY_RULES | TRUSTED_RULES => std::num::wrapping_add_usize(offset, given),
         SHOW | BODY => std::num::wrapping_add_usize(offset, number),
         _ => 0,
-    }
-}
-
-// An answer number is written in decimal.
-fn fault_of_answer(number: usize) -> usize {
-    if 9 < number % 16 {
-        faults::NO_ANSWER
-    } else {
-        faults::NONE
     }
 }
 
@@ -297,15 +288,12 @@ fn fault_of_clause(tokens: &Tokens, place: usize) -> usize {
     if is_said(tokens, place, word) {
         return faults::AGAIN;
     }
-    if word != NUMBER {
-        if is_clause(question, NUMBER) {
-            return fault_of_first(tokens, place);
-        }
+    if word == NUMBER {
+        return faults::NONE;
     }
-    faults::NONE
-}
-
-fn fault_of_first(tokens: &Tokens, place: usize) -> usize {
+    if !is_clause(question, NUMBER) {
+        return faults::NONE;
+    }
     if is_before(tokens, place, NUMBER) {
         faults::NONE
     } else {

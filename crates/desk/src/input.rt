@@ -43,13 +43,6 @@ pub fn keep_rest(piece: &mut [u8], from: usize, end: usize) -> usize {
     rest
 }
 
-// Where the line that begins at `from` ends: at its line end, or at `end` where that is not there yet.
-pub fn line_end(piece: &[u8], from: usize, end: usize) -> usize
-    ensures { λ r. ⌜ from ≤ r ⌝ }
-{
-    place_of(piece, from, end, b'\n')
-}
-
 // Where a byte stands from `from` on, or `end`.
 pub fn place_of(piece: &[u8], from: usize, end: usize, byte: u8) -> usize
     ensures { λ r. ⌜ from ≤ r ⌝ }

@@ -84,7 +84,7 @@ fn take_whole(desk: &mut Desk, line: &[u8], store: &mut Store) {
 fn take_lines(desk: &mut Desk, piece: &[u8; PIECE], end: usize, store: &mut Store) -> usize {
     let mut from = 0;
     while from < end {
-        let to = input::line_end(piece, from, end);
+        let to = input::place_of(piece, from, end, b'\n');
         if end <= to {
             return from;
         }

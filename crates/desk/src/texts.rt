@@ -23,7 +23,7 @@ pub fn place_of(text: &[u8], table: &[u8]) -> usize {
     let mut number = 0;
     let mut at = 0;
     while at < table.len() {
-        let end = input::line_end(table, at, table.len());
+        let end = input::place_of(table, at, table.len(), b'\n');
         if table.len() <= end {
             return NOWHERE;
         }
@@ -39,7 +39,7 @@ pub fn place_of(text: &[u8], table: &[u8]) -> usize {
 // The entry with this number, without its line end, or nothing.
 pub fn entry(table: &[u8], number: usize) -> &[u8] {
     let from = begin_of(table, number);
-    input::between(table, from, input::line_end(table, from, table.len()))
+    input::between(table, from, input::place_of(table, from, table.len(), b'\n'))
 }
 
 // Where the entry with this number begins, or the end of the table.
@@ -47,7 +47,7 @@ fn begin_of(table: &[u8], number: usize) -> usize {
     let mut at = 0;
     let mut left = number;
     while 0 < left {
-        let end = input::line_end(table, at, table.len());
+        let end = input::place_of(table, at, table.len(), b'\n');
         if table.len() <= end {
             return end;
         }

@@ -25,20 +25,20 @@ pub fn read(line: &[u8], tokens: &mut Tokens) {
     let mut at = 0;
     while at < line.len() {
         let end = end_of(line, at);
-        if line[at] == b'#' {
+        let first = line[at];
+        if first == b'#' {
             return;
         }
-        add(tokens, &line[at..end], at);
+        if !is_blank(first) {
+            add(tokens, &line[at..end], at);
+        }
         at = end;
     }
 }
 
-// One token more, unless it is a blank; TOO_MANY where there is no place for it.
+// One token more; TOO_MANY where there is no place for it.
 fn add(tokens: &mut Tokens, text: &[u8], begin: usize) {
     let count = tokens[COUNT];
-    if is_blank(first_of(text)) {
-        return;
-    }
     if MOST <= count {
         tokens[COUNT] = TOO_MANY;
         return;
@@ -47,10 +47,6 @@ fn add(tokens: &mut Tokens, text: &[u8], begin: usize) {
     tokens[MOST + count] = number_of(text);
     tokens[2 * MOST + count] = begin;
     tokens[COUNT] = count + 1;
-}
-
-fn first_of(text: &[u8]) -> u8 {
-    if text.len() == 0 { b' ' } else { text[0] }
 }
 
 fn is_blank(byte: u8) -> bool {

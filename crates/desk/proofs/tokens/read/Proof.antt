@@ -17,11 +17,14 @@ loop-holds c = search needs
 end-of-requires : tie.Need-end-of-requires Inv-loop μ-loop
 end-of-requires c κs = search needs
 
-shared-slice-read-if1 : tie.Need-shared-slice-read-if1 Inv-loop μ-loop
-shared-slice-read-if1 c = search needs
+shared-slice-read-first : tie.Need-shared-slice-read-first Inv-loop μ-loop
+shared-slice-read-first c = search needs
 
 returns : tie.Need-returns Inv-loop μ-loop
 returns c = search needs
+
+is-blank-requires : tie.Need-is-blank-requires Inv-loop μ-loop
+is-blank-requires c κs = search needs
 
 sub-add : tie.Need-sub-add Inv-loop μ-loop
 sub-add c = search needs
@@ -41,6 +44,12 @@ loop-less c = search needs
 loop-again : tie.Need-loop-again Inv-loop μ-loop
 loop-again c = search needs
 
+loop-less-2 : tie.Need-loop-less-2 Inv-loop μ-loop
+loop-less-2 c = search needs
+
+loop-again-2 : tie.Need-loop-again-2 Inv-loop μ-loop
+loop-again-2 c = search needs
+
 returns-2 : tie.Need-returns-2 Inv-loop μ-loop
 returns-2 c = search needs
 
@@ -52,12 +61,15 @@ read-spec =
     μ-loop
     loop-holds
     end-of-requires
-    shared-slice-read-if1
+    shared-slice-read-first
     returns
+    is-blank-requires
     sub-add
     part-add-start
     part-add-end
     add-requires
     loop-less
     loop-again
+    loop-less-2
+    loop-again-2
     returns-2)
