@@ -52,7 +52,11 @@ fn put_header(store: &mut Store, list: usize, at: usize, next: usize) {
     match list {
         vocabulary::COMPATIBLE => put_short(store, at, next),
         vocabulary::EXTENDED => put_long(store, at, next),
-        _ => put_long(store, std::num::wrapping_add_usize(spaces::TRUSTED, at), next),
+        _ => put_long(
+            store,
+            std::num::wrapping_add_usize(spaces::TRUSTED, at),
+            next,
+        ),
     }
 }
 
@@ -63,7 +67,11 @@ fn put_short(store: &mut Store, place: usize, next: usize) {
 
 // ID 15:0, version 19:16, next 31:20.
 fn put_long(store: &mut Store, place: usize, next: usize) {
-    words::put(store, place, &[0x0b, 0x00, low(next) << 4 | 0x01, low(next >> 4)]);
+    words::put(
+        store,
+        place,
+        &[0x0b, 0x00, low(next) << 4 | 0x01, low(next >> 4)],
+    );
 }
 
 fn low(number: usize) -> u8 {

@@ -86,7 +86,10 @@ fn is_marked(word: usize, column_of_mark: usize) -> bool {
 
 // Whether a word names what another word is about.
 fn is_name(word: usize, name: usize) -> bool {
-    is_marked(name, std::num::wrapping_add_usize(NAMES, column(word, NAME, 1)))
+    is_marked(
+        name,
+        std::num::wrapping_add_usize(NAMES, column(word, NAME, 1)),
+    )
 }
 
 // Whether a word may be expected of a question.
@@ -215,7 +218,10 @@ fn end_of(word: usize, offset: usize, given: usize, number: usize) -> usize {
         return 0;
     }
     match word {
-        ORDINARY | TRUSTED | ORDINARY_RULES | TRUSTED_RULES => std::num::wrapping_add_usize(offset, given),
+        ORDINARY | TRUSTED | ORDINARY_RULES | TRUSTED_RULES => std::num::wrapping_add_usize(
+            offset,
+            given,
+        ),
         SHOW | BODY => std::num::wrapping_add_usize(offset, number),
         _ => 0,
     }
@@ -241,7 +247,11 @@ fn fault_of_mark(tokens: &Tokens, head: usize, place: usize) -> usize {
         return fault;
     }
     if tokens::word(tokens, place) == COMMA {
-        return if place < arrow { faults::COMMA } else { faults::NONE };
+        return if place < arrow {
+            faults::COMMA
+        } else {
+            faults::NONE
+        };
     }
     if arrow < place {
         return faults::ARROW_AGAIN;

@@ -1,11 +1,11 @@
 // The piece of the input that is in memory: read after what is left of the piece before.
 ghost use Prim.Native.Nat.{_≤_};
 ghost use lib.ListN.{length};
-use crate::slots;
+use crate::faults;
 use crate::slots::Desk;
 use libc::STDIN_FILENO;
 
-// Reads more, after the `rest` bytes that the piece begins with, and answers where it ends now: not past `rest` where nothing came. Notes
+// Reads more, after the `rest` bytes that the piece begins with, and answers where it ends now: not past `rest` where nothing came. Tells
 // where that is because the input could not be read.
 pub fn read_more(desk: &mut Desk, piece: &mut [u8], rest: usize) -> usize
     ensures { λ r. ⌜ r ≤ length (now (piece .exit)) ⌝ }
@@ -16,14 +16,18 @@ pub fn read_more(desk: &mut Desk, piece: &mut [u8], rest: usize) -> usize
     let free = &mut piece[rest..];
     let got = libc::read(STDIN_FILENO, free);
     if got < 0 {
-        slots::set(desk, slots::UNREAD, 1);
+        faults::tell_whole(desk, faults::UNREAD);
     }
     rest + io::count(got, free)
 }
 
 // 1 where somebody types the input.
 pub fn is_typed() -> usize {
-    if libc::isatty(STDIN_FILENO) == 1 { 1 } else { 0 }
+    if libc::isatty(STDIN_FILENO) == 1 {
+        1
+    } else {
+        0
+    }
 }
 
 // Moves what stands from `from` to `end` to the front, and answers how many bytes these are.

@@ -43,12 +43,25 @@ pub fn sent<'a>(tokens: &Tokens, store: &'a [u8]) -> &'a [u8] {
     spaces::part(store, spaces::PACKET, length)
 }
 
-// The board is lent its buffers out of the store, and what it leaves in the spaces and the reply is put back.
+// The board is lent its buffers out of the store, each as far as the desk says, and what it leaves in the spaces and the reply is put back.
 fn send(desk: &Desk, tokens: &Tokens, store: &mut Store) -> Served {
     let mut ordinary = spaces::copy_of(store, spaces::ORDINARY);
     let mut trusted = spaces::copy_of(store, spaces::TRUSTED);
     let mut reply = [UNTOUCHED; REPLY];
-    let served = serve(desk, tokens, store, &mut ordinary, &mut trusted, &mut reply);
+    let first = spaces::within(spaces::lent_size(desk, spaces::ORDINARY), &ordinary);
+    let second = spaces::within(spaces::lent_size(desk, spaces::TRUSTED), &trusted);
+    let room = spaces::within(slots::at(desk, slots::ROOM), &reply);
+    let rules = &*store;
+    let served = board::serve(
+        description_of(desk),
+        capture_of(desk),
+        &mut ordinary[..first],
+        spaces::lent(desk, rules, spaces::ORDINARY_RULES),
+        &mut trusted[..second],
+        spaces::lent(desk, rules, spaces::TRUSTED_RULES),
+        sent(tokens, rules),
+        &mut reply[..room],
+    );
     spaces::put_back(store, spaces::ORDINARY, &ordinary);
     spaces::put_back(store, spaces::TRUSTED, &trusted);
     keep_reply(store, &reply);
@@ -57,30 +70,6 @@ fn send(desk: &Desk, tokens: &Tokens, store: &mut Store) -> Served {
 
 fn keep_reply(store: &mut Store, reply: &Reply) {
     words::put(store, spaces::REPLY, reply);
-}
-
-// Each buffer is lent as far as the desk says.
-fn serve(
-    desk: &Desk,
-    tokens: &Tokens,
-    store: &Store,
-    ordinary: &mut [u8],
-    trusted: &mut [u8],
-    reply: &mut [u8],
-) -> Served {
-    let first = spaces::within(spaces::lent_size(desk, spaces::ORDINARY), ordinary);
-    let second = spaces::within(spaces::lent_size(desk, spaces::TRUSTED), trusted);
-    let room = spaces::within(slots::at(desk, slots::ROOM), reply);
-    board::serve(
-        description_of(desk),
-        capture_of(desk),
-        &mut ordinary[..first],
-        spaces::lent(desk, store, spaces::ORDINARY_RULES),
-        &mut trusted[..second],
-        spaces::lent(desk, store, spaces::TRUSTED_RULES),
-        sent(tokens, store),
-        &mut reply[..room],
-    )
 }
 
 pub fn description_of(desk: &Desk) -> Description {
@@ -129,7 +118,12 @@ fn tell_changes(desk: &mut Desk, before: &Store, after: &Store) {
 // The answer, and every byte as before, except those that are expected to be others.
 fn judge(desk: &mut Desk, tokens: &Tokens, served: Served, before: &Store, after: &Store) {
     let mut wanted = *before;
-    spaces::put_behind(&mut wanted, tokens, tokens::arrow(tokens), tokens::count(tokens));
+    spaces::put_behind(
+        &mut wanted,
+        tokens,
+        tokens::arrow(tokens),
+        tokens::count(tokens),
+    );
     judge_answer(desk, tokens, served, after, &wanted);
     spaces::tell_differences(desk, true, after, &wanted);
 }

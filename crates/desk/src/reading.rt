@@ -80,7 +80,11 @@ fn answer(desk: &mut Desk, tokens: &Tokens, number: u8, fields: &[usize], body: 
 fn tell(fields: &[usize], body: &[u8]) {
     match fields.len() {
         0 => {}
-        2 => say_two(wording::ALTERNATE, number_at(fields, 0), number_at(fields, 1)),
+        2 => say_two(
+            wording::ALTERNATE,
+            number_at(fields, 0),
+            number_at(fields, 1),
+        ),
         _ => tell_header(fields, body),
     }
 }

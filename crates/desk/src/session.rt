@@ -162,9 +162,6 @@ fn tell_end(desk: &mut Desk) {
     if slots::at(desk, slots::PROMPT) != 0 {
         say(wording::END);
     }
-    if slots::at(desk, slots::UNREAD) != 0 {
-        faults::tell_whole(desk, faults::UNREAD);
-    }
     if slots::at(desk, slots::SHEET) != 0 {
         faults::tell_whole(desk, faults::NO_END);
     }

@@ -1,5 +1,5 @@
 // What the desk keeps in numbers from line to line, each at a place of its own.
-pub const SLOTS: usize = 20;
+pub const SLOTS: usize = 19;
 
 // The line's number; how many statements had an expectation, and how many of them were right; how many lines were not understood.
 pub const LINE: usize = 0;
@@ -41,14 +41,11 @@ pub const ROOM: usize = 15;
 // The rest of a line that is too long is being read past.
 pub const SKIPPING: usize = 16;
 
-// The input could not be read to its end.
-pub const UNREAD: usize = 17;
-
 // Somebody types, and is asked for each line.
-pub const PROMPT: usize = 18;
+pub const PROMPT: usize = 17;
 
 // How many bytes of a line that is not whole yet the piece begins with.
-pub const REST: usize = 19;
+pub const REST: usize = 18;
 
 // The capture while there is none: over every bus and device.
 pub const NOTHING: usize = 0x10000;

@@ -12,7 +12,6 @@ use crate::vocabulary;
 use crate::wording;
 use crate::wording::say;
 use crate::wording::say_one;
-ghost use Prim.Native.Nat.{_≤_};
 ghost use Rattle.io.specs.Counts.{Counts};
 
 // The bytes of each of the four: a few more than a space has, so that one of another size can be lent.
@@ -88,7 +87,10 @@ pub fn lent<'a>(desk: &Desk, store: &'a [u8], base: usize) -> &'a [u8] {
 
 // How much of a buffer the desk lends.
 pub fn lent_size(desk: &Desk, base: usize) -> usize {
-    slots::at(desk, std::num::wrapping_add_usize(slots::ORDINARY_SIZE, base / LONG))
+    slots::at(
+        desk,
+        std::num::wrapping_add_usize(slots::ORDINARY_SIZE, base / LONG),
+    )
 }
 
 // A buffer of the store, and back.
@@ -136,34 +138,17 @@ pub fn value_of(bytes: &[u8], at: usize) -> usize {
     byte_of(bytes, at) as usize
 }
 
-// The first place of the board from `from` on where two stores differ, or the board's end where they do not.
-fn next_difference(one: &Store, other: &Store, from: usize) -> usize
-    ensures { λ r. ⌜ from ≤ r ⌝ }
-{
-    let mut at = from;
-    while at < BOARD_END {
-        if one[at] != other[at] {
-            return at;
-        }
-        at += 1;
-    }
-    at
-}
-
 // Tells every word in which two boards differ: as it was and as it is, or as it is and as it should be. Answers how many there are.
 pub fn tell_differences(desk: &mut Desk, judging: bool, one: &Store, other: &Store) -> usize {
-    let mut at = 0;
+    let mut word = 0;
     let mut told = 0;
-    while at < BOARD_END {
-        let place = next_difference(one, other, at);
-        if BOARD_END <= place {
-            return told;
+    while word < BOARD_END {
+        if words::word(one, word) != words::word(other, word) {
+            tell_place(desk, judging, word);
+            tell_both(judging, part(one, word, 4), part(other, word, 4));
+            told = std::num::wrapping_add_usize(told, 1);
         }
-        let word = place - place % 4;
-        tell_place(desk, judging, word);
-        tell_both(judging, part(one, word, 4), part(other, word, 4));
-        told = std::num::wrapping_add_usize(told, 1);
-        at = word + 4;
+        word += 4;
     }
     told
 }
@@ -180,7 +165,10 @@ fn tell_place(desk: &mut Desk, judging: bool, word: usize) {
 
 // The name of a buffer.
 fn put_buffer(number: usize) {
-    put(texts::entry(b"ordinary \nordinary-rules \ntrusted \ntrusted-rules \n", number));
+    put(texts::entry(
+        b"ordinary \nordinary-rules \ntrusted \ntrusted-rules \n",
+        number,
+    ));
 }
 
 // Four bytes as they were or are, and as they are or should be.

@@ -39,7 +39,11 @@ pub fn place_of(text: &[u8], table: &[u8]) -> usize {
 // The entry with this number, without its line end, or nothing.
 pub fn entry(table: &[u8], number: usize) -> &[u8] {
     let from = begin_of(table, number);
-    input::between(table, from, input::place_of(table, from, table.len(), b'\n'))
+    input::between(
+        table,
+        from,
+        input::place_of(table, from, table.len(), b'\n'),
+    )
 }
 
 // Where the entry with this number begins, or the end of the table.

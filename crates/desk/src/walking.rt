@@ -35,18 +35,14 @@ pub fn kind_of(name: usize) -> Kind {
 pub fn ask(desk: &mut Desk, tokens: &Tokens, space: &[u8]) {
     let mut room = [UNTOUCHED; ROOM];
     let kind = kind_of(tokens::word(tokens, 1));
-    let walked = walk(kind, space, slots::at(desk, slots::ROOM), &mut room);
+    let lent = within_room(slots::at(desk, slots::ROOM), &room);
+    let walked = lists::walk(kind, space, &mut room[..lent]);
     if judging::begins(desk, tokens) {
         judge(desk, tokens, walked, &room);
     }
     if judging::is_told(desk) {
         tell(kind, space, walked, &room);
     }
-}
-
-fn walk(kind: Kind, space: &[u8], entries: usize, room: &mut [u16]) -> Walked {
-    let lent = within_room(entries, room);
-    lists::walk(kind, space, &mut room[..lent])
 }
 
 fn within_room(size: usize, room: &[u16]) -> usize
@@ -80,7 +76,13 @@ fn judge_entries(desk: &mut Desk, room: &Room, wanted: &Room) {
 }
 
 fn differ(desk: &mut Desk, entry: usize, found: u16, wanted: u16) {
-    judging::entry(desk, wording::WRONG_ENTRY, entry, found as usize, wanted as usize);
+    judging::entry(
+        desk,
+        wording::WRONG_ENTRY,
+        entry,
+        found as usize,
+        wanted as usize,
+    );
 }
 
 fn first_difference(one: &Room, other: &Room) -> usize {
@@ -158,7 +160,12 @@ fn tell_header(kind: Kind, space: &[u8], offset: u16) {
     match kind {
         Kind::Compatible => say_two(wording::SHORT_HEADER, at, word as usize),
         Kind::Extended | Kind::Trusted => {
-            say_three(wording::LONG_HEADER, at, word as usize, (word >> 16) as usize);
+            say_three(
+                wording::LONG_HEADER,
+                at,
+                word as usize,
+                (word >> 16) as usize,
+            );
         }
     }
 }

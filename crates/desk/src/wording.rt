@@ -106,7 +106,14 @@ pub const LINE_END: usize = 45;
 pub const TALLY: usize = 46;
 
 // A text with its numbers, as many as it has places for.
-pub fn say_all(number: usize, first: usize, second: usize, third: usize, fourth: usize, fifth: usize) {
+pub fn say_all(
+    number: usize,
+    first: usize,
+    second: usize,
+    third: usize,
+    fourth: usize,
+    fifth: usize,
+) {
     let text = texts::entry(
         b"as expected%n
 ok%n

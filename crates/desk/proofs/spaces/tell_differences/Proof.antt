@@ -5,22 +5,19 @@ use Rattle.desk.proofs.spaces.tell_differences.Statement.{statement}
 use Rattle.desk.proofs.spaces.tell_differences.Tie as tie
 
 abbrev Inv-loop : tie.InvT-loop
-Inv-loop desk₀ judging one other at₀ told₀ desk at told = Unit {0}
+Inv-loop desk₀ judging one other word₀ told₀ desk word told = Unit {0}
 
 abbrev μ-loop : tie.MeasureT-loop
-μ-loop desk₀ judging one other at₀ told₀ desk at told = 16400 - at
+μ-loop desk₀ judging one other word₀ told₀ desk word told = 16400 - word
 
 loop-holds : tie.Need-loop-holds Inv-loop μ-loop
 loop-holds c = search needs
 
-next-difference-requires : tie.Need-next-difference-requires Inv-loop μ-loop
-next-difference-requires c κs = search needs
+word-requires : tie.Need-word-requires Inv-loop μ-loop
+word-requires c κs = search needs
 
-returns : tie.Need-returns Inv-loop μ-loop
-returns c = search needs
-
-sub-word : tie.Need-sub-word Inv-loop μ-loop
-sub-word c = search needs
+word-requires-2 : tie.Need-word-requires-2 Inv-loop μ-loop
+word-requires-2 c κs = search needs
 
 tell-place-requires : tie.Need-tell-place-requires Inv-loop μ-loop
 tell-place-requires c κs = search needs
@@ -37,8 +34,8 @@ tell-both-requires c κs = search needs
 wrapping-add-usize-requires : tie.Need-wrapping-add-usize-requires Inv-loop μ-loop
 wrapping-add-usize-requires c κs = search needs
 
-add-at : tie.Need-add-at Inv-loop μ-loop
-add-at c = search needs
+add-word : tie.Need-add-word Inv-loop μ-loop
+add-word c = search needs
 
 loop-less : tie.Need-loop-less Inv-loop μ-loop
 loop-less c = search needs
@@ -46,8 +43,8 @@ loop-less c = search needs
 loop-again : tie.Need-loop-again Inv-loop μ-loop
 loop-again c = search needs
 
-returns-2 : tie.Need-returns-2 Inv-loop μ-loop
-returns-2 c = search needs
+returns : tie.Need-returns Inv-loop μ-loop
+returns c = search needs
 
 pub tell-differences-spec : {M : Type 1} → statement M
 tell-differences-spec =
@@ -56,15 +53,14 @@ tell-differences-spec =
     Inv-loop
     μ-loop
     loop-holds
-    next-difference-requires
-    returns
-    sub-word
+    word-requires
+    word-requires-2
     tell-place-requires
     part-requires
     part-requires-2
     tell-both-requires
     wrapping-add-usize-requires
-    add-at
+    add-word
     loop-less
     loop-again
-    returns-2)
+    returns)
