@@ -2,6 +2,7 @@
 use crate::chaining;
 use crate::faults;
 use crate::helping;
+use crate::judging;
 use crate::packets;
 use crate::reading;
 use crate::slots;
@@ -67,12 +68,13 @@ fn put_chain(desk: &mut Desk, tokens: &Tokens, store: &mut Store) {
 
 // A question is lent what was said before it, and the next one everything again.
 fn ask(desk: &mut Desk, tokens: &Tokens, store: &mut Store) {
-    match tokens::word(tokens, 0) {
+    let right = match tokens::word(tokens, 0) {
         vocabulary::PACKET => packets::ask(desk, tokens, store),
         vocabulary::RESET => packets::reset(desk, tokens),
         vocabulary::MERGE => packets::merge(desk, tokens),
         _ => ask_of_space(desk, tokens, store),
-    }
+    };
+    judging::count(desk, tokens, right);
     slots::lend_all(desk);
 }
 
@@ -86,7 +88,7 @@ fn show(tokens: &Tokens, store: &Store) {
 }
 
 // A question about one space, lent as far as the desk says: the trusted one where that is named, else the ordinary one.
-fn ask_of_space(desk: &mut Desk, tokens: &Tokens, store: &Store) {
+fn ask_of_space(desk: &Desk, tokens: &Tokens, store: &Store) -> bool {
     let space = spaces::lent(desk, store, base_asked(tokens::word(tokens, 1)));
     match tokens::word(tokens, 0) {
         vocabulary::WALK => walking::ask(desk, tokens, space),

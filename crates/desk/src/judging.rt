@@ -11,35 +11,24 @@ use crate::wording::say_one;
 use crate::wording::say_three;
 use crate::wording::say_two;
 
-// Whether a question is a check. One that is not has a difference to begin with, so that its answer is told.
-pub fn begins(desk: &mut Desk, tokens: &Tokens) -> bool {
-    if tokens::arrow(tokens) < tokens::count(tokens) {
+// A question has been asked. Where it is a check, it is counted, and a word is said if it was right.
+pub fn count(desk: &mut Desk, tokens: &Tokens, right: bool) {
+    if tokens::is_check(tokens) {
         slots::count(desk, slots::CHECKS);
-        slots::set(desk, slots::WRONGS, 0);
-        return true;
     }
-    slots::set(desk, slots::WRONGS, 1);
-    false
-}
-
-// Whether the answer is to be told, as it is unless a check was right.
-pub fn is_told(desk: &mut Desk) -> bool {
-    if slots::at(desk, slots::WRONGS) != 0 {
-        return true;
+    if right {
+        slots::count(desk, slots::RIGHT);
+        say(wording::AS_EXPECTED);
     }
-    slots::count(desk, slots::RIGHT);
-    say(wording::AS_EXPECTED);
-    false
 }
 
 // A difference begins to be told; who calls goes on, and ends the line.
-pub fn begin_difference(desk: &mut Desk) {
-    slots::count(desk, slots::WRONGS);
+pub fn begin_difference(desk: &Desk) {
     say_one(wording::DIFFERENCE, slots::at(desk, slots::LINE));
 }
 
 // Two values, and the text that tells where they are not the same. Says whether they are.
-pub fn value(desk: &mut Desk, text: usize, found: usize, wanted: usize) -> bool {
+pub fn value(desk: &Desk, text: usize, found: usize, wanted: usize) -> bool {
     if found == wanted {
         return true;
     }
@@ -49,28 +38,29 @@ pub fn value(desk: &mut Desk, text: usize, found: usize, wanted: usize) -> bool 
 }
 
 // The value at a place of many, where it is another.
-pub fn entry(desk: &mut Desk, text: usize, at: usize, found: usize, wanted: usize) {
+pub fn entry(desk: &Desk, text: usize, at: usize, found: usize, wanted: usize) {
     begin_difference(desk);
     say_three(text, at, found, wanted);
 }
 
 // The answer number, the only one in decimal: the expected one was read as its digits.
-pub fn number(desk: &mut Desk, tokens: &Tokens, found: u8) {
+pub fn number(desk: &Desk, tokens: &Tokens, found: u8) -> bool {
     let digits = tokens::at(tokens, tokens::behind(tokens, vocabulary::NUMBER));
     let wanted = std::num::wrapping_add_usize(10 * (digits % 256 / 16), digits % 16);
-    value(desk, wording::WRONG_NUMBER, found as usize, wanted);
+    value(desk, wording::WRONG_NUMBER, found as usize, wanted)
 }
 
 // The bytes of a reply, one by one, up to the first that is another.
-pub fn reply(desk: &mut Desk, found: &[u8], wanted: &[u8]) {
+pub fn reply(desk: &Desk, found: &[u8], wanted: &[u8]) -> bool {
     let mut at = 0;
     while at < found.len() {
         let is = spaces::value_of(found, at);
         let should = spaces::value_of(wanted, at);
         if is != should {
             entry(desk, wording::WRONG_BYTE, at, is, should);
-            return;
+            return false;
         }
         at += 1;
     }
+    true
 }

@@ -22,13 +22,15 @@ const UNTOUCHED: u8 = 0xee;
 
 type Reply = [u8; REPLY];
 
-pub fn ask(desk: &mut Desk, tokens: &Tokens, store: &mut Store) {
+// Says, as every question here, whether it is a check that was right.
+pub fn ask(desk: &mut Desk, tokens: &Tokens, store: &mut Store) -> bool {
     take_packet(store, tokens);
     let before = *store;
     let served = send(desk, tokens, store);
     let state = served.capture;
-    answer(desk, tokens, served, &before, store);
+    let right = answer(desk, tokens, served, &before, store);
     slots::set(desk, slots::CAPTURED, capture_number(state));
+    right
 }
 
 // The packet's bytes, and an untouched reply, in the store.
@@ -99,24 +101,21 @@ pub fn capture_number(capture: Capture) -> usize {
     }
 }
 
-fn answer(desk: &mut Desk, tokens: &Tokens, served: Served, before: &Store, after: &Store) {
-    if judging::begins(desk, tokens) {
-        judge(desk, tokens, served, before, after);
+fn answer(desk: &Desk, tokens: &Tokens, served: Served, before: &Store, after: &Store) -> bool {
+    if tokens::is_check(tokens) {
+        if judge(desk, tokens, served, before, after) {
+            return true;
+        }
     }
-    if judging::is_told(desk) {
-        explaining::packet(desk, tokens, served, after);
-        tell_changes(desk, before, after);
-    }
-}
-
-fn tell_changes(desk: &mut Desk, before: &Store, after: &Store) {
+    explaining::packet(desk, tokens, served, after);
     if spaces::tell_differences(desk, false, before, after) == 0 {
         say(wording::UNCHANGED);
     }
+    false
 }
 
 // The answer, and every byte as before, except those that are expected to be others.
-fn judge(desk: &mut Desk, tokens: &Tokens, served: Served, before: &Store, after: &Store) {
+fn judge(desk: &Desk, tokens: &Tokens, served: Served, before: &Store, after: &Store) -> bool {
     let mut wanted = *before;
     spaces::put_behind(
         &mut wanted,
@@ -124,24 +123,32 @@ fn judge(desk: &mut Desk, tokens: &Tokens, served: Served, before: &Store, after
         tokens::arrow(tokens),
         tokens::count(tokens),
     );
-    judge_answer(desk, tokens, served, after, &wanted);
-    spaces::tell_differences(desk, true, after, &wanted);
+    let answered = judge_answer(desk, tokens, served, after, &wanted);
+    let differences = spaces::tell_differences(desk, true, after, &wanted);
+    answered & (differences == 0)
 }
 
-fn judge_answer(desk: &mut Desk, tokens: &Tokens, served: Served, after: &Store, wanted: &Store) {
+fn judge_answer(
+    desk: &Desk,
+    tokens: &Tokens,
+    served: Served,
+    after: &Store,
+    wanted: &Store,
+) -> bool {
     let answer = served.answer;
     let state = served.capture;
-    judging::number(desk, tokens, answer.number());
-    judge_reply(desk, tokens, served.length, after, wanted);
-    judge_capture(desk, tokens, capture_number(state));
+    let number = judging::number(desk, tokens, answer.number());
+    let reply = judge_reply(desk, tokens, served.length, after, wanted);
+    number & reply & judge_capture(desk, tokens, capture_number(state))
 }
 
 // The reply's bytes at the front of its buffer, and the rest untouched.
-fn judge_reply(desk: &mut Desk, tokens: &Tokens, length: usize, after: &Store, wanted: &Store) {
+fn judge_reply(desk: &Desk, tokens: &Tokens, length: usize, after: &Store, wanted: &Store) -> bool {
     let given = tokens::numbers_from(tokens, tokens::behind(tokens, vocabulary::REPLY));
     if judging::value(desk, wording::WRONG_LENGTH, length, given) {
-        judging::reply(desk, reply_of(after), reply_of(wanted));
+        return judging::reply(desk, reply_of(after), reply_of(wanted));
     }
+    false
 }
 
 fn reply_of(store: &Store) -> &[u8] {
@@ -149,14 +156,16 @@ fn reply_of(store: &Store) -> &[u8] {
 }
 
 // The capture that is expected: the one that is told, or the one from before.
-fn judge_capture(desk: &mut Desk, tokens: &Tokens, found: usize) {
+fn judge_capture(desk: &Desk, tokens: &Tokens, found: usize) -> bool {
     let wanted = wanted_capture(desk, tokens);
-    if found != wanted {
-        judging::begin_difference(desk);
-        explaining::put_capture(wording::WRONG_CAPTURE, found);
-        explaining::put_capture(wording::EXPECTED_CAPTURE, wanted);
-        say(wording::END);
+    if found == wanted {
+        return true;
     }
+    judging::begin_difference(desk);
+    explaining::put_capture(wording::WRONG_CAPTURE, found);
+    explaining::put_capture(wording::EXPECTED_CAPTURE, wanted);
+    say(wording::END);
+    false
 }
 
 fn wanted_capture(desk: &Desk, tokens: &Tokens) -> usize {
@@ -174,49 +183,54 @@ fn wanted_capture(desk: &Desk, tokens: &Tokens) -> usize {
 }
 
 // A reset is asked for.
-pub fn reset(desk: &mut Desk, tokens: &Tokens) {
+pub fn reset(desk: &mut Desk, tokens: &Tokens) -> bool {
     let found = capture_number(board::reset(capture_of(desk)));
-    if judging::begins(desk, tokens) {
-        judge_capture(desk, tokens, found);
-    }
-    if judging::is_told(desk) {
-        explaining::captured(found);
-    }
+    let right = answer_reset(desk, tokens, found);
     slots::set(desk, slots::CAPTURED, found);
+    right
+}
+
+fn answer_reset(desk: &Desk, tokens: &Tokens, found: usize) -> bool {
+    if tokens::is_check(tokens) {
+        if judge_capture(desk, tokens, found) {
+            return true;
+        }
+    }
+    explaining::captured(found);
+    false
 }
 
 // A merge is asked for: four old bytes, four rules, four data bytes, the enables.
-pub fn merge(desk: &mut Desk, tokens: &Tokens) {
-    let found = merged(tokens);
-    let wanted = four_at(tokens, tokens::behind(tokens, vocabulary::BYTES));
-    answer_merge(desk, tokens, &found, &wanted);
-}
-
-fn merged(tokens: &Tokens) -> [u8; 4] {
-    registers::merge(
+pub fn merge(desk: &Desk, tokens: &Tokens) -> bool {
+    let found = registers::merge(
         four_at(tokens, 1),
         four_at(tokens, 5),
         four_at(tokens, 9),
         tokens::byte(tokens, 13),
-    )
+    );
+    let wanted = four_at(tokens, tokens::behind(tokens, vocabulary::BYTES));
+    answer_merge(desk, tokens, &found, &wanted)
 }
 
-fn answer_merge(desk: &mut Desk, tokens: &Tokens, found: &[u8], wanted: &[u8]) {
-    if judging::begins(desk, tokens) {
-        judge_merge(desk, found, wanted);
+fn answer_merge(desk: &Desk, tokens: &Tokens, found: &[u8], wanted: &[u8]) -> bool {
+    if tokens::is_check(tokens) {
+        if judge_merge(desk, found, wanted) {
+            return true;
+        }
     }
-    if judging::is_told(desk) {
-        spaces::tell_part(wording::MERGED, found, 0, 4);
-        say(wording::END);
-    }
+    spaces::tell_part(wording::MERGED, found, 0, 4);
+    say(wording::END);
+    false
 }
 
-fn judge_merge(desk: &mut Desk, found: &[u8], wanted: &[u8]) {
-    if words::word(found, 0) != words::word(wanted, 0) {
-        judging::begin_difference(desk);
-        say(wording::WRONG_BYTES);
-        spaces::tell_both(true, found, wanted);
+fn judge_merge(desk: &Desk, found: &[u8], wanted: &[u8]) -> bool {
+    if words::word(found, 0) == words::word(wanted, 0) {
+        return true;
     }
+    judging::begin_difference(desk);
+    say(wording::WRONG_BYTES);
+    spaces::tell_both(true, found, wanted);
+    false
 }
 
 fn four_at(tokens: &Tokens, place: usize) -> [u8; 4] {

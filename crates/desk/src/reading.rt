@@ -17,7 +17,7 @@ use records::DualRead;
 use records::DvsecHeader;
 use records::DvsecRead;
 
-pub fn ask_dvsec(desk: &mut Desk, tokens: &Tokens, space: &[u8]) {
+pub fn ask_dvsec(desk: &Desk, tokens: &Tokens, space: &[u8]) -> bool {
     let at = tokens::at(tokens, 2);
     let body = records::dvsec_body(space, at);
     match records::dvsec(space, at) {
@@ -26,7 +26,7 @@ pub fn ask_dvsec(desk: &mut Desk, tokens: &Tokens, space: &[u8]) {
     }
 }
 
-fn header_found(desk: &mut Desk, tokens: &Tokens, header: DvsecHeader, body: &[u8]) {
+fn header_found(desk: &Desk, tokens: &Tokens, header: DvsecHeader, body: &[u8]) -> bool {
     answer(
         desk,
         tokens,
@@ -38,43 +38,48 @@ fn header_found(desk: &mut Desk, tokens: &Tokens, header: DvsecHeader, body: &[u
             header.length as usize,
         ],
         body,
-    );
+    )
 }
 
 // A Dual-BDF record has no body.
-pub fn ask_dual(desk: &mut Desk, tokens: &Tokens, space: &[u8]) {
+pub fn ask_dual(desk: &Desk, tokens: &Tokens, space: &[u8]) -> bool {
     match records::dual_bdf(space, tokens::at(tokens, 2)) {
         DualRead::Refused(refusal) => refused(desk, tokens, refusal.number(), &space[..0]),
         DualRead::Found(alternate) => alternate_found(desk, tokens, alternate, &space[..0]),
     }
 }
 
-fn alternate_found(desk: &mut Desk, tokens: &Tokens, alternate: Alternate, body: &[u8]) {
+fn alternate_found(desk: &Desk, tokens: &Tokens, alternate: Alternate, body: &[u8]) -> bool {
     answer(
         desk,
         tokens,
         0,
         &[alternate.function as usize, alternate.device as usize],
         body,
-    );
+    )
 }
 
 // A refusal has no fields.
-fn refused(desk: &mut Desk, tokens: &Tokens, number: u8, body: &[u8]) {
-    answer(desk, tokens, number, &[], body);
+fn refused(desk: &Desk, tokens: &Tokens, number: u8, body: &[u8]) -> bool {
+    answer(desk, tokens, number, &[], body)
 }
 
-// A record as it was found, or a refusal.
-fn answer(desk: &mut Desk, tokens: &Tokens, number: u8, fields: &[usize], body: &[u8]) {
-    if judging::begins(desk, tokens) {
-        judging::number(desk, tokens, number);
-        judge_fields(desk, tokens, fields);
-        judge_body(desk, tokens, fields.len(), body.len());
+// A record as it was found, or a refusal. Says whether this is a check that was right.
+fn answer(desk: &Desk, tokens: &Tokens, number: u8, fields: &[usize], body: &[u8]) -> bool {
+    if tokens::is_check(tokens) {
+        if judge(desk, tokens, number, fields, body) {
+            return true;
+        }
     }
-    if judging::is_told(desk) {
-        explaining::put_number(number);
-        tell(fields, body);
-    }
+    explaining::put_number(number);
+    tell(fields, body);
+    false
+}
+
+fn judge(desk: &Desk, tokens: &Tokens, number: u8, fields: &[usize], body: &[u8]) -> bool {
+    let answered = judging::number(desk, tokens, number);
+    let told = judge_fields(desk, tokens, fields);
+    answered & told & judge_body(desk, tokens, fields.len(), body.len())
 }
 
 fn tell(fields: &[usize], body: &[u8]) {
@@ -103,12 +108,13 @@ fn tell_header(fields: &[usize], body: &[u8]) {
 }
 
 // How many fields are told, and each of them. A question has one word for its fields.
-fn judge_fields(desk: &mut Desk, tokens: &Tokens, fields: &[usize]) {
+fn judge_fields(desk: &Desk, tokens: &Tokens, fields: &[usize]) -> bool {
     let from = tokens::behind(tokens, fields_word(tokens::word(tokens, 0)));
     let given = tokens::numbers_from(tokens, from);
     if judging::value(desk, wording::WRONG_FIELDS, fields.len(), given) {
-        judge_each(desk, tokens, from, fields);
+        return judge_each(desk, tokens, from, fields);
     }
+    false
 }
 
 fn fields_word(question: usize) -> usize {
@@ -119,38 +125,31 @@ fn fields_word(question: usize) -> usize {
     }
 }
 
-fn judge_each(desk: &mut Desk, tokens: &Tokens, from: usize, fields: &[usize]) {
+fn judge_each(desk: &Desk, tokens: &Tokens, from: usize, fields: &[usize]) -> bool {
+    let mut right = true;
     let mut at = 0;
     while at < fields.len() {
-        judging::value(
-            desk,
-            wording::WRONG_FIELD,
-            fields[at],
-            tokens::at(tokens, std::num::wrapping_add_usize(from, at)),
-        );
+        let wanted = tokens::at(tokens, std::num::wrapping_add_usize(from, at));
+        right &= judging::value(desk, wording::WRONG_FIELD, fields[at], wanted);
         at += 1;
     }
+    right
 }
 
 // The body is so many bytes of the space, from an offset on: the two numbers. Without them it is empty, and its place is not told.
-fn judge_body(desk: &mut Desk, tokens: &Tokens, fields: usize, length: usize) {
+fn judge_body(desk: &Desk, tokens: &Tokens, fields: usize, length: usize) -> bool {
     let word = tokens::behind(tokens, vocabulary::BODY);
     if !tokens::is_said(tokens, word) {
-        judging::value(desk, wording::WRONG_BODY, length, 0);
-        return;
+        return judging::value(desk, wording::WRONG_BODY, length, 0);
     }
-    judging::value(
+    let place = judging::value(
         desk,
         wording::WRONG_BODY_PLACE,
         place_of_body(fields, tokens::at(tokens, 2)),
         tokens::at(tokens, word),
     );
-    judging::value(
-        desk,
-        wording::WRONG_BODY,
-        length,
-        tokens::at(tokens, std::num::wrapping_add_usize(word, 1)),
-    );
+    let size = tokens::at(tokens, std::num::wrapping_add_usize(word, 1));
+    place & judging::value(desk, wording::WRONG_BODY, length, size)
 }
 
 // Where the body of a record lies, or 0 where there is no record.

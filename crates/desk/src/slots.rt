@@ -1,5 +1,5 @@
 // What the desk keeps in numbers from line to line, each at a place of its own.
-pub const SLOTS: usize = 19;
+pub const SLOTS: usize = 18;
 
 // The line's number; how many statements had an expectation, and how many of them were right; how many lines were not understood.
 pub const LINE: usize = 0;
@@ -10,42 +10,39 @@ pub const RIGHT: usize = 2;
 
 pub const FAULTS: usize = 3;
 
-// How many differences were told of the check at hand.
-pub const WRONGS: usize = 4;
-
 // The line where the sheet began, or 0 outside a sheet; and whether lines are written out as they are read.
-pub const SHEET: usize = 5;
+pub const SHEET: usize = 4;
 
-pub const ECHO: usize = 6;
+pub const ECHO: usize = 5;
 
 // The board: its function number, A and B, and the capture, bus and device in one number.
-pub const FUNCTION: usize = 7;
+pub const FUNCTION: usize = 6;
 
-pub const A: usize = 8;
+pub const A: usize = 7;
 
-pub const B: usize = 9;
+pub const B: usize = 8;
 
-pub const CAPTURED: usize = 10;
+pub const CAPTURED: usize = 9;
 
 // What is lent to the next question: so much of each of the four buffers, and of the reply or the list room.
-pub const ORDINARY_SIZE: usize = 11;
+pub const ORDINARY_SIZE: usize = 10;
 
-pub const ORDINARY_RULES_SIZE: usize = 12;
+pub const ORDINARY_RULES_SIZE: usize = 11;
 
-pub const TRUSTED_SIZE: usize = 13;
+pub const TRUSTED_SIZE: usize = 12;
 
-pub const TRUSTED_RULES_SIZE: usize = 14;
+pub const TRUSTED_RULES_SIZE: usize = 13;
 
-pub const ROOM: usize = 15;
+pub const ROOM: usize = 14;
 
 // The rest of a line that is too long is being read past.
-pub const SKIPPING: usize = 16;
+pub const SKIPPING: usize = 15;
 
 // Somebody types, and is asked for each line.
-pub const PROMPT: usize = 17;
+pub const PROMPT: usize = 16;
 
 // How many bytes of a line that is not whole yet the piece begins with.
-pub const REST: usize = 18;
+pub const REST: usize = 17;
 
 // The capture while there is none: over every bus and device.
 pub const NOTHING: usize = 0x10000;

@@ -139,7 +139,7 @@ pub fn value_of(bytes: &[u8], at: usize) -> usize {
 }
 
 // Tells every word in which two boards differ: as it was and as it is, or as it is and as it should be. Answers how many there are.
-pub fn tell_differences(desk: &mut Desk, judging: bool, one: &Store, other: &Store) -> usize {
+pub fn tell_differences(desk: &Desk, judging: bool, one: &Store, other: &Store) -> usize {
     let mut word = 0;
     let mut told = 0;
     while word < BOARD_END {
@@ -153,7 +153,7 @@ pub fn tell_differences(desk: &mut Desk, judging: bool, one: &Store, other: &Sto
     told
 }
 
-fn tell_place(desk: &mut Desk, judging: bool, word: usize) {
+fn tell_place(desk: &Desk, judging: bool, word: usize) {
     if judging {
         judging::begin_difference(desk);
     } else {

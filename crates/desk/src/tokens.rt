@@ -184,6 +184,11 @@ pub fn arrow(tokens: &Tokens) -> usize {
     find(tokens, 0, count(tokens), vocabulary::ARROW)
 }
 
+// Whether the line expects something.
+pub fn is_check(tokens: &Tokens) -> bool {
+    arrow(tokens) < count(tokens)
+}
+
 // The place behind a word of the expectation; past the count where that does not have this word.
 pub fn behind(tokens: &Tokens, word: usize) -> usize {
     let place = find(tokens, arrow(tokens), count(tokens), word);

@@ -31,18 +31,30 @@ pub fn kind_of(name: usize) -> Kind {
     }
 }
 
-// A list is walked in the space where it lies.
-pub fn ask(desk: &mut Desk, tokens: &Tokens, space: &[u8]) {
+// A list is walked in the space where it lies. Says whether this is a check that was right.
+pub fn ask(desk: &Desk, tokens: &Tokens, space: &[u8]) -> bool {
     let mut room = [UNTOUCHED; ROOM];
     let kind = kind_of(tokens::word(tokens, 1));
     let lent = within_room(slots::at(desk, slots::ROOM), &room);
     let walked = lists::walk(kind, space, &mut room[..lent]);
-    if judging::begins(desk, tokens) {
-        judge(desk, tokens, walked, &room);
+    answer(desk, tokens, kind, space, walked, &room)
+}
+
+fn answer(
+    desk: &Desk,
+    tokens: &Tokens,
+    kind: Kind,
+    space: &[u8],
+    walked: Walked,
+    room: &Room,
+) -> bool {
+    if tokens::is_check(tokens) {
+        if judge(desk, tokens, walked, room) {
+            return true;
+        }
     }
-    if judging::is_told(desk) {
-        tell(kind, space, walked, &room);
-    }
+    tell(kind, space, walked, room);
+    false
 }
 
 fn within_room(size: usize, room: &[u16]) -> usize
@@ -57,25 +69,28 @@ fn number_of(walked: Walked) -> u8 {
 }
 
 // The number; the offsets that are expected one by one, and then so many by steps; the rest of the room is untouched.
-fn judge(desk: &mut Desk, tokens: &Tokens, walked: Walked, room: &Room) {
+fn judge(desk: &Desk, tokens: &Tokens, walked: Walked, room: &Room) -> bool {
     let mut wanted = [UNTOUCHED; ROOM];
     let listed = list(&mut wanted, tokens);
     let stepped = step(&mut wanted, tokens, listed);
-    judging::number(desk, tokens, number_of(walked));
+    let number = judging::number(desk, tokens, number_of(walked));
     if judging::value(desk, wording::WRONG_COUNT, walked.count, stepped) {
-        judge_entries(desk, room, &wanted);
+        return number & judge_entries(desk, room, &wanted);
     }
+    false
 }
 
 // Tells the first entry that is another.
-fn judge_entries(desk: &mut Desk, room: &Room, wanted: &Room) {
+fn judge_entries(desk: &Desk, room: &Room, wanted: &Room) -> bool {
     let entry = first_difference(room, wanted);
     if entry < ROOM {
         differ(desk, entry, room[entry], wanted[entry]);
+        return false;
     }
+    true
 }
 
-fn differ(desk: &mut Desk, entry: usize, found: u16, wanted: u16) {
+fn differ(desk: &Desk, entry: usize, found: u16, wanted: u16) {
     judging::entry(
         desk,
         wording::WRONG_ENTRY,

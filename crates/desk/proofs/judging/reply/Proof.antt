@@ -6,10 +6,10 @@ use Rattle.desk.proofs.judging.reply.Statement.{statement}
 use Rattle.desk.proofs.judging.reply.Tie as tie
 
 abbrev Inv-loop : tie.InvT-loop
-Inv-loop desk₀ found wanted at₀ desk at = Unit {0}
+Inv-loop desk found wanted at₀ at = Unit {0}
 
 abbrev μ-loop : tie.MeasureT-loop
-μ-loop desk₀ found wanted at₀ desk at = length found - at
+μ-loop desk found wanted at₀ at = length found - at
 
 loop-holds : tie.Need-loop-holds Inv-loop μ-loop
 loop-holds c = search needs

@@ -6,25 +6,25 @@ use Rattle.desk.proofs.reading.judge_each.Statement.{statement}
 use Rattle.desk.proofs.reading.judge_each.Tie as tie
 
 abbrev Inv-loop : tie.InvT-loop
-Inv-loop desk₀ tokens from fields at₀ desk at = Unit {0}
+Inv-loop desk tokens from fields right₀ at₀ right at = Unit {0}
 
 abbrev μ-loop : tie.MeasureT-loop
-μ-loop desk₀ tokens from fields at₀ desk at = length fields - at
+μ-loop desk tokens from fields right₀ at₀ right at = length fields - at
 
 loop-holds : tie.Need-loop-holds Inv-loop μ-loop
 loop-holds c = search needs
-
-mul-value : tie.Need-mul-value Inv-loop μ-loop
-mul-value c = search needs
-
-shared-slice-read-value : tie.Need-shared-slice-read-value Inv-loop μ-loop
-shared-slice-read-value c = search needs
 
 wrapping-add-usize-requires : tie.Need-wrapping-add-usize-requires Inv-loop μ-loop
 wrapping-add-usize-requires c κs = search needs
 
 at-requires : tie.Need-at-requires Inv-loop μ-loop
 at-requires c κs = search needs
+
+mul-value : tie.Need-mul-value Inv-loop μ-loop
+mul-value c = search needs
+
+shared-slice-read-value : tie.Need-shared-slice-read-value Inv-loop μ-loop
+shared-slice-read-value c = search needs
 
 value-requires : tie.Need-value-requires Inv-loop μ-loop
 value-requires c κs = search needs
@@ -48,10 +48,10 @@ judge-each-spec =
     Inv-loop
     μ-loop
     loop-holds
-    mul-value
-    shared-slice-read-value
     wrapping-add-usize-requires
     at-requires
+    mul-value
+    shared-slice-read-value
     value-requires
     add-at
     loop-less

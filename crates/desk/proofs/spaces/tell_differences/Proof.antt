@@ -5,10 +5,10 @@ use Rattle.desk.proofs.spaces.tell_differences.Statement.{statement}
 use Rattle.desk.proofs.spaces.tell_differences.Tie as tie
 
 abbrev Inv-loop : tie.InvT-loop
-Inv-loop desk₀ judging one other word₀ told₀ desk word told = Unit {0}
+Inv-loop desk judging one other word₀ told₀ word told = Unit {0}
 
 abbrev μ-loop : tie.MeasureT-loop
-μ-loop desk₀ judging one other word₀ told₀ desk word told = 16400 - word
+μ-loop desk judging one other word₀ told₀ word told = 16400 - word
 
 loop-holds : tie.Need-loop-holds Inv-loop μ-loop
 loop-holds c = search needs
