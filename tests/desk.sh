@@ -228,6 +228,17 @@ else
     echo "FAILED desk, an answer to each line at once: $first|$second|$last"
 fi
 
+# Who types is asked for each line, and who sends lines is not: every answer above would have the mark in it.
+if command -v script >/dev/null; then
+    printf '%s\n' "The desk. 'help' lists what it understands; Ctrl-D ends." '> as expected' '> ok' '> ' \
+        'checks 1, as expected 1, lines not understood 0' >"$work/wanted"
+    { printf 'reset -> forgotten\nopen\n\004' && sleep 3; } | timeout 60 script -qec 'stty -echo && ./run desk' /dev/null 2>&1 |
+        tr -d '\r' >"$work/out"
+    if cmp -s "$work/out" "$work/wanted"; then echo "ok desk, at a terminal"; else echo "FAILED desk, at a terminal: $(tr '\n' '|' <"$work/out")"; fi
+else
+    echo "skipped desk, at a terminal: there is no script to make one"
+fi
+
 # No line end at the end: nothing is lost.
 printf 'as expected\nchecks 1, as expected 1, lines not understood 0\n' >"$work/wanted"
 printf 'reset -> forgotten' | answers "no line end at the end" 0

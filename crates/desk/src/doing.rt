@@ -25,14 +25,22 @@ const TRUSTED: u8 = 0x72;
 pub fn perform(desk: &mut Desk, tokens: &Tokens, store: &mut Store) {
     let word = tokens::word(tokens, 0);
     match word {
-        vocabulary::FRESH..=vocabulary::BLANK => begin_board(desk, store, word),
-        vocabulary::ORDINARY..=vocabulary::TRUSTED_RULES => {
+        vocabulary::FRESH | vocabulary::OPEN | vocabulary::BLANK => begin_board(desk, store, word),
+        vocabulary::ORDINARY
+        | vocabulary::TRUSTED
+        | vocabulary::ORDINARY_RULES
+        | vocabulary::TRUSTED_RULES => {
             spaces::put_behind(store, tokens, 0, tokens::count(tokens));
             done();
         }
         vocabulary::CHAIN => put_chain(desk, tokens, store),
         vocabulary::SHOW => show(tokens, store),
-        vocabulary::PACKET..=vocabulary::DUAL => ask(desk, tokens, store),
+        vocabulary::PACKET
+        | vocabulary::RESET
+        | vocabulary::MERGE
+        | vocabulary::WALK
+        | vocabulary::DVSEC
+        | vocabulary::DUAL => ask(desk, tokens, store),
         _ => perform_on_desk(desk, tokens),
     }
 }

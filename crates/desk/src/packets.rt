@@ -50,9 +50,9 @@ fn send(desk: &Desk, tokens: &Tokens, store: &mut Store) -> Served {
     let mut ordinary = spaces::copy_of(store, spaces::ORDINARY);
     let mut trusted = spaces::copy_of(store, spaces::TRUSTED);
     let mut reply = [UNTOUCHED; REPLY];
-    let first = spaces::within(spaces::lent_size(desk, spaces::ORDINARY), &ordinary);
-    let second = spaces::within(spaces::lent_size(desk, spaces::TRUSTED), &trusted);
-    let room = spaces::within(slots::at(desk, slots::ROOM), &reply);
+    let first = spaces::within(desk, slots::ORDINARY_SIZE, &ordinary);
+    let second = spaces::within(desk, slots::TRUSTED_SIZE, &trusted);
+    let room = spaces::within(desk, slots::ROOM, &reply);
     let rules = &*store;
     let served = board::serve(
         description_of(desk),

@@ -58,10 +58,11 @@ fn start_of(word: usize) -> usize {
     }
 }
 
-// How much of a buffer is lent: as much as asked, or as much as there is.
-pub fn within(size: usize, bytes: &[u8]) -> usize
+// How much of a buffer is lent: as much as a slot says, or as much as there is.
+pub fn within(desk: &Desk, slot: usize, bytes: &[u8]) -> usize
     ensures { λ r. ⌜ Counts r (now (bytes .entry)) ⌝ }
 {
+    let size = slots::at(desk, slot);
     if bytes.len() < size {
         bytes.len()
     } else {
@@ -82,15 +83,8 @@ pub fn part(store: &[u8], base: usize, size: usize) -> &[u8] {
 
 // A buffer of the board, as far as the desk lends it.
 pub fn lent<'a>(desk: &Desk, store: &'a [u8], base: usize) -> &'a [u8] {
-    part(store, base, lent_size(desk, base))
-}
-
-// How much of a buffer the desk lends.
-pub fn lent_size(desk: &Desk, base: usize) -> usize {
-    slots::at(
-        desk,
-        std::num::wrapping_add_usize(slots::ORDINARY_SIZE, base / LONG),
-    )
+    let slot = std::num::wrapping_add_usize(slots::ORDINARY_SIZE, base / LONG);
+    part(store, base, slots::at(desk, slot))
 }
 
 // A buffer of the store, and back.

@@ -1,5 +1,6 @@
 // A line as tokens: words, numbers of one to sixteen hexadecimal digits, commas. Blanks part them; a comma stands for itself; what follows
 // a # is a comment.
+use crate::input;
 use crate::vocabulary;
 ghost use Prim.Native.Nat.{_≤_, _<_};
 ghost use lib.ListN.{length};
@@ -119,16 +120,11 @@ pub fn number_of(text: &[u8]) -> usize {
 
 // The value of a digit, or 16.
 fn digit_of(character: u8) -> usize {
-    match character {
-        b'0'..=b'9' => wide(std::num::wrapping_sub_u8(character, b'0')),
-        b'A'..=b'F' => wide(std::num::wrapping_sub_u8(character, b'A' - 10)),
-        b'a'..=b'f' => wide(std::num::wrapping_sub_u8(character, b'a' - 10)),
-        _ => 16,
+    let place = input::place_of(b"0123456789ABCDEFabcdef", 0, 22, character);
+    if place < 16 {
+        return place;
     }
-}
-
-fn wide(byte: u8) -> usize {
-    byte as usize
+    if place < 22 { place - 6 } else { 16 }
 }
 
 // The word at a place; NUMERAL where a number stands, UNKNOWN past the last.
