@@ -232,8 +232,10 @@ fi
 if command -v script >/dev/null; then
     printf '%s\n' "The desk. 'help' lists what it understands; Ctrl-D ends." '> as expected' '> ok' '> ' \
         'checks 1, as expected 1, lines not understood 0' >"$work/wanted"
-    { printf 'reset -> forgotten\nopen\n\004' && sleep 3; } | timeout 60 script -qec 'stty -echo && ./run desk' /dev/null 2>&1 |
-        tr -d '\r' >"$work/out"
+    : >"$work/typescript"
+    { for _ in {1..300}; do if grep -q 'The desk' "$work/typescript"; then break; fi && sleep 0.1; done && printf 'reset -> forgotten\nopen\n\004' && sleep 2; } |
+        timeout 60 script -qfec 'stty -echo && ./run desk' "$work/typescript" >/dev/null 2>&1
+    printf '%s\n' "$(grep -v '^Script ' "$work/typescript" | tr -d '\r')" >"$work/out"
     if cmp -s "$work/out" "$work/wanted"; then echo "ok desk, at a terminal"; else echo "FAILED desk, at a terminal: $(tr '\n' '|' <"$work/out")"; fi
 else
     echo "skipped desk, at a terminal: there is no script to make one"

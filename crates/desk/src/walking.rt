@@ -4,7 +4,6 @@ use crate::explaining;
 use crate::judging;
 use crate::slots;
 use crate::slots::Desk;
-use crate::spaces;
 use crate::tokens;
 use crate::tokens::Tokens;
 use crate::vocabulary;
