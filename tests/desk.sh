@@ -3,6 +3,11 @@ work=$(mktemp -d) || exit 2
 trap 'rm -rf "$work"' EXIT
 sheet=crates/desk/stdin
 
+# missing NAME TOOL: what is said where a tool is not there. Where CI is set, nothing is skipped
+missing() {
+    if [ -n "${CI:-}" ]; then echo "FAILED $1: no $2 on the PATH"; else echo "skipped $1: no $2 on the PATH"; fi
+}
+
 # desk: the program, on this standard input, ended where it does not end by itself
 desk() { timeout 120 ./run desk; }
 
@@ -134,6 +139,20 @@ printf 'reset -> forgotten # note\rreset -> captured 05 03\n' | answers "a carri
 # An input that cannot be read is no end of a session.
 printf 'line 0: the input could not be read to its end\nchecks 0, as expected 0, lines not understood 1\n' >"$work/wanted"
 answers "an input that cannot be read" 1 <docs
+# One that breaks off inside a line: what is there of it is not done.
+if command -v perl >/dev/null; then
+    printf 'ok\nline 1: the input could not be read to its end\nchecks 0, as expected 0, lines not understood 1\n' >"$work/wanted"
+    timeout 60 perl -MFcntl -e 'pipe(my $from, my $to) && fcntl($from, F_SETFL, O_NONBLOCK) && syswrite($to, "room 2\nwalk compatible -> number 0") or die;
+        open(STDIN, "<&", $from) && system("./run", "desk"); exit($? >> 8)' >"$work/out" 2>"$work/errors"
+    status=$?
+    if [ "$status" -eq 1 ] && cmp -s "$work/out" "$work/wanted"; then
+        echo "ok desk, an input that breaks off inside a line"
+    else
+        echo "FAILED desk, an input that breaks off inside a line: status $status, $(tr '\n' '|' <"$work/out")"
+    fi
+else
+    missing "desk, an input that breaks off inside a line" perl
+fi
 
 # Every number of every expectation counts: one that is another is noticed.
 cat >"$work/right" <<'LINES'
@@ -238,7 +257,7 @@ if command -v script >/dev/null; then
     printf '%s\n' "$(grep -v '^Script ' "$work/typescript" | tr -d '\r')" >"$work/out"
     if cmp -s "$work/out" "$work/wanted"; then echo "ok desk, at a terminal"; else echo "FAILED desk, at a terminal: $(tr '\n' '|' <"$work/out")"; fi
 else
-    echo "skipped desk, at a terminal: there is no script to make one"
+    missing "desk, at a terminal" script
 fi
 
 # No line end at the end: nothing is lost.

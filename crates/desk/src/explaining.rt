@@ -1,5 +1,6 @@
 // What an answer means, in words: the number, what was asked, what the completion says, what is captured.
 use crate::packets;
+use crate::pieces;
 use crate::saying::put;
 use crate::slots;
 use crate::slots::Desk;
@@ -147,7 +148,7 @@ fn put_data(asked: Request, packet: &[u8]) {
 fn put_reply(cause: Cause, length: usize, store: &[u8]) {
     spaces::tell_part(wording::REPLY, store, REPLY, length);
     say(wording::SAYS);
-    put_status(spaces::byte_of(store, REPLY + 6), cause);
+    put_status(pieces::byte_of(store, REPLY + 6), cause);
     spaces::tell_part(wording::COMPLETER, store, REPLY + 4, 2);
     spaces::tell_part(wording::REQUESTER, store, REPLY + 8, 2);
     spaces::tell_part(wording::TAG, store, REPLY + 10, 1);
@@ -157,7 +158,7 @@ fn put_reply(cause: Cause, length: usize, store: &[u8]) {
 
 // The data of a completion that has some.
 fn put_read(store: &[u8]) {
-    if spaces::byte_of(store, REPLY) == 0x4a {
+    if pieces::byte_of(store, REPLY) == 0x4a {
         spaces::tell_part(wording::DATA, store, REPLY + 12, 4);
     }
 }

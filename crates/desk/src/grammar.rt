@@ -1,7 +1,7 @@
 // What a line may say. A statement is a word with its numbers; a question may have an expectation behind an arrow: clauses, each a word
 // with its numbers, parted by commas. The first token that does not fit is found before anything is done.
 use crate::faults;
-use crate::spaces;
+use crate::pieces;
 use crate::tokens;
 use crate::tokens::Tokens;
 use crate::vocabulary::*;
@@ -10,9 +10,9 @@ use crate::vocabulary::*;
 const SPACE_END: usize = 0x1000;
 
 // The columns of the table below, and what a row has.
-const LEAST: usize = 16;
+const LEAST_NUMBERS: usize = 16;
 
-const MOST: usize = 19;
+const MOST_NUMBERS: usize = 19;
 
 const FIRST: usize = 22;
 
@@ -34,10 +34,10 @@ const UNMARKED: usize = 16;
 
 // What follows each word, in the order of their numbers: how many numbers at least and at most; how large the first and the others may be;
 // which kind of name comes before them, of a list (0), a buffer (1) or a space (2); of which of these kinds it is a name itself; and of
-// which questions it may be expected: packet, reset, merge, walk, dvsec, dual.
+// which questions it may be expected: packet, reset, merge, walk, dvsec, dual. A token that is no word has no row, and reads as 0.
 fn column(word: usize, from: usize, size: usize) -> usize {
     let row = std::num::wrapping_sub_usize(word, HELP) % 64;
-    tokens::number_of(spaces::part(
+    tokens::number_of(pieces::part(
         b"help            00 00 00000 00000 - --- ------
 echo            00 00 00000 00000 - --- ------
 sheet           00 00 00000 00000 - --- ------
@@ -92,7 +92,7 @@ fn is_name(word: usize, name: usize) -> bool {
     )
 }
 
-// Whether a word may be expected of a question.
+// Whether a word may be expected of a question, which what stands before an arrow is.
 fn is_clause(question: usize, word: usize) -> bool {
     is_marked(
         word,
@@ -171,7 +171,7 @@ fn fault_of_number(tokens: &Tokens, head: usize, place: usize) -> usize {
     if place < begin {
         return wanted_first(head, place);
     }
-    if column(word, MOST, 2) <= place - begin {
+    if column(word, MOST_NUMBERS, 2) <= place - begin {
         return faults::TOO_MANY;
     }
     fault_of_value(
@@ -233,7 +233,7 @@ fn fault_of_end(tokens: &Tokens, head: usize, place: usize) -> usize {
     if place < begin {
         return wanted_first(head, place);
     }
-    if place - begin < column(tokens::word(tokens, head), LEAST, 2) {
+    if place - begin < column(tokens::word(tokens, head), LEAST_NUMBERS, 2) {
         return faults::TOO_FEW;
     }
     faults::NONE

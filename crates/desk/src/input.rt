@@ -1,11 +1,12 @@
 // The piece of the input that is in memory: read after what is left of the piece before.
 ghost use Prim.Native.Nat.{_≤_};
 ghost use lib.ListN.{length};
-use crate::faults;
+use crate::pieces;
+use crate::slots;
 use crate::slots::Desk;
 use libc::STDIN_FILENO;
 
-// Reads more, after the `rest` bytes that the piece begins with, and answers where it ends now: not past `rest` where nothing came. Tells
+// Reads more, after the `rest` bytes that the piece begins with, and answers where it ends now: not past `rest` where nothing came. Notes
 // where that is because the input could not be read.
 pub fn read_more(desk: &mut Desk, piece: &mut [u8], rest: usize) -> usize
     ensures { λ r. ⌜ r ≤ length (now (piece .exit)) ⌝ }
@@ -16,7 +17,7 @@ pub fn read_more(desk: &mut Desk, piece: &mut [u8], rest: usize) -> usize
     let free = &mut piece[rest..];
     let got = libc::read(STDIN_FILENO, free);
     if got < 0 {
-        faults::tell_whole(desk, faults::UNREAD);
+        slots::set(desk, slots::UNREAD, 1);
     }
     rest + io::count(got, free)
 }
@@ -47,48 +48,16 @@ pub fn keep_rest(piece: &mut [u8], from: usize, end: usize) -> usize {
     rest
 }
 
-// Where a byte stands from `from` on, or `end`.
-pub fn place_of(piece: &[u8], from: usize, end: usize, byte: u8) -> usize
-    ensures { λ r. ⌜ from ≤ r ⌝ }
-{
-    let mut at = from;
-    while at < end {
-        if is_at(piece, at, byte) {
-            return at;
-        }
-        at += 1;
-    }
-    at
-}
-
-fn is_at(piece: &[u8], at: usize, byte: u8) -> bool {
-    if piece.len() <= at {
-        return false;
-    }
-    piece[at] == byte
-}
-
-// The bytes between two places, or none.
-pub fn between(piece: &[u8], from: usize, to: usize) -> &[u8] {
-    if piece.len() < to {
-        return &piece[..0];
-    }
-    if to < from {
-        return &piece[..0];
-    }
-    &piece[from..to]
-}
-
 // The line without the carriage return at its end, as other systems write one.
 pub fn without_return(line: &[u8]) -> &[u8] {
     let last = std::num::wrapping_sub_usize(line.len(), 1);
-    if is_at(line, last, b'\r') {
-        return between(line, 0, last);
+    if pieces::is_at(line, last, b'\r') {
+        return pieces::between(line, 0, last);
     }
     line
 }
 
 // Whether a carriage return stands within a line.
 pub fn has_return(line: &[u8]) -> bool {
-    place_of(line, 0, line.len(), b'\r') < line.len()
+    pieces::place_of(line, 0, line.len(), b'\r') < line.len()
 }

@@ -1,7 +1,8 @@
-// What was found is held against what a line expects. Every difference is told; a check without one is as expected.
+// What was found is held against what a line expects. Every difference is told, of a reply and of a list room the first; a check without
+// one is as expected.
+use crate::pieces;
 use crate::slots;
 use crate::slots::Desk;
-use crate::spaces;
 use crate::tokens;
 use crate::tokens::Tokens;
 use crate::vocabulary;
@@ -54,8 +55,8 @@ pub fn number(desk: &Desk, tokens: &Tokens, found: u8) -> bool {
 pub fn reply(desk: &Desk, found: &[u8], wanted: &[u8]) -> bool {
     let mut at = 0;
     while at < found.len() {
-        let is = spaces::value_of(found, at);
-        let should = spaces::value_of(wanted, at);
+        let is = pieces::value_of(found, at);
+        let should = pieces::value_of(wanted, at);
         if is != should {
             entry(desk, wording::WRONG_BYTE, at, is, should);
             return false;

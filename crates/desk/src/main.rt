@@ -9,6 +9,7 @@ mod helping;
 mod input;
 mod judging;
 mod packets;
+mod pieces;
 mod reading;
 mod saying;
 mod session;

@@ -2,6 +2,7 @@
 // with the rest of its buffer, the capture, and every byte of both spaces. Resets and merges are asked for in the same way.
 use crate::explaining;
 use crate::judging;
+use crate::pieces;
 use crate::slots;
 use crate::slots::Desk;
 use crate::spaces;
@@ -39,10 +40,10 @@ fn take_packet(store: &mut Store, tokens: &Tokens) {
     words::put(store, spaces::REPLY, &[UNTOUCHED; REPLY]);
 }
 
-// The packet that was sent: the tokens between the statement's word and its expectation.
+// The packet that was sent, as it stands in the store: as many bytes as there are tokens between the statement's word and its expectation.
 pub fn sent<'a>(tokens: &Tokens, store: &'a [u8]) -> &'a [u8] {
     let length = std::num::wrapping_sub_usize(tokens::arrow(tokens), 1);
-    spaces::part(store, spaces::PACKET, length)
+    pieces::part(store, spaces::PACKET, length)
 }
 
 // The board is lent its buffers out of the store, each as far as the desk says, and what it leaves in the spaces and the reply is put back.
@@ -152,7 +153,7 @@ fn judge_reply(desk: &Desk, tokens: &Tokens, length: usize, after: &Store, wante
 }
 
 fn reply_of(store: &Store) -> &[u8] {
-    spaces::part(store, spaces::REPLY, REPLY)
+    pieces::part(store, spaces::REPLY, REPLY)
 }
 
 // The capture that is expected: the one that is told, or the one from before.

@@ -2,7 +2,7 @@
 // is expected.
 use crate::explaining;
 use crate::judging;
-use crate::saying::number_at;
+use crate::pieces;
 use crate::slots::Desk;
 use crate::spaces;
 use crate::tokens;
@@ -87,8 +87,8 @@ fn tell(fields: &[usize], body: &[u8]) {
         0 => {}
         2 => say_two(
             wording::ALTERNATE,
-            number_at(fields, 0),
-            number_at(fields, 1),
+            pieces::number_at(fields, 0),
+            pieces::number_at(fields, 1),
         ),
         _ => tell_header(fields, body),
     }
@@ -97,10 +97,10 @@ fn tell(fields: &[usize], body: &[u8]) {
 fn tell_header(fields: &[usize], body: &[u8]) {
     say_all(
         wording::HEADER,
-        number_at(fields, 0),
-        number_at(fields, 1),
-        number_at(fields, 2),
-        number_at(fields, 3),
+        pieces::number_at(fields, 0),
+        pieces::number_at(fields, 1),
+        pieces::number_at(fields, 2),
+        pieces::number_at(fields, 3),
         0,
     );
     spaces::tell_part(wording::BODY, body, 0, body.len());

@@ -1,5 +1,5 @@
 // What the desk writes, always on standard output: texts, with numbers and bytes in them.
-use crate::input;
+use crate::pieces;
 use libc::STDOUT_FILENO;
 
 pub fn put(text: &[u8]) {
@@ -11,8 +11,8 @@ pub fn fill(text: &[u8], numbers: &[usize]) {
     let mut at = 0;
     let mut next = 0;
     while at < text.len() {
-        let mark = input::place_of(text, at, text.len(), b'%');
-        put(input::between(text, at, mark));
+        let mark = pieces::place_of(text, at, text.len(), b'%');
+        put(pieces::between(text, at, mark));
         if text.len() <= mark {
             return;
         }
@@ -20,17 +20,9 @@ pub fn fill(text: &[u8], numbers: &[usize]) {
         if text.len() <= at {
             return;
         }
-        put_number(text[at], number_at(numbers, next));
+        put_number(text[at], pieces::number_at(numbers, next));
         next = std::num::wrapping_add_usize(next, 1);
         at += 1;
-    }
-}
-
-pub fn number_at(numbers: &[usize], place: usize) -> usize {
-    if place < numbers.len() {
-        numbers[place]
-    } else {
-        0
     }
 }
 

@@ -4,6 +4,7 @@ use crate::doing;
 use crate::faults;
 use crate::grammar;
 use crate::input;
+use crate::pieces;
 use crate::saying::put_plain;
 use crate::slots;
 use crate::slots::Desk;
@@ -84,11 +85,11 @@ fn take_whole(desk: &mut Desk, line: &[u8], store: &mut Store) {
 fn take_lines(desk: &mut Desk, piece: &[u8; PIECE], end: usize, store: &mut Store) -> usize {
     let mut from = 0;
     while from < end {
-        let to = input::place_of(piece, from, end, b'\n');
+        let to = pieces::place_of(piece, from, end, b'\n');
         if end <= to {
             return from;
         }
-        take_whole(desk, input::between(piece, from, to), store);
+        take_whole(desk, pieces::between(piece, from, to), store);
         from = to + 1;
     }
     from
@@ -116,15 +117,26 @@ fn go_on(desk: &mut Desk, piece: &mut [u8; PIECE], store: &mut Store) -> bool {
     true
 }
 
-// A line without a line end, where the input ends.
-fn take_last(desk: &mut Desk, piece: &[u8; PIECE], store: &mut Store) {
-    let rest = slots::at(desk, slots::REST);
-    if rest == 0 {
-        if slots::at(desk, slots::SKIPPING) == 0 {
-            return;
-        }
+// Whether the last line that was read is whole.
+fn is_between(desk: &Desk) -> bool {
+    if slots::at(desk, slots::SKIPPING) != 0 {
+        return false;
     }
-    take_whole(desk, input::between(piece, 0, rest), store);
+    slots::at(desk, slots::REST) == 0
+}
+
+// A line without a line end, where the input ends; what an input that could not be read breaks off is no line.
+fn take_last(desk: &mut Desk, piece: &[u8; PIECE], store: &mut Store) {
+    if is_between(desk) {
+        return;
+    }
+    if slots::at(desk, slots::UNREAD) == 0 {
+        take_whole(
+            desk,
+            pieces::between(piece, 0, slots::at(desk, slots::REST)),
+            store,
+        );
+    }
 }
 
 // The whole input. A proved loop has to end, and nothing says that the input does: so the turns are counted down, from a number that no
@@ -139,6 +151,7 @@ pub fn run(desk: &mut Desk, piece: &mut [u8; PIECE], store: &mut Store) {
             break;
         }
     }
+    end_typing(desk);
     take_last(desk, piece, store);
     tell_end(desk);
 }
@@ -151,16 +164,22 @@ fn begin(desk: &mut Desk) {
 // Who types is asked for each line.
 fn prompt(desk: &Desk) {
     if slots::at(desk, slots::PROMPT) != 0 {
-        if slots::at(desk, slots::REST) == 0 {
+        if is_between(desk) {
             say(wording::PROMPT);
         }
     }
 }
 
-// What is wrong at the end, and the tally.
-fn tell_end(desk: &mut Desk) {
+fn end_typing(desk: &Desk) {
     if slots::at(desk, slots::PROMPT) != 0 {
         say(wording::END);
+    }
+}
+
+// What is wrong at the end, and the tally.
+fn tell_end(desk: &mut Desk) {
+    if slots::at(desk, slots::UNREAD) != 0 {
+        faults::tell_whole(desk, faults::UNREAD);
     }
     if slots::at(desk, slots::SHEET) != 0 {
         faults::tell_whole(desk, faults::NO_END);

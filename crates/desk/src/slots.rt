@@ -1,5 +1,5 @@
 // What the desk keeps in numbers from line to line, each at a place of its own.
-pub const SLOTS: usize = 18;
+pub const SLOTS: usize = 19;
 
 // The line's number; how many statements had an expectation, and how many of them were right; how many lines were not understood.
 pub const LINE: usize = 0;
@@ -24,7 +24,7 @@ pub const B: usize = 8;
 
 pub const CAPTURED: usize = 9;
 
-// What is lent to the next question: so much of each of the four buffers, and of the reply or the list room.
+// What is lent to the next question: so much of each of the four buffers, in their order in the store, and of the reply or the list room.
 pub const ORDINARY_SIZE: usize = 10;
 
 pub const ORDINARY_RULES_SIZE: usize = 11;
@@ -38,11 +38,14 @@ pub const ROOM: usize = 14;
 // The rest of a line that is too long is being read past.
 pub const SKIPPING: usize = 15;
 
+// The input could not be read to its end.
+pub const UNREAD: usize = 16;
+
 // Somebody types, and is asked for each line.
-pub const PROMPT: usize = 16;
+pub const PROMPT: usize = 17;
 
 // How many bytes of a line that is not whole yet the piece begins with.
-pub const REST: usize = 17;
+pub const REST: usize = 18;
 
 // The capture while there is none: over every bus and device.
 pub const NOTHING: usize = 0x10000;

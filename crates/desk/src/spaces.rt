@@ -1,6 +1,7 @@
 // The store: the board's four buffers at the desk one behind the other, then the packet that it is sent and the reply. They are filled,
 // put and shown by hand, and held against what they should be.
 use crate::judging;
+use crate::pieces;
 use crate::saying::put;
 use crate::saying::put_bytes;
 use crate::slots;
@@ -28,13 +29,14 @@ pub const TRUSTED: usize = 8200;
 pub const TRUSTED_RULES: usize = 12300;
 
 // Where the four end: here the packet begins, of up to 64 bytes, and behind it the reply's buffer.
-pub const BOARD_END: usize = 16400;
+const BOARD_END: usize = 16400;
 
 pub const PACKET: usize = 16400;
 
 pub const REPLY: usize = 16464;
 
-pub const STORE: usize = 16484;
+// Past the reply are a few bytes more, so that no byte of it ends where the store does.
+pub const STORE: usize = 16488;
 
 pub type Store = [u8; STORE];
 
@@ -70,27 +72,16 @@ pub fn within(desk: &Desk, slot: usize, bytes: &[u8]) -> usize
     }
 }
 
-// So many bytes of the store from a place on, or none.
-pub fn part(store: &[u8], base: usize, size: usize) -> &[u8] {
-    if store.len() < size {
-        return &store[..0];
-    }
-    if store.len() - size < base {
-        return &store[..0];
-    }
-    &store[base..base + size]
-}
-
-// A buffer of the board, as far as the desk lends it.
+// A buffer of the board, as far as the desk lends it: its slot is as far behind the first as it lies in the store.
 pub fn lent<'a>(desk: &Desk, store: &'a [u8], base: usize) -> &'a [u8] {
     let slot = std::num::wrapping_add_usize(slots::ORDINARY_SIZE, base / LONG);
-    part(store, base, slots::at(desk, slot))
+    pieces::part(store, base, slots::at(desk, slot))
 }
 
 // A buffer of the store, and back.
 pub fn copy_of(store: &Store, base: usize) -> Buffer {
     let mut buffer = [0; LONG];
-    words::put(&mut buffer, 0, part(store, base, LONG));
+    words::put(&mut buffer, 0, pieces::part(store, base, LONG));
     buffer
 }
 
@@ -98,7 +89,8 @@ pub fn put_back(store: &mut Store, base: usize, buffer: &Buffer) {
     words::put(store, base, buffer);
 }
 
-// Puts the bytes that stand behind the words of buffers, from a place of the tokens to another: an offset, then the bytes there.
+// Puts the bytes that stand behind the words of buffers, from a place of the tokens to another: an offset and the bytes there, or the bytes
+// of a packet or a reply. No line has more of them than there is room for: the table of grammar.rt says how many it may have.
 pub fn put_behind(store: &mut Store, tokens: &Tokens, from: usize, to: usize) {
     let mut place = from;
     let mut base = STORE;
@@ -118,18 +110,10 @@ pub fn put_behind(store: &mut Store, tokens: &Tokens, from: usize, to: usize) {
     }
 }
 
-pub fn put_at(store: &mut Store, at: usize, byte: u8) {
+fn put_at(store: &mut Store, at: usize, byte: u8) {
     if at < STORE {
         store[at] = byte;
     }
-}
-
-pub fn byte_of(bytes: &[u8], at: usize) -> u8 {
-    if at < bytes.len() { bytes[at] } else { 0 }
-}
-
-pub fn value_of(bytes: &[u8], at: usize) -> usize {
-    byte_of(bytes, at) as usize
 }
 
 // Tells every word in which two boards differ: as it was and as it is, or as it is and as it should be. Answers how many there are.
@@ -139,7 +123,11 @@ pub fn tell_differences(desk: &Desk, judging: bool, one: &Store, other: &Store) 
     while word < BOARD_END {
         if words::word(one, word) != words::word(other, word) {
             tell_place(desk, judging, word);
-            tell_both(judging, part(one, word, 4), part(other, word, 4));
+            tell_both(
+                judging,
+                pieces::part(one, word, 4),
+                pieces::part(other, word, 4),
+            );
             told = std::num::wrapping_add_usize(told, 1);
         }
         word += 4;
@@ -180,7 +168,7 @@ pub fn tell_both(judging: bool, one: &[u8], other: &[u8]) {
 // A text and the bytes of a part of the store behind it.
 pub fn tell_part(text: usize, store: &[u8], base: usize, size: usize) {
     say(text);
-    put_bytes(part(store, base, size));
+    put_bytes(pieces::part(store, base, size));
 }
 
 // Shows so many bytes of a buffer from an offset on, sixteen to a line.
@@ -199,6 +187,6 @@ pub fn show(store: &Store, base: usize, from: usize, count: usize) {
 
 fn show_line(store: &Store, base: usize, offset: usize, count: usize) {
     say_one(wording::SHOWN, offset);
-    put_bytes(part(store, std::num::wrapping_add_usize(base, offset), count));
+    put_bytes(pieces::part(store, std::num::wrapping_add_usize(base, offset), count));
     say(wording::END);
 }

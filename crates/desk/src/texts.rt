@@ -1,5 +1,5 @@
 // Tables of text, a line for each entry, every line with its line end: entries found by their text, and by their number.
-use crate::input;
+use crate::pieces;
 
 fn is(text: &[u8], word: &[u8]) -> bool {
     if text.len() != word.len() {
@@ -23,11 +23,11 @@ pub fn place_of(text: &[u8], table: &[u8]) -> usize {
     let mut number = 0;
     let mut at = 0;
     while at < table.len() {
-        let end = input::place_of(table, at, table.len(), b'\n');
+        let end = pieces::place_of(table, at, table.len(), b'\n');
         if table.len() <= end {
             return NOWHERE;
         }
-        if is(text, input::between(table, at, end)) {
+        if is(text, pieces::between(table, at, end)) {
             return number;
         }
         number = std::num::wrapping_add_usize(number, 1);
@@ -39,10 +39,10 @@ pub fn place_of(text: &[u8], table: &[u8]) -> usize {
 // The entry with this number, without its line end, or nothing.
 pub fn entry(table: &[u8], number: usize) -> &[u8] {
     let from = begin_of(table, number);
-    input::between(
+    pieces::between(
         table,
         from,
-        input::place_of(table, from, table.len(), b'\n'),
+        pieces::place_of(table, from, table.len(), b'\n'),
     )
 }
 
@@ -51,7 +51,7 @@ fn begin_of(table: &[u8], number: usize) -> usize {
     let mut at = 0;
     let mut left = number;
     while 0 < left {
-        let end = input::place_of(table, at, table.len(), b'\n');
+        let end = pieces::place_of(table, at, table.len(), b'\n');
         if table.len() <= end {
             return end;
         }

@@ -1,6 +1,6 @@
 // A line as tokens: words, numbers of one to sixteen hexadecimal digits, commas. Blanks part them; a comma stands for itself; what follows
 // a # is a comment.
-use crate::input;
+use crate::pieces;
 use crate::vocabulary;
 ghost use Prim.Native.Nat.{_≤_, _<_};
 ghost use lib.ListN.{length};
@@ -11,13 +11,13 @@ pub const MOST: usize = 128;
 // The most digits of a number.
 const DIGITS: usize = 16;
 
-// The count of a line that has.
-pub const TOO_MANY: usize = 129;
+// The count of a line that has more than MOST.
+const TOO_MANY: usize = 129;
 
 // The word of each token, then the value of each that is a number, then where each begins in its line, then how many there are.
 pub const WIDTH: usize = 385;
 
-pub const COUNT: usize = 384;
+const COUNT: usize = 384;
 
 pub type Tokens = [usize; WIDTH];
 
@@ -107,7 +107,7 @@ fn is_number(text: &[u8]) -> bool {
     true
 }
 
-// The value of a text that is a number.
+// The value of a text that is a number; of any other single character 16.
 pub fn number_of(text: &[u8]) -> usize {
     let mut number = 0;
     let mut at = 0;
@@ -120,7 +120,7 @@ pub fn number_of(text: &[u8]) -> usize {
 
 // The value of a digit, or 16.
 fn digit_of(character: u8) -> usize {
-    let place = input::place_of(b"0123456789ABCDEFabcdef", 0, 22, character);
+    let place = pieces::place_of(b"0123456789ABCDEFabcdef", 0, 22, character);
     if place < 16 {
         return place;
     }

@@ -46,7 +46,7 @@ pub const SIZES: usize = 19;
 
 pub const ROOM: usize = 20;
 
-// Questions.
+// To look, and the questions.
 pub const SHOW: usize = 21;
 
 pub const PACKET: usize = 22;

@@ -22,7 +22,7 @@ const UNTOUCHED: u16 = 0xeeee;
 
 type Room = [u16; ROOM];
 
-pub fn kind_of(name: usize) -> Kind {
+fn kind_of(name: usize) -> Kind {
     match name {
         vocabulary::COMPATIBLE => Kind::Compatible,
         vocabulary::EXTENDED => Kind::Extended,

@@ -30,6 +30,9 @@ loop-less c = search needs
 loop-again : tie.Need-loop-again Inv-loop μ-loop
 loop-again c = search needs
 
+end-typing-requires : tie.Need-end-typing-requires Inv-loop μ-loop
+end-typing-requires c κs = search needs
+
 take-last-requires : tie.Need-take-last-requires Inv-loop μ-loop
 take-last-requires c κs = search needs
 
@@ -52,6 +55,7 @@ run-spec =
     go-on-requires
     loop-less
     loop-again
+    end-typing-requires
     take-last-requires
     tell-end-requires
     returns)

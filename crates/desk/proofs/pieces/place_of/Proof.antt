@@ -1,8 +1,8 @@
--- `desk::input::place_of` is safe and ends. Assumes nothing.
+-- `desk::pieces::place_of` is safe and ends. Assumes nothing.
 use borrow.Author.Needs.{needs}
 use Prim.Native.Nat.{_-_, _≤_}
-use Rattle.desk.proofs.input.place_of.Statement.{statement}
-use Rattle.desk.proofs.input.place_of.Tie as tie
+use Rattle.desk.proofs.pieces.place_of.Statement.{statement}
+use Rattle.desk.proofs.pieces.place_of.Tie as tie
 
 abbrev Inv-loop : tie.InvT-loop
 Inv-loop piece from end byte at₀ at = from ≤ at
