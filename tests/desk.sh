@@ -142,8 +142,8 @@ answers "an input that cannot be read" 1 <docs
 # One that breaks off inside a line: what is there of it is not done.
 if command -v perl >/dev/null; then
     printf 'ok\nline 1: the input could not be read to its end\nchecks 0, as expected 0, lines not understood 1\n' >"$work/wanted"
-    timeout 60 perl -MFcntl -e 'pipe(my $from, my $to) && fcntl($from, F_SETFL, O_NONBLOCK) && syswrite($to, "room 2\nwalk compatible -> number 0") or die;
-        open(STDIN, "<&", $from) && system("./run", "desk"); exit($? >> 8)' >"$work/out" 2>"$work/errors"
+    timeout 60 perl -MFcntl -e 'pipe(my $from, my $to) or die; fcntl($from, F_SETFL, O_NONBLOCK) or die;
+        syswrite($to, "room 2\nwalk compatible -> number 0") or die; open(STDIN, "<&", $from) or die; exit(system("./run", "desk") >> 8)' >"$work/out" 2>"$work/errors"
     status=$?
     if [ "$status" -eq 1 ] && cmp -s "$work/out" "$work/wanted"; then
         echo "ok desk, an input that breaks off inside a line"
