@@ -1,12 +1,8 @@
 # The desk: strict in what it reads, an answer to every line as soon as it is there, and a status that says whether all was right.
+. tests/common/missing.bash
 work=$(mktemp -d) || exit 2
 trap 'rm -rf "$work"' EXIT
 sheet=crates/desk/stdin
-
-# missing NAME TOOL: what is said where a tool is not there. Where CI is set, nothing is skipped
-missing() {
-    if [ -n "${CI:-}" ]; then echo "FAILED $1: no $2 on the PATH"; else echo "skipped $1: no $2 on the PATH"; fi
-}
 
 # desk: the program, on this standard input, ended where it does not end by itself
 desk() { timeout 120 ./run desk; }

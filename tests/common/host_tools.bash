@@ -9,10 +9,7 @@ cpp=(-std=c++17 "${warnings[@]}")
 work=$(mktemp -d) || exit 2
 trap 'rm -rf "$work"' EXIT
 
-# missing NAME TOOL: what is said where a tool is not there. Where CI is set, nothing is skipped
-missing() {
-    if [ -n "${CI:-}" ]; then echo "FAILED $1: no $2 on the PATH"; else echo "skipped $1: no $2 on the PATH"; fi
-}
+. tests/common/missing.bash
 
 # try NAME COMMAND..: the command ends well; else its first errors are told, or its last words
 try() {

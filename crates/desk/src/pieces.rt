@@ -1,7 +1,7 @@
 // Parts of bytes and of numbers, asked for by places that may lie outside.
 ghost use Prim.Native.Nat.{_≤_};
 
-// Where a byte stands from `from` on, or `end`.
+// Where a byte stands from `from` on and before `end`; else `end`, or `from` where that lies behind it.
 pub fn place_of(piece: &[u8], from: usize, end: usize, byte: u8) -> usize
     ensures { λ r. ⌜ from ≤ r ⌝ }
 {

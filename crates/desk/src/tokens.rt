@@ -127,7 +127,7 @@ fn digit_of(character: u8) -> usize {
     if place < 22 { place - 6 } else { 16 }
 }
 
-// The word at a place; NUMERAL where a number stands, UNKNOWN past the last.
+// The word at a place; NUMERAL where a number stands. A place behind the last token reads as a number 0.
 pub fn word(tokens: &Tokens, place: usize) -> usize {
     if place < MOST {
         tokens[place]
