@@ -1,0 +1,4 @@
+pub mod Ports
+pub mod Choice
+pub mod Buses
+pub mod Noting
