@@ -5,16 +5,20 @@ ghost use lib.ListN.{length, getD};
 ghost use Rattle.ports.specs.Choice.{choice};
 ghost use Rattle.ports.specs.Noting.{noPort, upTo};
 use super::Choice;
-use super::MOST;
 use super::Port;
 use super::noting;
+
+// The most ports that a list may have, and one that is too many.
+const MOST: usize = 32;
+
+const MORE: usize = 33;
 
 // How many ports of so many are looked at.
 fn up_to(count: usize) -> usize
     ensures { λ r. ⌜ r ≡ upTo count ⌝ }
 {
     if MOST < count {
-        return MOST + 1;
+        return MORE;
     }
     count
 }

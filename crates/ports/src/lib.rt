@@ -13,7 +13,7 @@ pub use noting::conclude;
 pub use noting::note;
 
 // The most ports that a list may have.
-pub const MOST: usize = 32;
+pub const MOST: u8 = 32;
 
 // A port: the buses behind it, from its secondary to its subordinate, both included, and whether it supports TCS routing: 0 says that it
 // does not, any other value that it does.
@@ -36,17 +36,17 @@ pub struct Buses {
 // before it, and the last that has the bus asked for, where one has.
 pub struct Survey {
     pub bus: u8,
-    pub count: usize,
+    pub count: u8,
     pub taken: Buses,
     pub bad: bool,
     pub found: bool,
-    pub place: usize,
+    pub place: u8,
     pub port: Port,
 }
 
 // The list is no good one; or the port that has the bus, with its place in the list; or none has it.
 pub enum Choice {
     BadList,
-    At(usize, Port),
+    At(u8, Port),
     Nowhere,
 }

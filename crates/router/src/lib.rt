@@ -15,7 +15,7 @@ pub const LEAVING: usize = 20;
 // What becomes of a packet: it leaves by a port of the list, with so many bytes; it is an Unsupported Request (UR), for no port has its bus;
 // or it is refused.
 pub enum Verdict {
-    Leaves { port: usize, length: usize },
+    Leaves { port: u8, length: usize },
     Unsupported,
     Refused(Refusal),
 }

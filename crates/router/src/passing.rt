@@ -56,7 +56,7 @@ fn leave(turned: bool, packet: &[u8], leaving: &mut [u8])
 }
 
 // Routes a request that is not of Type 0 by the port that has its bus: refused if it is barred there, else it leaves.
-fn pass_by(place: usize, port: Port, request: Request, packet: &[u8], leaving: &mut [u8]) -> Verdict
+fn pass_by(place: u8, port: Port, request: Request, packet: &[u8], leaving: &mut [u8]) -> Verdict
     requires { ⌜ Faultless (now packet) request (now leaving) ⌝ }
     ensures { λ r. ⌜ told r (now (leaving .exit)) ≡ shows (passesBy place port (now (packet .entry))) (now (leaving .entry)) ⌝ }
 {
