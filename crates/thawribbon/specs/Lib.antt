@@ -1,4 +1,5 @@
 pub mod Packets
 pub mod Walks
 pub mod Records
+pub mod Routes
 pub mod Inner

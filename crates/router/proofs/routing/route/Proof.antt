@@ -51,6 +51,7 @@ use Rattle.ports.proofs.choose.Symbol.{name as #choose}
 use Rattle.ports.proofs.choose.Met as choose-thm
 use Rattle.router.specs.declared.Verdict.{Verdict}
 use Rattle.router.specs.Promise.{Decides, Routes}
+use Rattle.router.proofs.Lent.{Slices, v, w, z, OwnP, OwnK, Tok₀, Tok₁, Tok₁₂, Left₁, Left₂, BusOf, Choose, to-bus, goes-bus, to-choose, goes-choose, args, Given-over, goes-inner}
 use Rattle.router.proofs.Verdict as O
 use Rattle.router.proofs.Verdict.Laws as O′
 use Rattle.router.proofs.routing.bus_of as bus-of
@@ -70,164 +71,78 @@ abbrev stayed : Stays (fn.ended .signature .params) (fn.ended .kept)
 stayed = (stay-none-slice (0 ∷ []) tt (plain (λ _. P.the-row)) yes, (stay-none-slice (1 ∷ []) tt (plain (λ _. u8)) yes, (gave-slice (2 ∷ []) tt (plain (λ _. u8)), tt)))
 
 module _ {M : Type 1} (𝓤 : URA M) (H : Heap 𝓤) (A : Atoms 𝓤) (mem : Memory → SProp 𝓤) (run : Routine → Fun 𝓤) where
-  -- the contracts that the proof cites
-  abbrev BusOf : Contract 𝓤
-  BusOf = tripleOf 𝓤 H A bus-of.signature (bus-of.spec 𝓤 H A mem run)
-
-  abbrev Choose : Contract 𝓤
-  Choose = tripleOf 𝓤 H A choose.signature (choose.spec 𝓤 H A mem run)
-
+  -- the contract of `decide`
   abbrev Inner : Contract 𝓤
   Inner = tripleOf 𝓤 H A inner.signature (inner.spec 𝓤 H A mem run)
 
-module _ {M : Type 1} (𝓤 : URA M) (H : Heap 𝓤) (A : Atoms 𝓤) (W : Given 𝓤 H A) (mem : Memory → SProp 𝓤) (run : Routine → Fun 𝓤) (κ₀ κ₁ κ₂ : Lft) (q₀ q₁ q₂ : Share) (s : RefT (List Port)) (k x : RefT (List ℕ)) where
-  -- the machine's values of ports, packet and leaving
-  abbrev v : Val
-  v = sliceVal (s .ptr) (length (s .now))
-
-  abbrev w : Val
-  w = sliceVal (k .ptr) (length (k .now))
-
-  abbrev z : Val
-  z = sliceVal (x .ptr) (length (x .now))
-
-  abbrev at : Vals fn.signature (κ₀, (κ₁, (κ₂, tt)))
-  at = (v ∷ [], (w ∷ [], (z ∷ [], tt)))
+module _ {M : Type 1} (𝓤 : URA M) (H : Heap 𝓤) (A : Atoms 𝓤) (W : Given 𝓤 H A) (mem : Memory → SProp 𝓤) (run : Routine → Fun 𝓤) (d : Slices) where
+  abbrev at : Vals fn.signature (d .κ₀, (d .κ₁, (d .κ₂, tt)))
+  at = (v d ∷ [], (w d ∷ [], (z d ∷ [], tt)))
 
   abbrev bound : walkOf 𝓤 H A fn.ended stayed (fn.clauses 𝓤 H A mem run) .Ghost
-  bound = (((κ₀, (κ₁, (κ₂, tt))), (q₀, (q₁, (q₂, tt))), tt, (s, (k, (x, tt))), at), tt)
+  bound = (((d .κ₀, (d .κ₁, (d .κ₂, tt))), (d .q₀, (d .q₁, (d .q₂, tt))), tt, (d .ports, (d .packet, (d .leaving, tt))), at), tt)
 
-  abbrev OwnP : Fml
-  OwnP = ShrSlice (named 0) κ₀ P.the-row .own s (v ∷ [])
-
-  abbrev OwnK : Fml
-  OwnK = ShrSlice (named 1) κ₁ u8 .own k (w ∷ [])
-
-  abbrev OwnX : Fml
-  OwnX = MutSlice (named 2) κ₂ u8 .own x (z ∷ [])
-
-  -- the tokens: ports', the packet's, the last two
-  abbrev Tok₀ : Item 𝓤
-  Tok₀ = ‵ (flft κ₀ q₀) ⊛ ‵ ftrue
-
-  abbrev Tok₁ : Item 𝓤
-  Tok₁ = ‵ (flft κ₁ q₁) ⊛ ‵ ftrue
-
-  abbrev Tok₁₂ : Item 𝓤
-  Tok₁₂ = ‵ (flft κ₁ q₁) ⊛ (‵ (flft κ₂ q₂) ⊛ ‵ ftrue)
+  abbrev Entry : SProp 𝓤
+  Entry = onEntry 𝓤 H A fn.signature (d .κ₀, (d .κ₁, (d .κ₂, tt))) (d .q₀, (d .q₁, (d .q₂, tt))) (d .ports, (d .packet, (d .leaving, tt))) at
 
   abbrev Post : Val → SProp 𝓤
   Post = walkOf 𝓤 H A fn.ended stayed (fn.clauses 𝓤 H A mem run) .post bound
 
-  exits : (r : Verdict) (u : Val) (zs : List ℕ) → Routes (s .now) (k .now) (x .now) r zs → length zs ≡ length (x .now)
-      → ent 𝓤 (⋆ 𝓤 H A (‵ (O.the-row .own r (u ∷ [])) ∷ Tok₁₂ ∷ ‵ (finally u8 (x .name) zs) ∷ (‵ OwnP ⊛ ‵ OwnK) ∷ Tok₀ ∷ [])) (Post u)
+  exits : (r : Verdict) (u : Val) (zs : List ℕ) → Routes (d .ports .now) (d .packet .now) (d .leaving .now) r zs → length zs ≡ length (d .leaving .now)
+      → ent 𝓤 (⋆ 𝓤 H A (‵ (O.the-row .own r (u ∷ [])) ∷ Tok₁₂ 𝓤 d ∷ ‵ (finally u8 (d .leaving .name) zs) ∷ (‵ (OwnP d) ⊛ ‵ (OwnK d)) ∷ Tok₀ 𝓤 d ∷ [])) (Post u)
   exits r u zs e l =
-      qed W (‵ (O.the-row .own r (u ∷ [])) ∷ Tok₁₂ ∷ ‵ (finally u8 (x .name) zs) ∷ (‵ OwnP ⊛ ‵ OwnK) ∷ Tok₀ ∷ []) ∵
+      qed W (‵ (O.the-row .own r (u ∷ [])) ∷ Tok₁₂ 𝓤 d ∷ ‵ (finally u8 (d .leaving .name) zs) ∷ (‵ (OwnP d) ⊛ ‵ (OwnK d)) ∷ Tok₀ 𝓤 d ∷ []) ∵
       suffices ! _ (ends-at 𝓤 H A fn.ended stayed (fn.clauses 𝓤 H A mem run) W bound u r (tt, (tt, (zs, tt))) (tt, (tt, (l, tt)))) $ says ! e $
       move ! (4 ∷ 1 ∷ []) $ split ! $ move ! (0 ∷ 2 ∷ []) $ join ! $ frame ! $
       -- [true; the result; the last list; what ports and packet own]
       move ! (2 ∷ 0 ∷ []) $ fjoin ! $ move ! (2 ∷ []) $ split ! $ move ! (1 ∷ 2 ∷ []) $ fjoin ! $ move ! (1 ∷ 0 ∷ []) $ fjoin ! $ frame ! $ done !
 
-  -- the call of `bus_of`: the packet goes as a copy, beside its token, which comes back. The rest stays
-  abbrev to-bus : BusOf 𝓤 H A mem run .Ghost
-  to-bus = (((κ₁, tt), (q₁, tt), tt, (k, tt), (w ∷ [], tt)), tt)
-
-  abbrev Left₁ : Item 𝓤
-  Left₁ = ‵ OwnP ⊛ (‵ OwnK ⊛ (‵ OwnX ⊛ (‵ (flft κ₀ q₀) ⊛ ‵ (flft κ₂ q₂))))
-
-  goes-bus : ent 𝓤 (onEntry 𝓤 H A fn.signature (κ₀, (κ₁, (κ₂, tt))) (q₀, (q₁, (q₂, tt))) (s, (k, (x, tt))) at) (mean 𝓤 H A (raw (BusOf 𝓤 H A mem run .pre to-bus) ⊛ Left₁))
-  goes-bus =
-      qed W ((‵ (flft κ₀ q₀) ⊛ Tok₁₂) ∷ ‵ (owns (ShrSlice (named 0) κ₀ P.the-row ∷ ShrSlice (named 1) κ₁ u8 ∷ MutSlice (named 2) κ₂ u8 ∷ []) (s, (k, (x, tt))) at) ∷ []) ∵
-      split ! $ move ! (1 ∷ []) $ split ! $ move ! (1 ∷ []) $ split ! $
-      -- [packet's token is at 2; leaving's token; true; packet's; ports'; what they own]
-      move ! (4 ∷ []) $ fsplit ! $ move ! (1 ∷ []) $ fsplit ! $ use1 W (‵ OwnK ⊛ ‵ OwnK) (shr-slice-copy 𝓤 H A W (named 1) κ₁ u8 .twice k (w ∷ [])) $ split ! $
-      -- [what packet owns, twice; what leaving owns; what ports owns; leaving's token; true; packet's token; ports' token]
-      nothing ! $ move ! (1 ∷ 0 ∷ []) $ fjoin ! $ move ! (6 ∷ 5 ∷ []) $ join ! $ move ! (0 ∷ 1 ∷ []) $
-      use2 W (raw (BusOf 𝓤 H A mem run .pre to-bus)) (qed W (Tok₁ ∷ ‵ (owns (ShrSlice (named 0) κ₁ u8 ∷ []) (k, tt) (w ∷ [], tt)) ∷ []) ∵ join ! $ frame ! $ done !) $
-      frame ! $ move ! (2 ∷ []) $ frame ! $ frame ! $ fsplit ! $ frame ! $ drop ! $ move ! (1 ∷ []) $ frame ! $ done !
-
-  -- the call of `choose`: ports goes as a copy, beside its token, and the bus as a plain value
-  abbrev at-choose : Val → Vals choose.signature (κ₀, tt)
-  at-choose u = (v ∷ [], (u ∷ [], tt))
-
-  abbrev to-choose : ℕ → Val → Choose 𝓤 H A mem run .Ghost
-  to-choose b u = (((κ₀, tt), (q₀, tt), tt, (s, (b, tt)), at-choose u), tt)
-
-  abbrev Left₂ : Item 𝓤
-  Left₂ = ‵ OwnP ⊛ (‵ OwnK ⊛ (‵ OwnX ⊛ ‵ (flft κ₂ q₂)))
-
-  goes-choose : (b : ℕ) (u : Val) → ent 𝓤 (sep 𝓤 (sem 𝓤 H A (u8 .own b (u ∷ []))) (mean 𝓤 H A Left₁)) (mean 𝓤 H A (raw (Choose 𝓤 H A mem run .pre (to-choose b u)) ⊛ Left₂))
-  goes-choose b u =
-      qed W (‵ (u8 .own b (u ∷ [])) ∷ Left₁ ∷ []) ∵ nothing ! $ move ! (1 ∷ 0 ∷ []) $ fjoin ! $ move ! (1 ∷ []) $ split ! $
-      use1 W (‵ OwnP ⊛ ‵ OwnP) (shr-slice-copy 𝓤 H A W (named 0) κ₀ P.the-row .twice s (v ∷ [])) $ split ! $ move ! (0 ∷ 3 ∷ []) $ fjoin ! $
-      -- [what the parameters own; what ports owns; the rest]
-      move ! (2 ∷ []) $ split ! $ move ! (1 ∷ []) $ split ! $ move ! (1 ∷ []) $ split ! $
-      -- [ports' token; leaving's token; what leaving owns; what packet owns; what the parameters own; what ports owns]
-      nothing ! $ move ! (1 ∷ 0 ∷ []) $ join ! $ move ! (0 ∷ 4 ∷ []) $
-      use2 W (raw (Choose 𝓤 H A mem run .pre (to-choose b u))) (qed W (Tok₀ ∷ ‵ (owns (ShrSlice (named 0) κ₀ P.the-row ∷ u8 ∷ []) (s, (b, tt)) (at-choose u)) ∷ []) ∵ join ! $ frame ! $ done !) $
-      frame ! $ move ! (3 ∷ 2 ∷ 1 ∷ 0 ∷ []) $ frame ! $ frame ! $ frame ! $ done !
-
-  -- the call of `decide`: the packet goes as a copy, and leaving for good
-  abbrev Arg : Type 0
-  Arg = Choice × (RefT (List ℕ) × (RefT (List ℕ) × Unit {0}))
-
-  abbrev args : Choice → Arg
-  args t = (t, (k, (x, tt)))
-
-  abbrev passed : Val → Vals inner.signature (κ₁, (κ₂, tt))
-  passed u = (u ∷ [], (w ∷ [], (z ∷ [], tt)))
-
   abbrev to-inner : Choice → Val → Inner 𝓤 H A mem run .Ghost
-  to-inner t u = (((κ₁, (κ₂, tt)), (q₁, (q₂, tt)), tt, args t, passed u), tt)
+  to-inner t u = (((d .κ₁, (d .κ₂, tt)), (d .q₁, (d .q₂, tt)), tt, args 𝓤 H A W mem run d t, (u ∷ [], (w d ∷ [], (z d ∷ [], tt)))), tt)
 
-  goes-inner : (t : Choice) (u : Val) → ent 𝓤 (sep 𝓤 (sem 𝓤 H A (B.the-row .own t (u ∷ []))) (mean 𝓤 H A (Left₂ ⊛ Tok₁))) (mean 𝓤 H A (raw (Inner 𝓤 H A mem run .pre (to-inner t u)) ⊛ (‵ OwnP ⊛ ‵ OwnK)))
-  goes-inner t u =
-      qed W (‵ (B.the-row .own t (u ∷ [])) ∷ (Left₂ ⊛ Tok₁) ∷ []) ∵ move ! (1 ∷ []) $ split ! $ split ! $ move ! (1 ∷ []) $ split ! $
-      use1 W (‵ OwnK ⊛ ‵ OwnK) (shr-slice-copy 𝓤 H A W (named 1) κ₁ u8 .twice k (w ∷ [])) $ split ! $ move ! (2 ∷ []) $ split ! $
-      -- [what leaving owns; its token; what packet owns, twice; what ports owns; packet's token; what the choice owns]
-      nothing ! $ move ! (1 ∷ 0 ∷ []) $ fjoin ! $ move ! (2 ∷ 0 ∷ []) $ fjoin ! $ move ! (5 ∷ 0 ∷ []) $ fjoin ! $
-      -- [what the parameters own; leaving's token; what packet owns; what ports owns; packet's token]
-      move ! (4 ∷ []) $ split ! $ move ! (3 ∷ 1 ∷ []) $ join ! $ move ! (1 ∷ 0 ∷ []) $ join ! $ move ! (0 ∷ 1 ∷ []) $
-      use2 W (raw (Inner 𝓤 H A mem run .pre (to-inner t u))) (qed W (Tok₁₂ ∷ ‵ (owns (B.the-row ∷ ShrSlice (named 0) κ₁ u8 ∷ MutSlice (named 1) κ₂ u8 ∷ []) (args t) (passed u)) ∷ []) ∵ join ! $ frame ! $ done !) $
-      frame ! $ move ! (1 ∷ 0 ∷ []) $ frame ! $ done !
+  -- what `decide` says, at some last list
+  abbrev Said : Choice → Verdict → (Unit {0} × (Unit {0} × (List ℕ × Unit {0}))) → Type 0
+  Said t r zs = Decides t (d .packet .now) (d .leaving .now) r (zs .1 .1 .0)
 
   module _ (C : Calls 𝓤 H) (Λ : Loops 𝓤 H) (fm : FmC 𝓤 H (W .laws) C) (known-bus : Triple 𝓤 (C #bus-of) (BusOf 𝓤 H A mem run)) (known-choose : Triple 𝓤 (C #choose) (Choose 𝓤 H A mem run)) (known-inner : Triple 𝓤 (C #inner) (Inner 𝓤 H A mem run)) where
-    walk : Room P.the-row (length (s .now)) → Room u8 (length (k .now)) → Room u8 (length (x .now)) → ent 𝓤 (onEntry 𝓤 H A fn.signature (κ₀, (κ₁, (κ₂, tt))) (q₀, (q₁, (q₂, tt))) (s, (k, (x, tt))) at) (WpFn 𝓤 H C Λ code.function (v ∷ w ∷ z ∷ []) Post)
+    walk : Room P.the-row (length (d .ports .now)) → Room u8 (length (d .packet .now)) → Room u8 (length (d .leaving .now)) → ent 𝓤 Entry (WpFn 𝓤 H C Λ code.function (v d ∷ w d ∷ z d ∷ []) Post)
     walk gs gk gx =
-        qed W (raw (onEntry 𝓤 H A fn.signature (κ₀, (κ₁, (κ₂, tt))) (q₀, (q₁, (q₂, tt))) (s, (k, (x, tt))) at) ∷ []) ∵ enter ! C Λ code.function (v ∷ w ∷ z ∷ []) _ $
+        qed W (raw Entry ∷ []) ∵ enter ! C Λ code.function (v d ∷ w d ∷ z d ∷ []) _ $
         alloc1 ! (λ l₀. alloc1 ! (λ l₁. alloc1 ! (λ l₂. alloc1 ! (λ l₃. alloc1 ! (λ l₄. alloc1 ! (λ l₅. alloc1 ! (λ l₆. alloc1 ! (λ l₇. alloc0 ! $ params1 ! $
         pass1 ! (init ! 12 refl (tt, (tt, (record { fits = gs .0 }, tt)))) $ pass1 ! (init ! 10 refl (tt, (tt, (record { fits = gk .0 }, tt)))) $ pass1 ! (init ! 8 refl (tt, (tt, (record { fits = gx .0 }, tt)))) $ pass0 ! $
-        move ! (16 ∷ []) $ use1 W (raw (BusOf 𝓤 H A mem run .pre to-bus) ⊛ Left₁) goes-bus $ split ! $
-        asks fm bus-of.ended (bus-of.clauses 𝓤 H A mem run) known-bus to-bus Tok₁ (id⊢ 𝓤 _) (λ b. b ≡ byte (k .now) 8) (λ b ws. id⊢ 𝓤 _)
+        move ! (16 ∷ []) $ use1 W (raw (BusOf 𝓤 H A mem run .pre (to-bus 𝓤 H A W mem run d)) ⊛ Left₁ 𝓤 d) (goes-bus 𝓤 H A W mem run d) $ split ! $
+        asks fm bus-of.ended (bus-of.clauses 𝓤 H A mem run) known-bus (to-bus 𝓤 H A W mem run d) (Tok₁ 𝓤 d) (id⊢ 𝓤 _) (λ b. b ≡ byte (d .packet .now) 8) (λ b ws. id⊢ 𝓤 _)
         (and-then ! (load ! (from ! (stop !)) (look ! 12 refl)) (no-more !)) (λ b u e is.
         -- [the bus; packet's token; what is left; room for _7; …; room for _0; …]
         land ! (from ! (stop !)) (init ! 7 refl (uint-lawful 𝓤 H A W w8 .typed b _ is .0)) $
-        move ! (0 ∷ 2 ∷ []) $ use2 W (raw (Choose 𝓤 H A mem run .pre (to-choose b u)) ⊛ Left₂) (goes-choose b u) $ split ! $
-        asks fm choose.ended (choose.clauses 𝓤 H A mem run) known-choose (to-choose b u) Tok₀ (id⊢ 𝓤 _) (λ t. t ≡ choice (s .now) b) (λ t ws. id⊢ 𝓤 _)
+        move ! (0 ∷ 2 ∷ []) $ use2 W (raw (Choose 𝓤 H A mem run .pre (to-choose 𝓤 H A W mem run d b u)) ⊛ Left₂ 𝓤 d) (goes-choose 𝓤 H A W mem run d b u) $ split ! $
+        asks fm choose.ended (choose.clauses 𝓤 H A mem run) known-choose (to-choose 𝓤 H A W mem run d b u) (Tok₀ 𝓤 d) (id⊢ 𝓤 _) (λ t. t ≡ choice (d .ports .now) b) (λ t ws. id⊢ 𝓤 _)
         (and-then ! (load ! (from ! (stop !)) (look ! 15 refl)) (and-then ! (load ! (from ! (stop !)) (look ! 7 refl)) (no-more !))) (λ t u′ e′ is′.
         -- [the choice; ports' token; what is left; packet's token; room for _7; …]
         land ! (from ! (stop !)) (init ! 10 refl (EL.lawful B.the-type B′.the-laws 𝓤 H A W tt .typed t _ is′ .0)) $
         assigns ! (addr ! (from ! (fld ! refl (hop ! (look-in ! 12 (sub ! 0 refl (whole !))) (stop !))))) (from ! (stop !)) (init ! 6 refl (tt, tt)) $
         assigns ! (agg ! (and-then ! (load ! (from ! (stop !)) (look ! 6 refl)) (and-then ! (load ! (from ! (fld ! refl (stop !))) (look-in ! 12 (sub ! 1 refl (whole !)))) (no-more !)))) (from ! (stop !)) (init ! 4 refl (tt, (tt, (record { fits = gx .0 }, tt)))) $
-        move ! (2 ∷ 3 ∷ []) $ join ! $ move ! (1 ∷ 0 ∷ []) $ use2 W (raw (Inner 𝓤 H A mem run .pre (to-inner t u′)) ⊛ (‵ OwnP ⊛ ‵ OwnK)) (goes-inner t u′) $ split ! $
+        move ! (2 ∷ 3 ∷ []) $ join ! $ move ! (1 ∷ 0 ∷ []) $
+        use2 W (raw (Inner 𝓤 H A mem run .pre (to-inner t u′)) ⊛ (‵ (OwnP d) ⊛ ‵ (OwnK d))) (goes-inner 𝓤 H A W mem run d t u′ (Inner 𝓤 H A mem run .pre (to-inner t u′)) (qed W (Given-over 𝓤 H A W mem run d t u′) ∵ join ! $ frame ! $ done !)) $ split ! $
         calls-at ! fm (Inner 𝓤 H A mem run) known-inner (to-inner t u′) (and-then ! (load ! (from ! (stop !)) (look ! 9 refl)) (and-then ! (load ! (from ! (stop !)) (look ! 13 refl)) (and-then ! (load ! (from ! (stop !)) (look ! 3 refl)) (no-more !)))) (λ y.
-        use1 W (later (some (λ (r : Verdict). (Tok₁₂ ⊛ ‵ (O.the-row .own r (y ∷ []))) ⊛ raw (ensured 𝓤 H A inner.ended (inner.clauses 𝓤 H A mem run) (κ₁, (κ₂, tt)) (args t) tt r)))) (id⊢ 𝓤 _) $ await ! tt $ pick ! (λ r.
-        -- what `decide` ensures, at some last list
-        split ! $ move ! (1 ∷ []) $ use1 W (some (λ (zs : Unit {0} × (Unit {0} × (List ℕ × Unit {0}))). ‵ (lasts inner.ended (κ₁, (κ₂, tt)) (args t) zs) ⊛ raw (fact 𝓤 (Decides t (k .now) (x .now) r (zs .1 .1 .0))))) (id⊢ 𝓤 _) $ pick ! (λ zs.
-        split ! $ move ! (1 ∷ []) $ heard ! (Decides t (k .now) (x .now) r (zs .1 .1 .0)) (λ e″. fsplit ! $ drop ! $ fsplit ! $ drop ! $ fsplit ! $ fsplit ! $ move ! (1 ∷ []) $ feqL ! (λ l.
+        use1 W (later (some (λ (r : Verdict). (Tok₁₂ 𝓤 d ⊛ ‵ (O.the-row .own r (y ∷ []))) ⊛ raw (ensured 𝓤 H A inner.ended (inner.clauses 𝓤 H A mem run) (d .κ₁, (d .κ₂, tt)) (args 𝓤 H A W mem run d t) tt r)))) (id⊢ 𝓤 _) $ await ! tt $ pick ! (λ r.
+        split ! $ move ! (1 ∷ []) $ use1 W (some (λ (zs : Unit {0} × (Unit {0} × (List ℕ × Unit {0}))). ‵ (lasts inner.ended (d .κ₁, (d .κ₂, tt)) (args 𝓤 H A W mem run d t) zs) ⊛ raw (fact 𝓤 (Said t r zs)))) (id⊢ 𝓤 _) $ pick ! (λ zs.
+        split ! $ move ! (1 ∷ []) $ heard ! (Said t r zs) (λ e″. fsplit ! $ drop ! $ fsplit ! $ drop ! $ fsplit ! $ fsplit ! $ move ! (1 ∷ []) $ feqL ! (λ l.
         -- [the last list; true; the tokens and the result; what ports and packet own; ports' token; …]
         move ! (2 ∷ []) $ split ! $ move ! (1 ∷ []) $ peeks ! O.the-row (Is O.the-row) (shows 𝓤 H A O.the-row) r (y ∷ []) (λ is″.
         land ! (from ! (stop !)) (init ! 20 refl (EL.lawful O.the-type O′.the-laws 𝓤 H A W tt .typed r _ is″ .0)) $
         returns ! (look ! 20 refl) $ forget ! 6 refl $ forget ! 8 refl $ forget ! 10 refl $ forget ! 12 refl $ forget ! 14 refl $ forget ! 16 refl $ forget ! 18 refl $ forget ! 20 refl $
         move ! (20 ∷ 21 ∷ []) $ free1 ! $ move ! (18 ∷ 19 ∷ []) $ free1 ! $ move ! (16 ∷ 17 ∷ []) $ free1 ! $ move ! (14 ∷ 15 ∷ []) $ free1 ! $ move ! (12 ∷ 13 ∷ []) $ free1 ! $ move ! (10 ∷ 11 ∷ []) $ free1 ! $ move ! (8 ∷ 9 ∷ []) $ free1 ! $ move ! (6 ∷ 7 ∷ []) $ free1 ! $ free0 ! $
-        keep ! (0 ∷ 1 ∷ 2 ∷ 4 ∷ 5 ∷ []) $ by ! (exits r y (zs .1 .1 .0) (subst (λ (c : Choice). Decides c (k .now) (x .now) r (zs .1 .1 .0)) (e′ ∙ ap (choice (s .now)) e) e″) l)))))))))))))))))
+        keep ! (0 ∷ 1 ∷ 2 ∷ 4 ∷ 5 ∷ []) $ by ! (exits r y (zs .1 .1 .0) (subst (λ (c : Choice). Said c r zs) (e′ ∙ ap (choice (d .ports .now)) e) e″) l)))))))))))))))))
 
 module _ {M : Type 1} (𝓤 : URA M) (H : Heap 𝓤) (A : Atoms 𝓤) (W : Given 𝓤 H A) (mem : Memory → SProp 𝓤) (run : Routine → Fun 𝓤) (𝓣 : Tables 𝓤 H)
     (known-bus : Triple 𝓤 (𝓣 .C #bus-of) (BusOf 𝓤 H A mem run)) (known-choose : Triple 𝓤 (𝓣 .C #choose) (Choose 𝓤 H A mem run)) (known-inner : Triple 𝓤 (𝓣 .C #inner) (Inner 𝓤 H A mem run)) where
   walks : Walks 𝓤 H A fn.ended stayed (WpFn 𝓤 H (𝓣 .C) (𝓣 .Λ) code.function) (fn.clauses 𝓤 H A mem run)
   walks = walked 𝓤 H A fn.ended stayed (fn.clauses 𝓤 H A mem run) (WpFn 𝓤 H (𝓣 .C) (𝓣 .Λ) code.function) (λ κs. (slice-vals, (slice-vals, (slice-vals, tt))))
       (λ κs. (shr-slice-tells (named 0) (κs .0) P.the-row, (shr-slice-tells (named 1) (κs .1 .0) u8, (mut-slice-tells (named 2) (κs .1 .1 .0) u8, tt))))
-      (λ κs qs bounds a g are. via 𝓤 _ (fst∗ 𝓤 _ (emp 𝓤)) (walk 𝓤 H A W mem run (κs .0) (κs .1 .0) (κs .1 .1 .0) (qs .0) (qs .1 .0) (qs .1 .1 .0) (a .0) (a .1 .0) (a .1 .1 .0) (𝓣 .C) (𝓣 .Λ) (fmOf 𝓤 H (W .laws) 𝓣) known-bus known-choose known-inner (are .0 .0 .1) (are .1 .0 .0 .1) (are .1 .1 .0 .0 .1)))
+      (λ κs qs bounds a g are. via 𝓤 _ (fst∗ 𝓤 _ (emp 𝓤)) (walk 𝓤 H A W mem run
+      (record { κ₀ = κs .0; κ₁ = κs .1 .0; κ₂ = κs .1 .1 .0; q₀ = qs .0; q₁ = qs .1 .0; q₂ = qs .1 .1 .0; ports = a .0; packet = a .1 .0; leaving = a .1 .1 .0 })
+      (𝓣 .C) (𝓣 .Λ) (fmOf 𝓤 H (W .laws) 𝓣) known-bus known-choose known-inner (are .0 .0 .1) (are .1 .0 .0 .1) (are .1 .1 .0 .0 .1)))
 
   meets : Meets 𝓤 H A fn.signature (WpFn 𝓤 H (𝓣 .C) (𝓣 .Λ) code.function) (fn.spec 𝓤 H A mem run)
   meets = walk-meets 𝓤 H A fn.ended stayed W (goes-none-slice 𝓤 H A W 3 (0 ∷ []) tt (plain (λ _. P.the-row)) yes, (goes-none-slice 𝓤 H A W 3 (1 ∷ []) tt (plain (λ _. u8)) yes, (goes-gave-slice 𝓤 H A W 3 2 tt (plain (λ _. u8)), tt)))
