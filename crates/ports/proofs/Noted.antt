@@ -190,11 +190,11 @@ surveyed ps bus (suc n) h b = surveyed-more ps bus n (after ps bus n) (surveyed 
 
 -- ---- the choice
 
-chosen-none : (ps : List Port) (k bus : ℕ) → ((i : ℕ) → i < length ps → has (portAt ps i) bus ≡ false) → portFrom k ps bus ≡ Nowhere
+pub chosen-none : (ps : List Port) (k bus : ℕ) → ((i : ℕ) → i < length ps → has (portAt ps i) bus ≡ false) → portFrom k ps bus ≡ Nowhere
 chosen-none [] k bus n = refl
 chosen-none (p ∷ ps) k bus n = rw (n 0 (omega arith)) (chosen-none ps (suc k) bus (λ i h. n (suc i) (omega arith)))
 
-chosen-at : (ps : List Port) (k bus m : ℕ) → m < length ps → has (portAt ps m) bus ≡ true → ((i : ℕ) → i < m → has (portAt ps i) bus ≡ false)
+pub chosen-at : (ps : List Port) (k bus m : ℕ) → m < length ps → has (portAt ps m) bus ≡ true → ((i : ℕ) → i < m → has (portAt ps i) bus ≡ false)
     → portFrom k ps bus ≡ At (k + m) (portAt ps m)
 chosen-at [] k bus m h e n = absurd (omega arith)
 chosen-at (p ∷ ps) k bus zero h e n = rw e (ap (λ (i : ℕ). At i p) (omega arith))
