@@ -61,7 +61,7 @@ at-most-20 p e = subst (λ (n : ℕ). n ≤ 20) (sym (whole-is p e)) (at-most (w
 
 -- ---- the type codes of Type 1, and byte 0 as Type 0
 
-type1-codes : (code : ℕ) → unknown (typeOf code) ≡ false → targetOf (typeOf code) ≡ Type1 → (code ≡ 0x05) ⊎ (code ≡ 0x45)
+pub type1-codes : (code : ℕ) → unknown (typeOf code) ≡ false → targetOf (typeOf code) ≡ Type1 → (code ≡ 0x05) ⊎ (code ≡ 0x45)
 unfolding typeOf
 type1-codes code = go (eqb code 0x04) (eqb code 0x44) (eqb code 0x05) (eqb code 0x45) (eqb code 0x1b) (eqb code 0x5b) refl refl
   where
@@ -212,24 +212,27 @@ refused-is : (n : ℕ) (c : Choice) (p : List ℕ) → (n ≡ 0 → ⊥) → byN
 refused-is zero c p h = absurd (h refl)
 refused-is (suc n) c p h = refl
 
-module _ (c : Choice) (p buffer : List ℕ) where
-  pub refused-shows : (n : ℕ) → (n ≡ 0 → ⊥) → routeNumber c p (length buffer) ≡ n
-      → record { number = n; leaves = false; port = 0; count = 0; buffer = buffer } ≡ shows (decide c p (length buffer)) buffer
-  unfolding shows decide
-  refused-shows n h e = rw (e, refused-is n c p h)
+pub refused-shows : (c : Choice) (p buffer : List ℕ) (n : ℕ) → (n ≡ 0 → ⊥) → routeNumber c p (length buffer) ≡ n
+    → record { number = n; leaves = false; port = 0; count = 0; buffer = buffer } ≡ shows (decide c p (length buffer)) buffer
+unfolding shows decide
+refused-shows c p buffer n h e = rw (e, refused-is n c p h)
 
-  pub bad-number : isBad c ≡ true → routeNumber c p (length buffer) ≡ 1
+module _ (c : Choice) (p : List ℕ) (size : ℕ) where
+  pub bad-number : isBad c ≡ true → routeNumber c p size ≡ 1
   bad-number e = rw e
 
-  pub room-number : isBad c ≡ false → length buffer < 20 → routeNumber c p (length buffer) ≡ 2
-  room-number e h = rw (e, lt-ltb (length buffer) 20 h)
+  pub room-number : isBad c ≡ false → size < 20 → routeNumber c p size ≡ 2
+  room-number e h = rw (e, lt-ltb size 20 h)
 
-  past : isBad c ≡ false → 20 ≤ length buffer → routeNumber c p (length buffer) ≡ firstThatApplies (packetChecks p ++ routerChecks c p)
-  past e h = rw (e, le-ltb (length buffer) 20 h)
+  past : isBad c ≡ false → 20 ≤ size → routeNumber c p size ≡ firstThatApplies (packetChecks p ++ routerChecks c p)
+  past e h = rw (e, le-ltb size 20 h)
 
-  pub packet-number : isBad c ≡ false → 20 ≤ length buffer → (packetNumber p ≡ 0 → ⊥) → routeNumber c p (length buffer) ≡ packetNumber p
+  pub packet-number : isBad c ≡ false → 20 ≤ size → (packetNumber p ≡ 0 → ⊥) → routeNumber c p size ≡ packetNumber p
   packet-number e h f = past e h ∙ first-of (packetChecks p) (routerChecks c p) f
 
-  pub passes-decides : isBad c ≡ false → 20 ≤ length buffer → packetNumber p ≡ 0 → decide c p (length buffer) ≡ passes c p
+  pub router-number : isBad c ≡ false → 20 ≤ size → packetNumber p ≡ 0 → routeNumber c p size ≡ firstThatApplies (routerChecks c p)
+  router-number e h f = past e h ∙ none-of (packetChecks p) (routerChecks c p) (positive p) f
+
+  pub passes-decides : isBad c ≡ false → 20 ≤ size → packetNumber p ≡ 0 → decide c p size ≡ passes c p
   unfolding decide
-  passes-decides e h f = ap (λ (n : ℕ). byNumber n c p) (past e h ∙ none-of (packetChecks p) (routerChecks c p) (positive p) f)
+  passes-decides e h f = ap (λ (n : ℕ). byNumber n c p) (router-number e h f)

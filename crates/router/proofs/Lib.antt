@@ -1,2 +1,5 @@
 pub mod Laws
 pub mod Lent
+pub mod Unique
+pub mod Verdicts
+pub mod Ways

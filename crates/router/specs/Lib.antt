@@ -1,3 +1,4 @@
 pub mod Routing
 pub mod Promise
+pub mod Row
 pub mod Inner

@@ -1,6 +1,7 @@
 -- `router::routing::decide` meets its contract: the checks in their order, then the request. Assumes nothing.
 use denote.Ref.{now}
 use mathlib.Core.Path.{sym, ap, subst, _∙_}
+use lib.ListN.{length}
 use borrow.Author.Needs.{needs}
 use Rattle.answers.proofs.Unique.{number-positive}
 use Rattle.packet.specs.Request.{Decodes}
@@ -18,14 +19,14 @@ returns c =
     let s = c .before .before .before .before in
     let p = now (s .args .packet) in
     let b = now (s .args .leaving) in
-    refused-shows (s .args .choice) p b 1 (search needs) (bad-number (s .args .choice) p b (sym (c .before .is-bad .ensures) ∙ c .if1 .taken))
+    refused-shows (s .args .choice) p b 1 (search needs) (bad-number (s .args .choice) p (length b) (sym (c .before .is-bad .ensures) ∙ c .if1 .taken))
 
 returns-2 : tie.Need-returns-2
 returns-2 c =
     let s = c .before .before .before .before .before in
     let p = now (s .args .packet) in
     let b = now (s .args .leaving) in
-    refused-shows (s .args .choice) p b 2 (search needs) (room-number (s .args .choice) p b (sym (c .before .before .is-bad .ensures) ∙ c .before .if1 .left) (c .if2 .taken))
+    refused-shows (s .args .choice) p b 2 (search needs) (room-number (s .args .choice) p (length b) (sym (c .before .before .is-bad .ensures) ∙ c .before .if1 .left) (c .if2 .taken))
 
 decode-requires : tie.Need-decode-requires
 decode-requires c κs = search needs
@@ -50,7 +51,7 @@ returns-3 c =
     let p = now (s .args .packet) in
     let b = now (s .args .leaving) in
     let d = subst (Decodes p) (c .before .refusal .given .1) (c .before .before .before .decode .ensures) in
-    refused-shows (s .args .choice) p b _ (number-positive (c .before .refusal .given .0 .0)) (packet-number (s .args .choice) p b (sym (c .before .before .before .before .before .before .is-bad .ensures) ∙ c .before .before .before .before .before .if1 .left) (c .before .before .before .before .if2 .left) (λ e. number-positive (c .before .refusal .given .0 .0) (sym d ∙ e)) ∙ d)
+    refused-shows (s .args .choice) p b _ (number-positive (c .before .refusal .given .0 .0)) (packet-number (s .args .choice) p (length b) (sym (c .before .before .before .before .before .before .is-bad .ensures) ∙ c .before .before .before .before .before .if1 .left) (c .before .before .before .before .if2 .left) (λ e. number-positive (c .before .refusal .given .0 .0) (sym d ∙ e)) ∙ d)
 
 same-length : tie.Need-same-length
 same-length c = search needs
@@ -62,7 +63,7 @@ returns-4 c =
     let b = now (s .args .leaving) in
     let d = subst (Decodes p) (c .before .before .before .before .before .request .given .1) (c .before .before .before .before .before .before .before .decode .ensures) in
     c .before .before .pass .ensures
-    ∙ ap (λ (o : Outcome). shows o b) (sym (passes-decides (s .args .choice) p b (sym (c .before .before .before .before .before .before .before .before .before .before .is-bad .ensures) ∙ c .before .before .before .before .before .before .before .before .before .if1 .left) (c .before .before .before .before .before .before .before .before .if2 .left) (d .0)))
+    ∙ ap (λ (o : Outcome). shows o b) (sym (passes-decides (s .args .choice) p (length b) (sym (c .before .before .before .before .before .before .before .before .before .before .is-bad .ensures) ∙ c .before .before .before .before .before .before .before .before .before .if1 .left) (c .before .before .before .before .before .before .before .before .if2 .left) (d .0)))
 
 pub decide-spec : {M : Type 1} → statement M
 decide-spec =
