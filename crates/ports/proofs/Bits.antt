@@ -1,16 +1,13 @@
 -- The bits of words: of a conjunction, a disjunction and a difference, of all ones, and that a word without bits is 0. Assumes nothing.
 use Prim.Native.Nat.{ℕ, zero, suc, _+_, _-_, _*_, _/_, _%_, _^_, _≤_, _<_, min, max}
-use mathlib.Core.Bool.{Bool, true, false, cond}
 use mathlib.Core.Logic.{_⊎_}
 use mathlib.Core.Logic._⊎_.{inl, inr}
-use mathlib.Core.Path.{_≡_, refl, sym, ap, ap₂, _∙_, subst}
-use native.Mathlib.Nat.{mod-lt, div-eq-of-lt, zero-min, min-zero, zero-max, max-zero, div-add-mod', div-one, min-le-left, max-le, lt-of-lt-of-le, le-of-suc-le-suc}
+use mathlib.Core.Path.{_≡_, refl, sym, ap, ap₂, _∙_}
+use native.Mathlib.Nat.{mod-lt, div-eq-of-lt, zero-max, div-add-mod', div-one, min-le-left, max-le, lt-of-lt-of-le}
 use native.Mathlib.Omega.{arith}
 use lib.Arith.{bin-ind}
 use lib.Bits.{bitAnd, bitOr, bitXor, differ, and-step, or-step, xor-step, and-shr, or-shr, xor-shr}
-use lib.Dec.{ltb}
 use lib.Pow.{ones-lt, ones-split, high, low, pow-mono, shr-shr}
-use borrow.Author.Tests.{lt-ltb, le-ltb}
 
 -- bit k of a word, 0 or 1
 abbrev pub bit : ℕ → ℕ → ℕ

@@ -1,5 +1,5 @@
 -- Laws of numbers and of the words that sets of buses are made of, for the proofs of this crate. Assumes nothing.
-use Prim.Native.Nat.{ℕ, _+_, _-_, _*_, _%_, _^_, _≤_, _<_}
+use Prim.Native.Nat.{ℕ, _-_, _*_, _%_, _^_, _≤_, _<_}
 use mathlib.Core.Bool.{Bool, true, false}
 use mathlib.Core.Logic.{_⊎_}
 use mathlib.Core.Logic._⊎_.{inl, inr}
@@ -9,7 +9,7 @@ use native.Mathlib.Omega.{arith}
 use lib.Dec.{ltb}
 use lib.Pow.{pow-pos, pow-lt}
 use borrow.Author.Tests.{lt-ltb, le-ltb, ltb-true, ltb-false}
-use Rattle.ports.specs.Buses.{width, below}
+use Rattle.ports.specs.Buses.{below}
 
 -- ---- numbers
 

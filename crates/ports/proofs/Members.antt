@@ -1,18 +1,16 @@
 -- THEOREMS. What is in the sets of buses that the code keeps as four words: a port's set has exactly the buses of its range, two sets together have
 -- exactly what one of them has, and two sets share a bus exactly if one of the 256 is in both. Assumes nothing.
-use Prim.Native.Nat.{ℕ, zero, suc, _+_, _-_, _*_, _/_, _%_, _^_, _≤_, _<_, min, max}
+use Prim.Native.Nat.{ℕ, zero, suc, _+_, _-_, _*_, _/_, _%_, _≤_, _<_, min, max}
 use mathlib.Core.Bool.{Bool, true, false, not, cond, _||_, true≢false}
 use mathlib.Core.Logic.{_⊎_, ⊎-elim}
 use mathlib.Core.Path.{_≡_, refl, sym, ap, ap₂, _∙_, subst}
-use native.Mathlib.Nat.{mod-lt, div-add-mod, div-lt-iff-lt-mul, zero-min, min-zero, le-max-left, le-max-right, max-le, le-antisymm}
+use native.Mathlib.Nat.{mod-lt, div-add-mod, div-lt-iff-lt-mul, zero-min, min-zero, le-max-left, le-max-right}
 use native.Mathlib.Omega.{arith}
-use lib.Bits.{bitAnd, bitOr, bitXor, differ}
-use lib.Dec.{eqb, ltb, leb}
-use lib.Pow.{high, low}
+use lib.Bits.{bitAnd, bitOr, differ}
+use lib.Dec.{eqb, ltb}
 use borrow.Author.Tests.{ltb-true, ltb-false, eq-eqb, eqb-true}
 use Rattle.ports.specs.declared.Port.{Port}
 use Rattle.ports.specs.declared.Buses.{Buses}
-use Rattle.ports.specs.Ports.{has, exceeds}
 use Rattle.ports.specs.Buses.{width, below, range, busesOf, shared, together}
 use Rattle.ports.proofs.Laws.{below-or-not, zero-is-not-one}
 use Rattle.ports.proofs.Bits.{bit, bit-below, max-one, and-bit, or-bit, xor-bit, one-inside, zero-outside, no-bits}

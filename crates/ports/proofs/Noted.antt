@@ -2,7 +2,7 @@
 use Prim.Native.Nat.{ℕ, zero, suc, _+_, _≤_, _<_, max}
 use mathlib.Core.Bool.{Bool, true, false, cond, _||_, true≢false}
 use mathlib.Core.List.{List, [], _∷_}
-use mathlib.Core.Logic.{_⊎_, ⊎-elim}
+use mathlib.Core.Logic.{⊎-elim}
 use mathlib.Core.Path.{_≡_, refl, sym, ap, _∙_, subst}
 use native.Mathlib.Omega.{arith}
 use lib.Dec.{ltb}
@@ -10,13 +10,12 @@ use lib.ListN.{length, getD}
 use borrow.Author.Tests.{lt-ltb, le-ltb, ltb-true, ltb-false}
 use Rattle.ports.specs.declared.Port.{Port}
 use Rattle.ports.specs.declared.Survey.{Survey}
-use Rattle.ports.specs.declared.Choice.{Choice}
 use Rattle.ports.specs.declared.Choice.the-variants.{BadList, At, Nowhere}
 use Rattle.ports.specs.Ports.{has, exceeds, meet, badList}
 use Rattle.ports.specs.Choice.{portFrom, choice}
 use Rattle.ports.specs.Buses.{busesOf, shared, together}
 use Rattle.ports.specs.Noting.{noPort, begun, placed, noted, concluded, upTo, after}
-use Rattle.ports.proofs.Laws.{below-or-not, zero-is-not-one}
+use Rattle.ports.proofs.Laws.{below-or-not}
 use Rattle.ports.proofs.Members.{In, nothing-in, in-range, range-has, of-either, from-first, from-second, apart-in, shares-none}
 use Rattle.ports.proofs.Pairs.{portAt, Sound, Good, neither, is-or-not, not-true-false, has-is, is-has, in-both-meet, meet-in-both, good-of, of-good}
 

@@ -1,6 +1,6 @@
 // The walk over the lent list: every port of it is noted, but no more than one past the most that it may have.
 ghost use mathlib.Core.Path.{_≡_};
-ghost use Prim.Native.Nat.{ℕ, _<_};
+ghost use Prim.Native.Nat.{_<_};
 ghost use lib.ListN.{length, getD};
 ghost use Rattle.ports.specs.Choice.{choice};
 ghost use Rattle.ports.specs.Noting.{noPort, upTo};

@@ -1,7 +1,6 @@
 // A switch's ports: which of a lent list's ports has a bus, and whether the list is a good one at all.
 // `choose` is the entry: one walk over the lent slice, and in it one step for each port, on plain numbers. Promised for every list and bus:
 // specs/Choice.antt, over specs/Ports.antt in the words of the first change request of document 02.
-ghost use mathlib.Core.Path.{_≡_};
 
 mod sets; // sets.rt: sets of the 256 buses
 mod choosing; // choosing.rt: the walk over the lent list

@@ -1,6 +1,6 @@
 -- Laws of routing, for the proofs of this crate: what leaves and what is written of it, and the number by the first check that applies. Assumes
 -- nothing.
-use Prim.Native.Nat.{ℕ, zero, suc, _+_, _*_, _/_, _%_, _≤_, _<_}
+use Prim.Native.Nat.{ℕ, zero, suc, _+_, _*_, _≤_, _<_}
 use mathlib.Core.Bool.{Bool, true, false, not, cond, _&&_, true≢false}
 use mathlib.Core.List.{List, [], _∷_, _++_, List·Memᴰ.List·Memᴰ·head, List·Memᴰ.List·Memᴰ·tail}
 use mathlib.Core.Logic.{_⊎_, ⊎-elim}
@@ -8,9 +8,9 @@ use mathlib.Core.Path.{_≡_, refl, sym, ap, ap₂, _∙_, subst}
 use native.Mathlib.Nat.{zero-add}
 use native.Mathlib.Omega.{arith}
 use lib.Bits.{bitAnd}
-use lib.Dec.{eqb, ltb}
-use lib.ListN.{length, getD, set, drop}
-use borrow.Author.Tests.{eq-eqb, ne-eqb, eqb-true, lt-ltb, le-ltb, ltb-false}
+use lib.Dec.{eqb}
+use lib.ListN.{length, set, drop}
+use borrow.Author.Tests.{eqb-true, lt-ltb, le-ltb, ltb-false}
 use Rattle.answers.specs.declared.Refusal.the-variants.{UnknownType}
 use Rattle.answers.specs.Checks.{Check, firstThatApplies}
 use Rattle.answers.proofs.Checks.{Positive, none-applies}
@@ -21,8 +21,8 @@ use Rattle.packet.specs.declared.Target.{Target}
 use Rattle.packet.specs.declared.Target.the-variants.{Type0, Type1, Trusted}
 use Rattle.packet.specs.declared.TypeCode.the-variants.{Known, Unknown}
 use Rattle.packet.specs.declared.Request.{Request}
-use Rattle.packet.specs.Fields.{typeCode, typeOf, wholeLength, digest}
-use Rattle.packet.specs.Request.{typed, unknown, writesOf, targetOf, packetChecks, packetNumber, requestOf, isTrusted}
+use Rattle.packet.specs.Fields.{typeCode, typeOf, digest}
+use Rattle.packet.specs.Request.{typed, unknown, writesOf, targetOf, packetChecks, packetNumber, requestOf}
 use Rattle.packet.proofs.Laws.{positive, whole-is}
 use Rattle.ports.specs.declared.Port.{Port}
 use Rattle.ports.specs.declared.Choice.{Choice}

@@ -3,3 +3,4 @@ pub mod Lent
 pub mod Unique
 pub mod Verdicts
 pub mod Ways
+pub mod Wrong

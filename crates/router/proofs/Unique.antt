@@ -1,10 +1,8 @@
 -- A second result that meets a promise of this crate is the same result. Assumes nothing.
 use Prim.Native.Nat.{ℕ}
-use mathlib.Core.Bool.{Bool, true, false, true≢false}
+use mathlib.Core.Bool.{true≢false}
 use mathlib.Core.List.{List}
 use mathlib.Core.Path.{_≡_, refl, sym, ap, _∙_}
-use Rattle.answers.specs.declared.Refusal.{Refusal}
-use Rattle.answers.specs.Numbers.{numberOf}
 use Rattle.answers.proofs.Unique.{number-tells, number-positive}
 use Rattle.words.specs.Bytes.{byte}
 use Rattle.ports.specs.declared.Port.{Port}

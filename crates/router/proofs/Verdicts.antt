@@ -2,20 +2,17 @@
 -- the packet has no fault of 3 to 6 and is not of Type 0, and that port has its bus and supports TCS routing where the request is trusted. The verdict is
 -- UR exactly if all that holds and no port has the bus. Any other answer is the number of the first check that applies, 1 to 6. What does not leave is
 -- not written: the buffer stays, every byte, and port and count are 0. Assumes nothing.
-use Prim.Native.Nat.{ℕ, zero, suc, _≤_, _<_}
-use mathlib.Core.Bool.{Bool, true, false, cond, not, _&&_, true≢false}
+use Prim.Native.Nat.{ℕ, zero, suc, _≤_}
+use mathlib.Core.Bool.{Bool, true, false, not, _&&_, true≢false}
 use mathlib.Core.List.{List, [], _∷_, _++_, List·Memᴰ, List·Memᴰ·not-nil, List·Memᴰ.List·Memᴰ·head, List·Memᴰ.List·Memᴰ·tail}
 use mathlib.Core.Logic.{_↔_, _⊎_, ⊎-elim}
 use mathlib.Core.Path.{_≡_, refl, sym, ap, _∙_, subst}
 use native.Mathlib.Omega.{arith}
-use lib.Dec.{ltb}
 use lib.ListN.{length}
-use borrow.Author.Tests.{le-ltb, ltb-false}
 use Rattle.answers.specs.Checks.{check, firstThatApplies}
-use Rattle.answers.proofs.Checks.{First, Positive, gives-first, gives-one-of, none-applies}
+use Rattle.answers.proofs.Checks.{First, Positive, gives-first, gives-one-of}
 use Rattle.packet.specs.declared.Target.{Target}
-use Rattle.packet.specs.Request.{packetChecks, packetNumber, isTrusted}
-use Rattle.packet.proofs.Laws.{positive}
+use Rattle.packet.specs.Request.{packetNumber, isTrusted}
 use Rattle.ports.specs.declared.Port.{Port}
 use Rattle.ports.specs.declared.Choice.{Choice}
 use Rattle.ports.specs.declared.Choice.the-variants.{BadList, At, Nowhere}
@@ -26,7 +23,7 @@ use Rattle.ports.proofs.Pairs.{portAt, Good, is-or-not, not-true-false}
 use Rattle.ports.proofs.Only.{HasAt, chooses}
 use Rattle.router.specs.declared.Verdict.{Verdict}
 use Rattle.router.specs.declared.Verdict.the-variants.{Leaves, Unsupported, Refused}
-use Rattle.router.specs.Routing.{busOf, targetIn, isType0, isBad, barredAt, barred, routerChecks, routeChecks, routeNumber, leavingBy, Outcome, leavesBy, unsupported, refused, byPort, byNumber, decide, route}
+use Rattle.router.specs.Routing.{busOf, targetIn, isType0, isBad, barredAt, barred, routeChecks, routeNumber, leavingBy, Outcome, leavesBy, unsupported, byPort, byNumber, decide, route}
 use Rattle.router.specs.Promise.{Seen, told, over, shows, Routes}
 use Rattle.router.proofs.Laws.{bad-number, room-number, packet-number, router-number}
 

@@ -16,17 +16,17 @@ use Rattle.words.specs.Fields.{bit}
 use Rattle.packet.specs.declared.Target.{Target}
 use Rattle.packet.specs.declared.Target.the-variants.{Type0, Type1, Trusted}
 use Rattle.packet.specs.declared.TypeCode.{TypeCode}
-use Rattle.packet.specs.declared.TypeCode.the-variants.{Known, Unknown}
+use Rattle.packet.specs.declared.TypeCode.the-variants.{Known}
 use Rattle.packet.specs.declared.Request.{Request}
 use Rattle.packet.specs.declared.Decoded.{Decoded}
 use Rattle.packet.specs.declared.Decoded.the-variants.{Asks}
 use Rattle.packet.specs.Fields.{typeCode, typeOf, dataOf, wrongField, wholeLength}
-use Rattle.packet.specs.Request.{typed, unknown, writesOf, targetOf, packetNumber, requestOf, isTrusted, trusted, Decodes}
+use Rattle.packet.specs.Request.{unknown, writesOf, targetOf, packetNumber, requestOf, isTrusted, trusted, Decodes}
 use Rattle.packet.proofs.Laws.{trusted-target}
 use Rattle.packet.proofs.Unique.{decode-unique}
 use Rattle.ports.specs.declared.Port.{Port}
 use Rattle.ports.proofs.Pairs.{portAt, is-or-not}
-use Rattle.router.specs.Routing.{busOf, targetIn, isType0, isType1, type0Code, asType0, turns, leavingBy}
+use Rattle.router.specs.Routing.{busOf, targetIn, isType0, type0Code, asType0, turns, leavingBy}
 use Rattle.router.specs.Row.{Router, Passes, Way}
 use Rattle.router.proofs.Laws.{known-type, target-is, type1-codes}
 use Rattle.router.proofs.Verdicts.{leaves-iff}

@@ -1,11 +1,10 @@
 -- What the inner functions of this crate ask of each other; no entry's promise rests on it. Assumes nothing.
-use Prim.Native.Nat.{ℕ, _≤_, _<_}
+use Prim.Native.Nat.{ℕ, _≤_}
 use mathlib.Core.Bool.{Bool, true, cond}
 use mathlib.Core.List.{List}
 use mathlib.Core.Path.{_≡_}
 use lib.ListN.{length}
 use Rattle.answers.specs.Checks.{firstThatApplies}
-use Rattle.words.specs.Bytes.{byte}
 use Rattle.packet.specs.declared.Request.{Request}
 use Rattle.packet.specs.declared.Target.the-variants.{Type1}
 use Rattle.packet.specs.Request.{packetNumber, requestOf}

@@ -1,4 +1,5 @@
 pub mod Routing
 pub mod Promise
 pub mod Row
+pub mod Wrong
 pub mod Inner

@@ -1,6 +1,6 @@
 -- What the exported function for a switch promises: `router::route`'s promise, with a host's numbers in the place of the enum. Assumes nothing.
 use Prim.Native.Nat.{ℕ}
-use mathlib.Core.Bool.{Bool, cond}
+use mathlib.Core.Bool.{cond}
 use mathlib.Core.List.{List}
 use mathlib.Core.Path.{_≡_}
 use lib.ListN.{length}

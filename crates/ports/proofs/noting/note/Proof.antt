@@ -1,5 +1,4 @@
 -- `ports::noting::note` meets its contract. Assumes nothing.
-use mathlib.Core.Path.{ap}
 use borrow.Author.Needs.{needs}
 use borrow.Author.Tests.{lt-ltb, le-ltb}
 use Rattle.ports.specs.Noting.{noted}

@@ -1,6 +1,6 @@
 -- `router::passing::pass` meets its contract: Type 0 first, then the three cases of the choice. Assumes nothing.
 use denote.Ref.{now}
-use mathlib.Core.Logic.{_⊎_}
+use mathlib.Core.Logic._⊎_.{inl, inr}
 use mathlib.Core.Path.{sym, _∙_}
 use borrow.Author.Needs.{needs}
 use Rattle.router.proofs.Laws.{type0-shows, nowhere-shows, at-shows}
@@ -30,7 +30,7 @@ enum-told-2 c = search needs
 returns-2 : tie.Need-returns-2
 returns-2 c =
     let s = c .before .before .before .before .before .before in
-    nowhere-shows (now (s .args .packet)) (s .args .request) (now (s .args .leaving)) (s .pre) (s .args .choice) (sym (c .before .before .before .is-type-0 .ensures) ∙ c .before .before .if1 .left) (_⊎_.inl (c .enum-told .given .1))
+    nowhere-shows (now (s .args .packet)) (s .args .request) (now (s .args .leaving)) (s .pre) (s .args .choice) (sym (c .before .before .before .is-type-0 .ensures) ∙ c .before .before .if1 .left) (inl (c .enum-told .given .1))
 
 same-length : tie.Need-same-length
 same-length c = search needs
@@ -43,7 +43,7 @@ returns-3 c =
 returns-4 : tie.Need-returns-4
 returns-4 c =
     let s = c .before .before .before .before .before .before in
-    nowhere-shows (now (s .args .packet)) (s .args .request) (now (s .args .leaving)) (s .pre) (s .args .choice) (sym (c .before .before .before .is-type-0 .ensures) ∙ c .before .before .if1 .left) (_⊎_.inr (c .enum-told2 .given .1))
+    nowhere-shows (now (s .args .packet)) (s .args .request) (now (s .args .leaving)) (s .pre) (s .args .choice) (sym (c .before .before .before .is-type-0 .ensures) ∙ c .before .before .if1 .left) (inr (c .enum-told2 .given .1))
 
 pub pass-spec : {M : Type 1} → statement M
 pass-spec =
