@@ -92,6 +92,15 @@ chain extended 1 FFD 4 0|the chain does not fit: its headers leave the space, or
 chain compatible 1 40 4 140|the chain does not fit: its headers leave the space, or a pointer is too large
 chain compatible 40 40 4 0|the chain does not fit: its headers leave the space, or a pointer is too large
 A 11111111111111111|'11111111111111111' is no word of the desk, and no number of one to sixteen hexadecimal digits
+ports 05 08|the line's end stands where a number is still wanted
+ports 05 08 1 0A|the line's end stands where a number is still wanted
+ports 05 100 1|'100' is too large here
+ports 05 08 1 -> number 0|'->' stands behind a statement that has no answer to expect
+port 05 08 1|'port' is not a statement; help lists them
+route 05 -> port 0|'port' stands where the expected number is wanted first
+route 05 -> number 3, port 0 1|'1' is a number too many
+route 05 -> number 3, reply 0A|'reply' cannot be expected of this
+packet 1B -> number 3, leaves 1B|'leaves' cannot be expected of this
 end|a sheet ends that has not begun
 LINES
 {
@@ -164,6 +173,10 @@ walk compatible -> number 0
 dvsec ordinary 200 -> number 0, header 1EC0 3 2 C, body 20A 2
 dvsec ordinary 300 -> number 0, header 1EC0 0 2 10, body 30A 6
 dual ordinary 040 -> number 0, alternate 6 5
+route 45 00 00 01 01 00 07 0F 05 18 00 04 11 22 33 44 -> number 0, port 1, leaves 44 00 00 01 01 00 07 0F 05 18 00 04 11 22 33 44
+route 1B 00 00 01 01 00 08 0F 06 18 00 04 -> number 0, leaves 1B 00 00 01 01 00 08 0F 06 18 00 04, port 1
+route 1B 00 00 01 01 00 08 0F 02 18 00 04 -> number 4
+route 1B 00 00 01 01 00 08 0F 09 18 00 04 -> number 0
 LINES
 # what stands before each of them
 setting='open
@@ -172,7 +185,8 @@ chain extended 3 100 4 0
 ordinary 200 23 00 01 00 C0 1E C3 00 02 00 B0 B1 B2
 ordinary 300 23 00 01 00 C0 1E 00 01 02 00
 ordinary 006 00
-ordinary 040 09 00 0C 01 C0 1E C0 00 02 00 40 05'
+ordinary 040 09 00 0C 01 C0 1E C0 00 02 00 40 05
+ports 02 03 0 05 08 1'
 # wrong FILE: for each number behind an arrow, its line with that number made another
 wrong() {
     awk '{
@@ -213,7 +227,7 @@ fi
 sed -n 's/^\(.* -> .*\), [a-z]* [0-9A-F ]*$/\1/p' "$work/right" >"$work/short"
 shorts=$(wc -l <"$work/short")
 asked "$work/short" | desk >"$work/out" 2>&1
-if [ "$shorts" -ge 9 ] && [ "$(tail -n 1 "$work/out")" = "checks $shorts, as expected 0, lines not understood 0" ]; then
+if [ "$shorts" -ge 11 ] && [ "$(tail -n 1 "$work/out")" = "checks $shorts, as expected 0, lines not understood 0" ]; then
     echo "ok desk, $shorts expectations without their last clause"
 else
     echo "FAILED desk, $shorts expectations without their last clause: $(tail -n 1 "$work/out")"
@@ -223,7 +237,7 @@ fi
 echo help | desk 2>&1 | tr -c 'A-Za-z-' '\n' | sort -u >"$work/help"
 sed -n '/b"help$/,/^",$/p' crates/desk/src/vocabulary.rt | tr -d '" ' | sed 's/^bhelp$/help/' | grep '^[A-Za-z]' | sort -u >"$work/words"
 absent=$(comm -13 "$work/help" "$work/words" | tr '\n' ' ')
-if [ "$(wc -l <"$work/words")" -ge 36 ] && [ -z "$absent" ]; then echo "ok desk, help has each of its $(wc -l <"$work/words") words"; else echo "FAILED desk, help lacks: $absent"; fi
+if [ "$(wc -l <"$work/words")" -ge 40 ] && [ -z "$absent" ]; then echo "ok desk, help has each of its $(wc -l <"$work/words") words"; else echo "FAILED desk, help lacks: $absent"; fi
 
 # Each line is answered before the next is sent.
 mkfifo "$work/to" "$work/from"

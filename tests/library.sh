@@ -3,7 +3,7 @@
 # the archive that the kit itself writes. Where a tool is missing, what needs it is skipped, or failed where CI is set.
 . tests/common/host_tools.bash
 page=docs/LIBRARY.md
-least=50
+least=73
 here=$(uname -m)-unknown-linux-gnu
 
 # needs ARCHIVE: what the page says the archive needs of the C library
@@ -73,6 +73,7 @@ in_cpp() {
     fi
     echo "ok with thawribbon $(cat VERSION)" >"$work/expected"
     cpp_runs board.cpp hosts/c/board.cpp "$work/expected"
+    cpp_runs switch.cpp hosts/c/switch.cpp "$work/expected"
     for ((n = 1; n <= $(blocks $page cpp); n++)); do
         fenced $page cpp $n >"$work/page.cpp"
         printed $page cpp $n >"$work/page.text"
@@ -139,6 +140,10 @@ page_notices() {
     other_page_c "C program 1 of $page notices that it has not landed" 1 's/\[0x010\] = 0xFF/[0x010] = 0xF0/' 'done, and not landed'
     other_page_c "C program 2 of $page stops at a board that is badly described" 2 's/\.function = 0/.function = 8/' 'dropped a packet: a space or rule space'
     if [ "$(wc -l <"$work/log")" -ne 1 ]; then echo "FAILED C program 2 of $page goes on with a board that is badly described"; fi
+    other_page_c "C program 3 of $page notices that a port does not support TCS routing" 3 's/\.tcs = 1/.tcs = 0/' \
+        'trusted and its port does not support TCS routing'
+    other_page_c "C program 3 of $page notices that no port has the bus" 3 's/0x06, 0x18/0x07, 0x18/' \
+        'does not leave: Unsupported Request: no port'
 }
 
 # The example at the top of the header.

@@ -5,8 +5,8 @@
 page=docs/LIBRARY.md
 sources=hosts/thawribbon/src
 # The tests and examples that there are at least.
-least_tests=69
-least_examples=25
+least_tests=89
+least_examples=27
 export CARGO_TERM_COLOR=never
 
 # passed PART: how many tests, or examples, the last run of cargo test passed; it runs the examples last
@@ -80,13 +80,18 @@ page_notices() {
     other_page_rust "Rust program 1 of $page notices that it has not landed" 1 's/\[0xFF; SPACE\]/[0xF0; SPACE]/' 'done, and not landed'
     other_page_rust "Rust program 2 of $page stops at a board that is badly described" 2 's/function: 0/function: 8/' 'Error: BadDescription'
     if [ "$(grep -c '^dropped' "$work/log")" -ne 1 ]; then echo "FAILED Rust program 2 of $page goes on with a board that is badly described"; fi
+    other_page_rust "Rust program 4 of $page stops where a port does not support TCS routing" 4 's/tcs: true/tcs: false/' 'Error: Refused(UnknownType)'
+    other_page_rust "Rust program 4 of $page stops where no port has the bus" 4 's/0x06, 0x18/0x07, 0x18/' 'Error: Unsupported'
 }
 
-# Every function of the crate that gives something is one whose answer may not be dropped.
+# Every function of the crate that gives something is one whose answer may not be dropped. A struct that says so of itself may not be dropped
+# behind a question mark either.
 answers_are_not_dropped() {
-    local wanted found
+    local functions structs wanted found
     package dropped <hosts/thawribbon/tests/wrong/dropped.rs
-    wanted=$(cat $sources/*.rs | grep -E '^ *pub (const )?fn ' | grep -cvE '\) \{$')
+    functions=$(cat $sources/*.rs | grep -E '^ *pub (const )?fn ' | grep -cvE '\) \{$')
+    structs=$(cat $sources/*.rs | grep -A 1 '^#\[must_use' | grep -c '^pub struct ')
+    wanted=$((functions + structs))
     found=$(within "$work/dropped" cargo check --offline 2>&1 | grep -c '^warning: unused .* that must be used$')
     if [ "$wanted" -gt 10 ] && [ "$found" -eq "$wanted" ]; then
         echo "ok rustc warns of all $wanted answers that are dropped"

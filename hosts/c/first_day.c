@@ -17,5 +17,9 @@ int main(void)
     records();
     helpers();
     overlaps();
+    routes();
+    port_lists();
+    switches();
+    leaving_overlaps();
     return failed_groups() == 0 ? 0 : 1;
 }

@@ -8,5 +8,9 @@ void walks(void);
 void records(void);
 void helpers(void);
 void overlaps(void);
+void routes(void);
+void port_lists(void);
+void switches(void);
+void leaving_overlaps(void);
 
 #endif

@@ -1,7 +1,8 @@
-/* The inline helpers of thawribbon.h: they give what the functions under them give, and touch nothing else. */
+/* The inline helpers of thawribbon.h for a board: they give what the functions under them give, and touch nothing else. */
 #include "first_day.h"
 
 #include "bench_board.h"
+#include "drawn.h"
 #include "groups.h"
 
 #include <limits.h>
@@ -158,13 +159,6 @@ static void forgotten_buffers(void)
 }
 
 /* A small generator of packets: those of the bench sheet with some of their bytes drawn anew. */
-static uint32_t drawn = 1;
-static uint8_t draw(void)
-{
-    drawn = drawn * 1664525U + 1013904223U;
-    return (uint8_t)(drawn >> 24);
-}
-
 static void draw_packet(void)
 {
     static const uint8_t types[8] = {0x04, 0x44, 0x05, 0x45, 0x1B, 0x5B, 0xC4, 0x00};

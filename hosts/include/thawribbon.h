@@ -1,8 +1,8 @@
 /*
- * thawribbon.h: a board's answers to configuration packets, the three capability lists, and two records.
+ * thawribbon.h: a board's answers to configuration packets, the three capability lists, two records, and a switch's router.
  *
- * Document 01 of the project fixes what every function answers; its words are used here. The rules stand in docs/RULES.md of the
- * project, each with its number: "rule 4.1" is one of them. Numbers ending in h are hexadecimal.
+ * Document 01 of the project fixes what every function answers, and for the router document 02; their words are used here. The rules
+ * stand in docs/RULES.md of the project, each with its number: "rule 4.1" is one of them. Numbers ending in h are hexadecimal.
  *
  * The packet that has to land is a trusted write. A board takes it only when a Type 0 write has told it its bus and device number. Done is
  * not landed: a write that is done has changed only the bits that the space's write rules let it change. So read it back, and compare:
@@ -21,18 +21,20 @@
  *     }
  *
  * There are two parts. The first declares the functions of libthawribbon.a, which are compiled from proved code. The second, from
- * "Helpers" on, is inline C over them, tried and not proved: a board in one struct, what became of a packet, texts, and a list's headers.
- * A program that answers packets begins with thawribbon_board_serve, in the second part.
+ * "Helpers" on, is inline C over them, tried and not proved: a board in one struct, what became of a packet, what leaves a switch, texts,
+ * and a list's headers. A program that answers packets begins with thawribbon_board_serve, in the second part; one that passes them on
+ * begins with thawribbon_ports_route.
  *
  * Any bytes, of any length, get an answer: every function tests what it is given, and returns. A number in an answer says how it went;
- * the numbers are named below. Each but 0 is a refusal, and a refusal changes no byte of a space, a reply or a room, and no capture.
+ * the numbers are named below. Each but 0 is a refusal, and a refusal changes no byte of a space, a reply, a room or what leaves, and no
+ * capture.
  *
  * What the caller owes:
- * - A buffer is a pointer and a length, and that many bytes (for a list room, that many numbers) are really there. With length 0 the
- *   pointer is never followed and may be anything, NULL included.
- * - A buffer that is written (ordinary, trusted, reply, room; of the helpers, the board and the answer with its completion) overlaps
- *   no other buffer of the same call. Buffers that are only read may overlap each other, or be the same. thawribbon_board_serve looks
- *   at this itself, and answers 1.
+ * - A buffer is a pointer and a length, and that many bytes (for a list room, that many numbers; for a list of ports, that many ports) are
+ *   really there. With length 0 the pointer is never followed and may be anything, NULL included.
+ * - A buffer that is written (ordinary, trusted, reply, room, leaving; of the helpers, the board, the answer with its completion, and
+ *   what leaves with its bytes) overlaps no other buffer of the same call. Buffers that are only read may overlap each other, or be the
+ *   same. thawribbon_board_serve and thawribbon_ports_route look at this themselves, and answer 1.
  * - While a call runs, no other thread writes to its buffers, or reads those that it writes.
  *
  * Nothing is kept: no function stores a pointer, allocates, or has a state of its own. What a board has captured goes in and comes back
@@ -51,9 +53,9 @@ extern "C" {
 #endif
 
 /* The version of this header, and of the archive that came with it. */
-#define THAWRIBBON_VERSION "0.2.0"
+#define THAWRIBBON_VERSION "0.3.0"
 #define THAWRIBBON_VERSION_MAJOR 0
-#define THAWRIBBON_VERSION_MINOR 2
+#define THAWRIBBON_VERSION_MINOR 3
 #define THAWRIBBON_VERSION_PATCH 0
 
 /* An answer that is dropped is an answer that nobody looked at: compilers that can, warn. */
@@ -65,16 +67,17 @@ extern "C" {
 
 /* The answer numbers of document 01, and when each is given. */
 enum thawribbon_number {
-    /* served; the completion may still say Unsupported Request (UR) */
+    /* served; the completion, or at a router the verdict, may still be Unsupported Request (UR) */
     THAWRIBBON_SERVED = 0,
-    /* a space or rule space isn't 4,096 bytes, a captured device is over 31, a function number or A or B is outside its range, or a record
-       is asked for where none may stand (rule 2.2) */
+    /* a space or rule space isn't 4,096 bytes, a captured device is over 31, a function number or A or B is outside its range, a record is
+       asked for where none may stand (rule 2.2); at a router, a list has over 32 ports, a port's secondary bus is over its subordinate bus,
+       or two ranges of buses meet */
     THAWRIBBON_BAD_DESCRIPTION = 1,
-    /* the reply is under 16 bytes, or the list room is under the list's maximum */
+    /* the reply is under 16 bytes, the list room is under the list's maximum, or the buffer for what leaves is under 20 bytes */
     THAWRIBBON_NO_ROOM = 2,
     /* the packet has fewer than 12 bytes */
     THAWRIBBON_SHORT_PACKET = 3,
-    /* the type code isn't one of the six */
+    /* the type code isn't one of the six; at a router, it is Type 0, or trusted and the port does not support TCS routing */
     THAWRIBBON_UNKNOWN_TYPE = 4,
     /* the packet length doesn't fit its type and digest bit */
     THAWRIBBON_WRONG_LENGTH = 5,
@@ -94,6 +97,10 @@ enum thawribbon_number {
 #define THAWRIBBON_SPACE 4096
 /* The bytes that a reply must have; 12 or 16 of them are written. */
 #define THAWRIBBON_REPLY 16
+/* The bytes that the buffer for what leaves must have; 12, 16 or 20 of them are written. */
+#define THAWRIBBON_LEAVING 20
+/* The most ports that a list can have. */
+#define THAWRIBBON_PORTS 32
 /* Where four data bytes are: in a packet that writes, and in a completion of 16 bytes. */
 #define THAWRIBBON_DATA 12
 /* Byte 0 of a packet, without its bit 7: the six type codes that are served (rule 3.2). */
@@ -172,6 +179,21 @@ typedef struct thawribbon_alternate {
     uint8_t function; /* the alternate function, 0 to 7 */
     uint8_t device;   /* 0 to 31 */
 } thawribbon_alternate;
+
+/* A port of a switch: the buses behind it, ends included. */
+typedef struct thawribbon_port {
+    uint8_t secondary;   /* the first bus of the range, and the one right behind the port */
+    uint8_t subordinate; /* the last bus of the range */
+    uint8_t tcs;         /* 0: the port does not support TCS routing, so no trusted request leaves by it. Any other value: it does */
+} thawribbon_port;
+
+/* A router's answer to a packet. Every field but the number is 0 where nothing leaves. */
+typedef struct thawribbon_routed {
+    size_t length;  /* how many bytes leave: 12, 16 or 20 */
+    uint8_t number; /* 0 to 6 */
+    uint8_t leaves; /* 1: the packet leaves. 0: it does not, and with number 0 the verdict is Unsupported Request (UR) */
+    uint8_t port;   /* the place in the list of the port that it leaves by, 0 to 31 */
+} thawribbon_routed;
 
 /*
  * Answers a packet that a board receives: does the access and writes the completion.
@@ -271,6 +293,28 @@ THAWRIBBON_MUST_USE thawribbon_part thawribbon_dvsec_body(const uint8_t *space, 
  * Any number but 0 gives 0 for both. The space is only read.
  */
 THAWRIBBON_MUST_USE thawribbon_alternate thawribbon_dual_bdf(const uint8_t *space, size_t space_length, size_t at);
+
+/*
+ * Routes a packet that a switch receives from its host: chooses the port that it leaves by, and writes what leaves there.
+ *
+ * Takes the list of ports, the packet, and the buffer to write what leaves into; ports_length counts ports, not bytes, and may be 0. The
+ * first of these that applies is given:
+ *   1  the list has over 32 ports, a port's secondary bus is over its subordinate bus, or two ranges meet.
+ *   2  the buffer for what leaves is under 20 bytes, also where 12 or 16 would be written.
+ *   3  the packet has fewer than 12 bytes.
+ *   4  the type code isn't one of the six.
+ *   5  the packet isn't 12 bytes, plus 4 for a write, plus 4 if the digest bit is set.
+ *   6  TC, Attr or the last enables aren't 0, or Length isn't 1.
+ *   4  it is a Type 0 request, or a trusted request for a bus in the range of a port that does not support TCS routing.
+ *   0  otherwise. `leaves` is 1 where a port's range has the request's bus: then `port` is that port's place in the list, and the first
+ *      `length` bytes of the buffer are what leaves, as many as the packet has. They are the packet's own bytes, but for byte 0 of a
+ *      Type 1 request for the port's secondary bus, which leaves as Type 0: 05h becomes 04h, 45h becomes 44h, and bit 7 stays. The buffer's
+ *      other bytes stay as lent. `leaves` is 0 where no port's range has the bus: the verdict is Unsupported Request.
+ * Where nothing leaves, the buffer stays unchanged, and length and port are 0. Ports and packet are only read.
+ */
+THAWRIBBON_MUST_USE thawribbon_routed thawribbon_route(const thawribbon_port *ports, size_t ports_length,
+                                                       const uint8_t *packet, size_t packet_length,
+                                                       uint8_t *leaving, size_t leaving_length);
 
 /* ---- Helpers: inline, over the functions above, and not proved. ---- */
 
@@ -443,16 +487,19 @@ THAWRIBBON_MUST_USE static inline const char *thawribbon_text(unsigned number)
 {
     switch (number) {
     case THAWRIBBON_SERVED:
-        return "served, though the completion may say Unsupported Request";
+        return "served, though the completion or the router's verdict may be Unsupported Request";
     case THAWRIBBON_BAD_DESCRIPTION:
         return "a space or rule space of 4,096 bytes is not lent, a captured device is over 31, "
-               "a function number or A or B is outside its range, or a record is asked for where none may stand";
+               "a function number or A or B is outside its range, a record is asked for where none may stand, "
+               "or a list has over 32 ports, a secondary bus over its subordinate bus, or two ranges that meet";
     case THAWRIBBON_NO_ROOM:
-        return "the reply is under 16 bytes, or the list room is under the list's maximum";
+        return "the reply is under 16 bytes, the list room is under the list's maximum, "
+               "or the buffer for what leaves is under 20 bytes";
     case THAWRIBBON_SHORT_PACKET:
         return "the packet has fewer than 12 bytes";
     case THAWRIBBON_UNKNOWN_TYPE:
-        return "the packet's type code is not one of the six that are served";
+        return "the packet's type code is not one of the six that are served, or the router does not pass it on: "
+               "it is Type 0, or it is trusted and its port does not support TCS routing";
     case THAWRIBBON_WRONG_LENGTH:
         return "the packet's length does not fit its type and digest bit";
     case THAWRIBBON_WRONG_FIELD:
@@ -477,6 +524,82 @@ THAWRIBBON_MUST_USE static inline const char *thawribbon_answer_text(const thawr
         return thawribbon_text(answer->number);
     }
     return answer->outcome == THAWRIBBON_DONE ? "the access was done" : "Unsupported Request: the access was not done";
+}
+
+/* What a router says of a packet. */
+typedef enum thawribbon_verdict {
+    /* the packet leaves by a port */
+    THAWRIBBON_LEAVES = 0,
+    /* Unsupported Request: no port's range has the request's bus, and nothing leaves */
+    THAWRIBBON_NO_PORT = 1,
+    /* refused: nothing leaves, and the number says why */
+    THAWRIBBON_NOT_ROUTED = 2
+} thawribbon_verdict;
+
+/* What leaves a switch, and by which port. */
+typedef struct thawribbon_leaving {
+    thawribbon_verdict verdict;
+    uint8_t number;                    /* why it is not routed: 1, or 3 to 6; 0 where it is not refused */
+    uint8_t port;                      /* the place in the list of the port that it leaves by; 0 where nothing leaves */
+    size_t length;                     /* the bytes that leave: 12, 16 or 20; 0 where nothing leaves */
+    uint8_t bytes[THAWRIBBON_LEAVING]; /* what leaves; FFh past its length, and throughout where nothing leaves */
+} thawribbon_leaving;
+
+/* What a router says of a packet, by what thawribbon_route gave. Only a 1 in `leaves` says that the packet leaves. */
+THAWRIBBON_MUST_USE static inline thawribbon_verdict thawribbon_verdict_of(thawribbon_routed routed)
+{
+    if (routed.number != THAWRIBBON_SERVED) {
+        return THAWRIBBON_NOT_ROUTED;
+    }
+    return routed.leaves == 1 ? THAWRIBBON_LEAVES : THAWRIBBON_NO_PORT;
+}
+
+/* Whether what thawribbon_ports_route writes overlaps the ports or the packet. A list whose bytes are too many to be counted here is
+ * answered 1 in any case. */
+static inline int thawribbon_leaving_overlaps(const thawribbon_port *ports, size_t ports_length,
+                                              const uint8_t *packet, size_t packet_length, const thawribbon_leaving *leaving)
+{
+    return (ports_length != 0 && thawribbon_overlap(ports, ports_length * sizeof *ports, leaving, sizeof *leaving)) ||
+           (packet_length != 0 && thawribbon_overlap(packet, packet_length, leaving, sizeof *leaving));
+}
+
+/*
+ * Routes a packet that a switch with these ports receives from its host: thawribbon_route, with a buffer of its own for what leaves.
+ *
+ * Gives the verdict, and sets every member of `leaving`. Only THAWRIBBON_LEAVES means that the packet goes on: the first `length` of its
+ * `bytes` are what to send by ports[port]. THAWRIBBON_NO_PORT is an Unsupported Request, and no completion is written for it. The list
+ * and the packet may be of any length; ports_length counts ports, not bytes. `leaving` is not NULL.
+ *
+ * Where `leaving` overlaps the ports or the packet, the number is 1, and nothing is written but `leaving`.
+ */
+THAWRIBBON_MUST_USE static inline thawribbon_verdict thawribbon_ports_route(const thawribbon_port *ports, size_t ports_length,
+                                                                            const uint8_t *packet, size_t packet_length,
+                                                                            thawribbon_leaving *leaving)
+{
+    const thawribbon_leaving none = {THAWRIBBON_NOT_ROUTED, THAWRIBBON_BAD_DESCRIPTION, 0, 0,
+                                     {0xFF, 0xFF, 0xFF, 0xFF, 0xFF, 0xFF, 0xFF, 0xFF, 0xFF, 0xFF,
+                                      0xFF, 0xFF, 0xFF, 0xFF, 0xFF, 0xFF, 0xFF, 0xFF, 0xFF, 0xFF}};
+    const int overlaps = thawribbon_leaving_overlaps(ports, ports_length, packet, packet_length, leaving);
+    thawribbon_routed routed;
+    *leaving = none; /* from here on ports or packet may be overwritten, where they overlap */
+    if (overlaps) {
+        return leaving->verdict;
+    }
+    routed = thawribbon_route(ports, ports_length, packet, packet_length, leaving->bytes, sizeof leaving->bytes);
+    leaving->number = routed.number;
+    leaving->port = routed.port;
+    leaving->length = routed.length;
+    leaving->verdict = thawribbon_verdict_of(routed);
+    return leaving->verdict;
+}
+
+/* What became of a packet at a switch, in words. */
+THAWRIBBON_MUST_USE static inline const char *thawribbon_leaving_text(const thawribbon_leaving *leaving)
+{
+    if (leaving->verdict == THAWRIBBON_NOT_ROUTED) {
+        return thawribbon_text(leaving->number);
+    }
+    return leaving->verdict == THAWRIBBON_LEAVES ? "the packet leaves" : "Unsupported Request: no port has the packet's bus";
 }
 
 /* A header of a list: where it is, and what it says it is. */

@@ -5,6 +5,7 @@ use crate::helping;
 use crate::judging;
 use crate::packets;
 use crate::reading;
+use crate::routing;
 use crate::slots;
 use crate::slots::Desk;
 use crate::spaces;
@@ -34,13 +35,15 @@ pub fn perform(desk: &mut Desk, tokens: &Tokens, store: &mut Store) {
             done();
         }
         vocabulary::CHAIN => put_chain(desk, tokens, store),
+        vocabulary::PORTS => put_ports(desk, tokens, store),
         vocabulary::SHOW => show(tokens, store),
         vocabulary::PACKET
         | vocabulary::RESET
         | vocabulary::MERGE
         | vocabulary::WALK
         | vocabulary::DVSEC
-        | vocabulary::DUAL => ask(desk, tokens, store),
+        | vocabulary::DUAL
+        | vocabulary::ROUTE => ask(desk, tokens, store),
         _ => perform_on_desk(desk, tokens),
     }
 }
@@ -74,12 +77,20 @@ fn put_chain(desk: &mut Desk, tokens: &Tokens, store: &mut Store) {
     }
 }
 
+// A list of ports in the place of the last one: all numbers of the line, three for each.
+fn put_ports(desk: &mut Desk, tokens: &Tokens, store: &mut Store) {
+    spaces::put_behind(store, tokens, 0, tokens::count(tokens));
+    slots::set(desk, slots::PORTS, tokens::numbers_from(tokens, 1) / 3);
+    done();
+}
+
 // A question is lent what was said before it, and the next one everything again.
 fn ask(desk: &mut Desk, tokens: &Tokens, store: &mut Store) {
     let right = match tokens::word(tokens, 0) {
         vocabulary::PACKET => packets::ask(desk, tokens, store),
         vocabulary::RESET => packets::reset(desk, tokens),
         vocabulary::MERGE => packets::merge(desk, tokens),
+        vocabulary::ROUTE => routing::ask(desk, tokens, store),
         _ => ask_of_space(desk, tokens, store),
     };
     judging::count(desk, tokens, right);

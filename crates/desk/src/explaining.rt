@@ -21,10 +21,28 @@ use packet::Request;
 use packet::Target;
 use reasons::Cause;
 
+// What numbers mean at the switch stands in the table below behind what they mean at the board.
+pub const ROUTED: usize = 11;
+
+pub const UNROUTED: usize = 12;
+
+pub const BAD_PORTS: usize = 13;
+
+pub const SHORT_BUFFER: usize = 14;
+
+pub const TYPE_0: usize = 15;
+
+pub const NO_TCS: usize = 16;
+
 // An answer number and what it means.
 pub fn put_number(number: u8) {
+    put_number_as(number, number as usize);
+}
+
+// The same, where the number means something else: the meaning's place in the table.
+pub fn put_number_as(number: u8, meaning: usize) {
     say_one(wording::NUMBER, number as usize);
-    put_meaning(number as usize);
+    put_meaning(meaning);
     say(wording::END);
 }
 
@@ -41,6 +59,12 @@ no finite legal chain: a pointer below the floor, or a loop
 another structure stands there
 the structure's length is wrong, or it does not fit
 its function vector has not exactly one bit
+routed
+unsupported request (UR): no port has this bus
+badly described: more than 32 ports, a secondary over its subordinate, or two ranges that meet
+no room: the buffer for what leaves has fewer than 20 bytes
+a Type 0 request, which no switch passes on
+a trusted request, and its port does not support TCS routing
 ",
         number,
     ));
@@ -75,7 +99,8 @@ fn cause_of(desk: &Desk, asked: Request) -> Cause {
     )
 }
 
-fn put_request(asked: Request, packet: &[u8]) {
+// What a packet asks for, on a line of its own.
+pub fn put_request(asked: Request, packet: &[u8]) {
     let requester = asked.requester;
     say(wording::ASKS);
     put_kind(asked);

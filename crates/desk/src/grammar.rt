@@ -24,7 +24,7 @@ const NAMES: usize = 36;
 
 const QUESTIONS: usize = 40;
 
-const ROW: usize = 47;
+const ROW: usize = 48;
 
 // What a limit reads as that is none.
 const ANY: usize = 0xfffff;
@@ -34,46 +34,50 @@ const UNMARKED: usize = 16;
 
 // What follows each word, in the order of their numbers: how many numbers at least and at most; how large the first and the others may be;
 // which kind of name comes before them, of a list (0), a buffer (1) or a space (2); of which of these kinds it is a name itself; and of
-// which questions it may be expected: packet, reset, merge, walk, dvsec, dual. A token that is no word has no row, and reads as 0.
+// which questions it may be expected: packet, reset, merge, walk, dvsec, dual, route. A token that is no word has no row, and reads as 0.
 fn column(word: usize, from: usize, size: usize) -> usize {
     let row = std::num::wrapping_sub_usize(word, HELP) % 64;
     tokens::number_of(pieces::part(
-        b"help            00 00 00000 00000 - --- ------
-echo            00 00 00000 00000 - --- ------
-sheet           00 00 00000 00000 - --- ------
-end             00 00 00000 00000 - --- ------
-fresh           00 00 00000 00000 - --- ------
-open            00 00 00000 00000 - --- ------
-blank           00 00 00000 00000 - --- ------
-function        01 01 000FF 000FF - --- ------
-A               01 01 FFFFF FFFFF - --- ------
-B               01 01 FFFFF FFFFF - --- ------
-captured        02 02 000FF 000FF - --- 11----
-forgotten       00 00 00000 00000 - --- 11----
-ordinary        02 41 00FFF 000FF - -11 1-----
-trusted         02 41 00FFF 000FF - 111 1-----
-ordinary-rules  02 41 00FFF 000FF - -1- ------
-trusted-rules   02 41 00FFF 000FF - -1- ------
-chain           04 04 0FFFF 0FFFF 0 --- ------
-sizes           04 04 01001 01001 - --- ------
-room            01 01 FFFFF FFFFF - --- ------
-show            02 02 01000 01000 1 --- ------
-packet          00 40 000FF 000FF - --- ------
-reset           00 00 00000 00000 - --- ------
-merge           0D 0D 000FF 000FF - --- ------
-walk            00 00 00000 00000 0 --- ------
-dvsec           01 01 FFFFF FFFFF 2 --- ------
-dual            01 01 FFFFF FFFFF 2 --- ------
-number          01 01 00010 00010 - --- 1--111
-reply           01 14 000FF 000FF - --- 1-----
-bytes           04 04 000FF 000FF - --- --1---
-offsets         01 40 0FFFF 0FFFF - --- ---1--
-steps           03 03 003FE 0FFFF - --- ---1--
-header          04 04 0FFFF 0FFFF - --- ----1-
-body            02 02 01000 01000 - --- ----1-
-alternate       02 02 000FF 000FF - --- -----1
-compatible      00 00 00000 00000 - 1-- ------
-extended        00 00 00000 00000 - 1-- ------
+        b"help            00 00 00000 00000 - --- -------
+echo            00 00 00000 00000 - --- -------
+sheet           00 00 00000 00000 - --- -------
+end             00 00 00000 00000 - --- -------
+fresh           00 00 00000 00000 - --- -------
+open            00 00 00000 00000 - --- -------
+blank           00 00 00000 00000 - --- -------
+function        01 01 000FF 000FF - --- -------
+A               01 01 FFFFF FFFFF - --- -------
+B               01 01 FFFFF FFFFF - --- -------
+captured        02 02 000FF 000FF - --- 11-----
+forgotten       00 00 00000 00000 - --- 11-----
+ordinary        02 41 00FFF 000FF - -11 1------
+trusted         02 41 00FFF 000FF - 111 1------
+ordinary-rules  02 41 00FFF 000FF - -1- -------
+trusted-rules   02 41 00FFF 000FF - -1- -------
+chain           04 04 0FFFF 0FFFF 0 --- -------
+ports           00 7E 000FF 000FF - --- -------
+sizes           04 04 01001 01001 - --- -------
+room            01 01 FFFFF FFFFF - --- -------
+show            02 02 01000 01000 1 --- -------
+packet          00 40 000FF 000FF - --- -------
+reset           00 00 00000 00000 - --- -------
+merge           0D 0D 000FF 000FF - --- -------
+walk            00 00 00000 00000 0 --- -------
+dvsec           01 01 FFFFF FFFFF 2 --- -------
+dual            01 01 FFFFF FFFFF 2 --- -------
+route           00 40 000FF 000FF - --- -------
+number          01 01 00010 00010 - --- 1--1111
+reply           01 14 000FF 000FF - --- 1------
+bytes           04 04 000FF 000FF - --- --1----
+offsets         01 40 0FFFF 0FFFF - --- ---1---
+steps           03 03 003FE 0FFFF - --- ---1---
+header          04 04 0FFFF 0FFFF - --- ----1--
+body            02 02 01000 01000 - --- ----1--
+alternate       02 02 000FF 000FF - --- -----1-
+port            01 01 000FF 000FF - --- ------1
+leaves          01 14 000FF 000FF - --- ------1
+compatible      00 00 00000 00000 - 1-- -------
+extended        00 00 00000 00000 - 1-- -------
 ",
         std::num::wrapping_add_usize(ROW * row, from),
         size,
@@ -233,10 +237,18 @@ fn fault_of_end(tokens: &Tokens, head: usize, place: usize) -> usize {
     if place < begin {
         return wanted_first(head, place);
     }
-    if place - begin < column(tokens::word(tokens, head), LEAST_NUMBERS, 2) {
+    if is_short(tokens::word(tokens, head), place - begin) {
         return faults::TOO_FEW;
     }
     faults::NONE
+}
+
+// Whether a word wants more numbers than it has: a port has three.
+fn is_short(word: usize, given: usize) -> bool {
+    if word == PORTS {
+        return given % 3 != 0;
+    }
+    given < column(word, LEAST_NUMBERS, 2)
 }
 
 // An arrow or a comma.
@@ -256,7 +268,7 @@ fn fault_of_mark(tokens: &Tokens, head: usize, place: usize) -> usize {
     if arrow < place {
         return faults::ARROW_AGAIN;
     }
-    if is_within(tokens::word(tokens, 0), PACKET, DUAL) {
+    if is_within(tokens::word(tokens, 0), PACKET, ROUTE) {
         faults::NONE
     } else {
         faults::NO_QUESTION
@@ -281,7 +293,7 @@ fn fault_of_head(tokens: &Tokens, place: usize) -> usize {
     if place != 0 {
         return fault_of_clause(tokens, place);
     }
-    if is_within(tokens::word(tokens, 0), HELP, DUAL) {
+    if is_within(tokens::word(tokens, 0), HELP, ROUTE) {
         faults::NONE
     } else {
         faults::NO_STATEMENT

@@ -13,21 +13,26 @@ The board:
   captured BUS DEVICE   forgotten
   ordinary N b b ..  bytes at offset N; also: trusted, ordinary-rules, trusted-rules
   chain LIST C F S P C headers, the first at F, each the next S further, the last pointing to P
+The switch:
+  ports S U T ..     its ports in order, three numbers each: secondary, subordinate, and 0 where it does not support TCS routing
+                     (without numbers it has none, as when a session begins; a new board leaves them as they are)
 Lent to the next question only:
   sizes O R T L      so many bytes of the ordinary space, its rules, the trusted space, its rules
-  room N             so many bytes of the reply's buffer, or entries of the list room
+  room N             so many bytes of the reply's buffer or of the one for what leaves, or entries of the list room
 To look, without asking:
   show SPACE N C     C bytes from offset N on; also of ordinary-rules and trusted-rules
 Questions:
   packet b b ..      the board is sent a packet
+  route b b ..       the switch is sent one
   reset              the board is reset
   walk LIST          compatible, extended or trusted
   dvsec SPACE N      the record at offset N; SPACE is ordinary or trusted; also: dual
   merge b b ..       four old bytes, four rules, four data bytes, the enables
 A question with an expectation is a check, and everything that is not said is expected to stay.
-A refusal has no reply, no offsets and no fields.
+A refusal has no reply, no port, no offsets and no fields.
 Only the answer numbers, 0 to 10, are decimal:
   packet .. -> number N, reply b b .., captured BUS DEVICE, ordinary N b b .., trusted N b b ..
+  route .. -> number N, port P, leaves b b ..      UR is number 0 without a port
   reset -> forgotten
   walk LIST -> number N, offsets N N ..      or: steps C F S, C offsets from F on by S
   dvsec SPACE N -> number N, header VENDOR REVISION ID LENGTH, body N C

@@ -1,5 +1,5 @@
-// What was found is held against what a line expects. Every difference is told, of a reply and of a list room the first; a check without
-// one is as expected.
+// What was found is held against what a line expects. Every difference is told, of a reply, of what leaves and of a list room the first; a
+// check without one is as expected.
 use crate::pieces;
 use crate::slots;
 use crate::slots::Desk;
@@ -51,14 +51,14 @@ pub fn number(desk: &Desk, tokens: &Tokens, found: u8) -> bool {
     value(desk, wording::WRONG_NUMBER, found as usize, wanted)
 }
 
-// The bytes of a reply, one by one, up to the first that is another.
-pub fn reply(desk: &Desk, found: &[u8], wanted: &[u8]) -> bool {
+// The bytes of a buffer, one by one, up to the first that is another, and the text that tells it.
+pub fn bytes(desk: &Desk, text: usize, found: &[u8], wanted: &[u8]) -> bool {
     let mut at = 0;
     while at < found.len() {
         let is = pieces::value_of(found, at);
         let should = pieces::value_of(wanted, at);
         if is != should {
-            entry(desk, wording::WRONG_BYTE, at, is, should);
+            entry(desk, text, at, is, should);
             return false;
         }
         at += 1;

@@ -147,7 +147,7 @@ fn judge_answer(
 fn judge_reply(desk: &Desk, tokens: &Tokens, length: usize, after: &Store, wanted: &Store) -> bool {
     let given = tokens::numbers_from(tokens, tokens::behind(tokens, vocabulary::REPLY));
     if judging::value(desk, wording::WRONG_LENGTH, length, given) {
-        return judging::reply(desk, reply_of(after), reply_of(wanted));
+        return judging::bytes(desk, wording::WRONG_BYTE, reply_of(after), reply_of(wanted));
     }
     false
 }

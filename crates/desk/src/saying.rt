@@ -1,5 +1,6 @@
 // What the desk writes, always on standard output: texts, with numbers and bytes in them.
 use crate::pieces;
+use crate::slots;
 use libc::STDOUT_FILENO;
 
 pub fn put(text: &[u8]) {
@@ -33,9 +34,18 @@ fn put_number(form: u8, number: usize) {
         }
         b'e' => put_enables(number),
         b'n' => put(b"\n"),
+        b'p' => put_port(number),
         b'_' => put(b" "),
         b'v' => put_hex(number, digits_of(number)),
         _ => put_hex(number, (form % 16) as usize),
+    }
+}
+
+fn put_port(number: usize) {
+    if number == slots::NO_PORT {
+        put(b"none");
+    } else {
+        put_hex(number, digits_of(number));
     }
 }
 

@@ -1,5 +1,5 @@
 // What the desk keeps in numbers from line to line, each at a place of its own.
-pub const SLOTS: usize = 19;
+pub const SLOTS: usize = 20;
 
 // The line's number; how many statements had an expectation, and how many of them were right; how many lines were not understood.
 pub const LINE: usize = 0;
@@ -24,7 +24,8 @@ pub const B: usize = 8;
 
 pub const CAPTURED: usize = 9;
 
-// What is lent to the next question: so much of each of the four buffers, in their order in the store, and of the reply or the list room.
+// What is lent to the next question: so much of each of the four buffers, in their order in the store, and of the reply, what leaves or the
+// list room.
 pub const ORDINARY_SIZE: usize = 10;
 
 pub const ORDINARY_RULES_SIZE: usize = 11;
@@ -47,10 +48,16 @@ pub const PROMPT: usize = 17;
 // How many bytes of a line that is not whole yet the piece begins with.
 pub const REST: usize = 18;
 
+// How many ports the switch has.
+pub const PORTS: usize = 19;
+
 // The capture while there is none: over every bus and device.
 pub const NOTHING: usize = 0x10000;
 
-// All of a reply's buffer, and of a list's.
+// The port of a packet that does not leave: over every number that a line can expect.
+pub const NO_PORT: usize = 0x100;
+
+// All of a reply's buffer, of what leaves, and of a list's.
 const WHOLE: usize = 0xffff;
 
 pub type Desk = [usize; SLOTS];

@@ -1,5 +1,5 @@
-// The store: the board's four buffers at the desk one behind the other, then the packet that it is sent and the reply. They are filled,
-// put and shown by hand, and held against what they should be.
+// The store: the board's four buffers at the desk one behind the other, then the packet that it is sent and the reply, and of the switch what
+// leaves it and its ports. They are filled, put and shown by hand, and held against what they should be.
 use crate::judging;
 use crate::pieces;
 use crate::saying::put;
@@ -28,15 +28,20 @@ pub const TRUSTED: usize = 8200;
 
 pub const TRUSTED_RULES: usize = 12300;
 
-// Where the four end: here the packet begins, of up to 64 bytes, and behind it the reply's buffer.
+// Where the four end: here the packet begins, of up to 64 bytes, and behind it the reply's buffer, that of what leaves, and the ports, three
+// bytes each.
 const BOARD_END: usize = 16400;
 
 pub const PACKET: usize = 16400;
 
 pub const REPLY: usize = 16464;
 
-// Past the reply are a few bytes more, so that no byte of it ends where the store does.
-pub const STORE: usize = 16488;
+pub const LEAVING: usize = 16484;
+
+pub const PORTS: usize = 16508;
+
+// Past the ports, of which a line has up to 42, are a few bytes more, so that no byte of them ends where the store does.
+pub const STORE: usize = 16640;
 
 pub type Store = [u8; STORE];
 
@@ -54,8 +59,10 @@ pub fn base_of(word: usize) -> usize {
 // Where the bytes behind a word go that has no offset before them, or the end of the store.
 fn start_of(word: usize) -> usize {
     match word {
-        vocabulary::PACKET => PACKET,
+        vocabulary::PACKET | vocabulary::ROUTE => PACKET,
         vocabulary::REPLY => REPLY,
+        vocabulary::LEAVES => LEAVING,
+        vocabulary::PORTS => PORTS,
         _ => STORE,
     }
 }
@@ -90,7 +97,8 @@ pub fn put_back(store: &mut Store, base: usize, buffer: &Buffer) {
 }
 
 // Puts the bytes that stand behind the words of buffers, from a place of the tokens to another: an offset and the bytes there, or the bytes
-// of a packet or a reply. No line has more of them than there is room for: the table of grammar.rt says how many it may have.
+// of a packet, a reply, what leaves or ports. No line has more of them than there is room for: the table of grammar.rt says how many it
+// may have.
 pub fn put_behind(store: &mut Store, tokens: &Tokens, from: usize, to: usize) {
     let mut place = from;
     let mut base = STORE;

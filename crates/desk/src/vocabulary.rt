@@ -15,7 +15,7 @@ pub const SHEET: usize = 4;
 
 pub const END: usize = 5;
 
-// Statements that set the board; some of them are expected of it too.
+// Statements that set the board, and the ports of the switch; some of them are expected too.
 pub const FRESH: usize = 6;
 
 pub const OPEN: usize = 7;
@@ -42,51 +42,59 @@ pub const TRUSTED_RULES: usize = 17;
 
 pub const CHAIN: usize = 18;
 
-pub const SIZES: usize = 19;
+pub const PORTS: usize = 19;
 
-pub const ROOM: usize = 20;
+pub const SIZES: usize = 20;
+
+pub const ROOM: usize = 21;
 
 // To look, and the questions.
-pub const SHOW: usize = 21;
+pub const SHOW: usize = 22;
 
-pub const PACKET: usize = 22;
+pub const PACKET: usize = 23;
 
-pub const RESET: usize = 23;
+pub const RESET: usize = 24;
 
-pub const MERGE: usize = 24;
+pub const MERGE: usize = 25;
 
-pub const WALK: usize = 25;
+pub const WALK: usize = 26;
 
-pub const DVSEC: usize = 26;
+pub const DVSEC: usize = 27;
 
-pub const DUAL: usize = 27;
+pub const DUAL: usize = 28;
+
+pub const ROUTE: usize = 29;
 
 // What is only expected.
-pub const NUMBER: usize = 28;
+pub const NUMBER: usize = 30;
 
-pub const REPLY: usize = 29;
+pub const REPLY: usize = 31;
 
-pub const BYTES: usize = 30;
+pub const BYTES: usize = 32;
 
-pub const OFFSETS: usize = 31;
+pub const OFFSETS: usize = 33;
 
-pub const STEPS: usize = 32;
+pub const STEPS: usize = 34;
 
-pub const HEADER: usize = 33;
+pub const HEADER: usize = 35;
 
-pub const BODY: usize = 34;
+pub const BODY: usize = 36;
 
-pub const ALTERNATE: usize = 35;
+pub const ALTERNATE: usize = 37;
+
+pub const PORT: usize = 38;
+
+pub const LEAVES: usize = 39;
 
 // The lists, beside the trusted one.
-pub const COMPATIBLE: usize = 36;
+pub const COMPATIBLE: usize = 40;
 
-pub const EXTENDED: usize = 37;
+pub const EXTENDED: usize = 41;
 
 // The marks of an expectation.
-pub const ARROW: usize = 38;
+pub const ARROW: usize = 42;
 
-pub const COMMA: usize = 39;
+pub const COMMA: usize = 43;
 
 // The table has the words in the order of their numbers, from HELP on.
 pub fn word_of(text: &[u8]) -> usize {
@@ -109,6 +117,7 @@ trusted
 ordinary-rules
 trusted-rules
 chain
+ports
 sizes
 room
 show
@@ -118,6 +127,7 @@ merge
 walk
 dvsec
 dual
+route
 number
 reply
 bytes
@@ -126,6 +136,8 @@ steps
 header
 body
 alternate
+port
+leaves
 compatible
 extended
 ->

@@ -1,6 +1,6 @@
 // What the desk says, a line for each text: %1 to %4 stand for so many hexadecimal digits of the next number, %v for as many as it has,
-// %d for the number in decimal, %e for four enables, and behind the last number %n for a line end and %_ for a blank. Help, faults, what
-// numbers, requests and completions mean, and the names of buffers have tables of their own.
+// %d for the number in decimal, %e for four enables, %p for a port or none, and behind the last number %n for a line end and %_ for a
+// blank. Help, faults, what numbers, requests and completions mean, and the names of buffers have tables of their own.
 use crate::saying;
 use crate::texts;
 
@@ -65,45 +65,56 @@ pub const HEADER: usize = 26;
 
 pub const BODY: usize = 27;
 
+// What leaves the switch.
+pub const LEAVES: usize = 28;
+
+pub const TURNED: usize = 29;
+
 // What is not as expected.
-pub const DIFFERENCE: usize = 28;
+pub const DIFFERENCE: usize = 30;
 
-pub const WRONG_NUMBER: usize = 29;
+pub const WRONG_NUMBER: usize = 31;
 
-pub const WRONG_LENGTH: usize = 30;
+pub const WRONG_LENGTH: usize = 32;
 
-pub const WRONG_BYTE: usize = 31;
+pub const WRONG_BYTE: usize = 33;
 
-pub const WRONG_CAPTURE: usize = 32;
+pub const WRONG_CAPTURE: usize = 34;
 
-pub const EXPECTED_CAPTURE: usize = 33;
+pub const EXPECTED_CAPTURE: usize = 35;
 
-pub const WRONG_BYTES: usize = 34;
+pub const WRONG_BYTES: usize = 36;
 
-pub const WRONG_COUNT: usize = 35;
+pub const WRONG_COUNT: usize = 37;
 
-pub const WRONG_ENTRY: usize = 36;
+pub const WRONG_ENTRY: usize = 38;
 
-pub const WRONG_FIELDS: usize = 37;
+pub const WRONG_FIELDS: usize = 39;
 
-pub const WRONG_FIELD: usize = 38;
+pub const WRONG_FIELD: usize = 40;
 
-pub const WRONG_BODY: usize = 39;
+pub const WRONG_BODY: usize = 41;
 
-pub const WRONG_BODY_PLACE: usize = 40;
+pub const WRONG_BODY_PLACE: usize = 42;
+
+pub const WRONG_PORT: usize = 43;
+
+pub const WRONG_LEAVING: usize = 44;
+
+pub const WRONG_LEAVING_BYTE: usize = 45;
 
 // The session.
-pub const LINE: usize = 41;
+pub const LINE: usize = 46;
 
-pub const PROMPT: usize = 42;
+pub const PROMPT: usize = 47;
 
-pub const QUOTE: usize = 43;
+pub const QUOTE: usize = 48;
 
-pub const UNQUOTE: usize = 44;
+pub const UNQUOTE: usize = 49;
 
-pub const LINE_END: usize = 45;
+pub const LINE_END: usize = 50;
 
-pub const TALLY: usize = 46;
+pub const TALLY: usize = 51;
 
 // A text with its numbers, as many as it has places for.
 pub fn say_all(
@@ -143,6 +154,8 @@ nothing
   alternate: function %1 device %2%n
   vendor %4 revision %1 ID %4 length %3%n
   body:
+  leaves: port %v, unchanged:
+  leaves: port %v, as Type 0:
 line %d: not as expected:%_
 number %d, expected %d%n
 reply's length %v, expected %v%n
@@ -156,6 +169,9 @@ count of fields %v, expected %v%n
 field %v, expected %v%n
 body's length %v, expected %v%n
 body's place %v, expected %v%n
+port %p, expected %p%n
+leaving length %v, expected %v%n
+leaving byte %v is %2, expected %2%n
 line %d:%_
 >%_
 '

@@ -40,7 +40,7 @@ fn turns(request: Request, port: Port) -> bool
     match target {
         Target::Type0 => false,
         Target::Type1 => request.bus == port.secondary,
-        Target::Trusted => false,
+        Target::Trusted => false, // its bytes never alter
     }
 }
 

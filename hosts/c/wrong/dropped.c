@@ -2,6 +2,7 @@
 #include "thawribbon.h"
 
 void drop(thawribbon_board *board, thawribbon_answer *answer, const uint8_t *bytes, uint8_t *reply, uint16_t *room);
+void drop_routed(const thawribbon_port *ports, thawribbon_leaving *leaving, const uint8_t *bytes, uint8_t *reply);
 
 void drop(thawribbon_board *board, thawribbon_answer *answer, const uint8_t *bytes, uint8_t *reply, uint16_t *room)
 {
@@ -25,4 +26,13 @@ void drop(thawribbon_board *board, thawribbon_answer *answer, const uint8_t *byt
     thawribbon_header_extended(bytes, 16, 0x100);                                                                        /* dropped */
     thawribbon_header_trusted(bytes, 16, 0x008);                                                                         /* dropped */
     thawribbon_board_reset(board);
+}
+
+void drop_routed(const thawribbon_port *ports, thawribbon_leaving *leaving, const uint8_t *bytes, uint8_t *reply)
+{
+    const thawribbon_routed routed = {12, 0, 1, 0};
+    thawribbon_ports_route(ports, 1, bytes, 16, leaving);                                                                /* dropped */
+    thawribbon_route(ports, 1, bytes, 16, reply, 20);                                                                    /* dropped */
+    thawribbon_verdict_of(routed);                                                                                       /* dropped */
+    thawribbon_leaving_text(leaving);                                                                                    /* dropped */
 }

@@ -4,6 +4,7 @@ mod difference;
 mod packets;
 mod records;
 mod reference;
+mod routes;
 mod run;
 mod subject;
 mod walks;

@@ -1,4 +1,5 @@
-//! Makes the calls: random, but steered so that every rule of document 01 is reached, and its edges often.
+//! Makes the calls: random, but steered so that every rule of document 01 and of request 1/13 is reached, and its edges
+//! often.
 //!
 //! What a call is counted as is decided afterwards, from its inputs and the model's answer.
 
@@ -12,8 +13,12 @@ mod lengths;
 mod loops;
 mod packet;
 mod packet_fault;
+mod port_fault;
+mod ports;
 mod random;
 mod record;
+mod route;
+mod route_packet;
 mod scene;
 mod shape;
 
@@ -23,8 +28,10 @@ pub use dual_bdf::DualMaker;
 pub use dvsec::DvsecMaker;
 pub use fault::FaultMaker;
 pub use lengths::{NAMED_LENGTHS, WrongLengths, named_length_place};
-pub use packet::{LONGEST_PACKET, PacketMaker};
+pub use packet::{LONGEST_PACKET, Packet, PacketMaker};
+pub use port_fault::{LONGEST_LIST, any_port};
 pub use random::Random;
 pub use record::RecordScene;
+pub use route::{LONGEST_LEAVING, RouteCase, RouteMaker};
 pub use scene::Scene;
 pub use shape::{SHAPES, Shape};

@@ -1,6 +1,7 @@
-//! The second program: document 01 written once more in safe Rust, apart from the library, to compare the two by.
+//! The second program: document 01 and request 1/13 written once more in safe Rust, apart from the library, to compare
+//! the two by.
 //!
-//! - [`model`] promises document 01's answers. It shares no code with the library under test, takes nothing from the
+//! - [`model`] promises the documents' answers. It shares no code with the library under test, takes nothing from the
 //!   heap, and answers every input without a panic.
 //! - [`compare`] makes calls to the model and to a subject, compares all they leave, and counts what was reached.
 

@@ -1,4 +1,4 @@
-//! `second`: compares the linked library with the model on random packets and spaces.
+//! `second`: compares the linked library with the model on random packets, spaces and ports.
 //!
 //! Status 0: no difference, and every class was met often enough. Status 1: otherwise. Status 2: bad arguments.
 

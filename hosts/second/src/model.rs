@@ -1,4 +1,4 @@
-//! Document 01's rules, one module for each of its sections: packets, lists and records.
+//! Document 01's rules, one module for each of its sections: packets, lists and records. And request 1/13: the router.
 //!
 //! Every function answers every input. A number other than 0 leaves all that was lent as it was.
 
@@ -7,12 +7,16 @@ mod description;
 mod dual_bdf;
 mod dvsec;
 mod merge;
+mod ports;
 mod refusal;
 mod request;
+mod route;
 mod serve;
 mod space;
 mod walk;
 
+#[cfg(test)]
+mod backplane;
 #[cfg(test)]
 mod bench_sheet;
 #[cfg(all(test, debug_assertions))]
@@ -23,5 +27,7 @@ mod shapes;
 pub use description::Description;
 pub use dual_bdf::{Alternate, dual_bdf};
 pub use dvsec::{Dvsec, dvsec, dvsec_body};
+pub use ports::Port;
+pub use route::{Routed, route};
 pub use serve::{Served, serve};
 pub use walk::{List, Walked, walk};

@@ -9,6 +9,7 @@ mod order;
 mod packets;
 mod random;
 mod records;
+mod routes;
 mod row;
 mod table;
 mod walks;
@@ -45,6 +46,7 @@ fn measure_all(plan: Plan) -> Result<(), String> {
     let mut rows = packets::rows()?;
     rows.extend(walks::rows()?);
     rows.extend(records::rows()?);
+    rows.extend(routes::rows()?);
     let mut variants = packets::variants::all()?;
     let row_contests = rows.iter_mut().map(|row| &mut row.contest);
     let variant_contests = variants.iter_mut().map(|variants| &mut variants.contest);

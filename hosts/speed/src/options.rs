@@ -8,13 +8,13 @@ Times the library against its peers and prints a table in Markdown on standard o
 
 usage: speed [--quick | --help]
 
-  --quick   fewer rounds: about 5 seconds instead of about 75
+  --quick   fewer rounds: about 5 seconds instead of about 80
   --help    this text
 
 Status 0: measured. 1: the sides gave different answers, and nothing was timed. 2: bad arguments.
 ";
 
-/// About 75 seconds on a machine of two cores.
+/// About 80 seconds on a machine of two cores.
 const FULL: Plan = Plan {
     turns: 40,
     rounds: 230,

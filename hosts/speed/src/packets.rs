@@ -14,6 +14,7 @@ use crate::order;
 use crate::random::Random;
 use crate::row::{Peer, Row};
 use board::{Answer, Board, Library, SafeRust};
+pub use draft::Draft;
 use kind::{KINDS, Kind};
 use masks::Masks;
 use setting::Setting;

@@ -9,6 +9,12 @@ pub const SPACE: usize = 4096;
 /// The bytes that a reply must have; 12 or 16 of them are written.
 pub const REPLY: usize = 16;
 
+/// The bytes that the buffer for what leaves a switch must have; 12, 16 or 20 of them are written.
+pub const LEAVING: usize = 20;
+
+/// The most ports that a list can have.
+pub const PORTS: usize = 32;
+
 /// Where four data bytes are: in a packet that writes, and in a completion of 16 bytes.
 pub const DATA: usize = 12;
 

@@ -1,13 +1,14 @@
-//! A board's answers to configuration packets, the three capability lists, and two records, by the proved code of
-//! libthawribbon.a.
+//! A board's answers to configuration packets, the three capability lists, two records, and a switch's router, by the
+//! proved code of libthawribbon.a.
 //!
-//! Document 01 of the project fixes what every function answers, and its words are used here; the rules stand in
-//! docs/RULES.md of the project. Any bytes, of any length, get an answer. After a [`Refusal`] no lent byte and no capture
+//! Document 01 of the project fixes what every function answers, and for the router document 02; their words are used
+//! here, and the rules stand in docs/RULES.md of the project. Any bytes, of any length, get an answer. After a [`Refusal`] no lent byte and no capture
 //! has changed.
 //!
 //! | You want to | Use |
 //! |---|---|
 //! | have a board answer a packet | [`Board::serve`], which gives a [`Completion`] or says why it is [`NotDone`] |
+//! | have a switch pass a packet on | [`route`], which gives what is [`Leaving`], or says why it is [`NotRouted`] |
 //! | list the capabilities of a space | [`headers`]; [`chain`] and [`walk`] give bare offsets |
 //! | read a record | [`dvsec`], [`dvsec_body`], [`dual_bdf`] |
 //! | have the functions of thawribbon.h as they are | [`raw`] |
@@ -91,21 +92,27 @@ mod completion;
 mod constants;
 mod lists;
 mod not_done;
+mod not_routed;
 #[allow(unsafe_code)]
 pub mod raw;
 mod records;
 mod refusal;
+mod router;
 
 pub use board::{Board, Capture, Description, Space};
 pub use completion::{Completion, Id, Status};
 pub use constants::{
-    COMPATIBLE_MAXIMUM, DATA, EXTENDED_MAXIMUM, REPLY, SPACE, STATUS, STATUS_SUCCESSFUL, STATUS_UNSUPPORTED,
-    TRUSTED_MAXIMUM, TRUSTED_READ, TRUSTED_WRITE, TYPE0_READ, TYPE0_WRITE, TYPE1_READ, TYPE1_WRITE, VERSION,
+    COMPATIBLE_MAXIMUM, DATA, EXTENDED_MAXIMUM, LEAVING, PORTS, REPLY, SPACE, STATUS, STATUS_SUCCESSFUL,
+    STATUS_UNSUPPORTED, TRUSTED_MAXIMUM, TRUSTED_READ, TRUSTED_WRITE, TYPE0_READ, TYPE0_WRITE, TYPE1_READ, TYPE1_WRITE,
+    VERSION,
 };
 pub use lists::{Header, List, chain, headers, walk};
 pub use not_done::NotDone;
+pub use not_routed::NotRouted;
+pub use raw::Port;
 pub use records::{Alternate, Dvsec, dual_bdf, dvsec, dvsec_body};
 pub use refusal::Refusal;
+pub use router::{Leaving, route};
 
 /// An offset in a space, wherever this crate takes or gives one.
 ///

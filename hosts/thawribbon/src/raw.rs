@@ -3,7 +3,8 @@
 //!
 //! Of these, only [`serve`] writes into a reply that is lent, and its number 0 does not say that the access was done:
 //! byte 6 of the reply does, which is [`STATUS_SUCCESSFUL`](crate::STATUS_SUCCESSFUL) or
-//! [`STATUS_UNSUPPORTED`](crate::STATUS_UNSUPPORTED).
+//! [`STATUS_UNSUPPORTED`](crate::STATUS_UNSUPPORTED). Nor does number 0 of [`route`] say that the packet leaves:
+//! [`Routed::leaves`] does.
 //!
 //! Every function is safe to call: a slice has the pointer and the length that C passes by hand, and the functions take
 //! any length. This is the one module with `unsafe` in it. The structs are laid out as C lays them out, and are held to
@@ -95,8 +96,37 @@ pub struct Alternate {
     pub device: u8,
 }
 
+/// A port of a switch: the range of buses behind it, ends included, and whether it supports TCS routing.
+///
+/// Any values may be given; [`route`] refuses those that are no range, and ranges that meet.
+#[repr(C)]
+#[derive(Clone, Copy, Debug, Default, PartialEq, Eq, Hash)]
+pub struct Port {
+    /// The secondary bus: the first of the range, and the one right behind the port.
+    pub secondary: u8,
+    /// The subordinate bus: the last of the range.
+    pub subordinate: u8,
+    /// Whether it supports TCS routing: trusted requests leave only by a port that does.
+    pub tcs: bool,
+}
+
+/// A router's answer to a packet: the number, whether it leaves, and by which port. Every field but the number is 0
+/// where nothing leaves.
+#[repr(C)]
+#[derive(Clone, Copy, Debug, Default, PartialEq, Eq)]
+pub struct Routed {
+    /// How many bytes leave: 12, 16 or 20.
+    pub length: usize,
+    /// 0 to 6.
+    pub number: u8,
+    /// 1: the packet leaves. 0: it does not; with number 0 the verdict is Unsupported Request.
+    pub leaves: u8,
+    /// The place in the list of the port that it leaves by, 0 to 31.
+    pub port: u8,
+}
+
 mod linked {
-    use super::{Alternate, Capture, Description, Dvsec, Part, Served, Walked};
+    use super::{Alternate, Capture, Description, Dvsec, Part, Port, Routed, Served, Walked};
 
     unsafe extern "C" {
         pub(super) fn thawribbon_serve(
@@ -137,6 +167,14 @@ mod linked {
         pub(super) fn thawribbon_dvsec(space: *const u8, space_length: usize, at: usize) -> Dvsec;
         pub(super) fn thawribbon_dvsec_body(space: *const u8, space_length: usize, at: usize) -> Part;
         pub(super) fn thawribbon_dual_bdf(space: *const u8, space_length: usize, at: usize) -> Alternate;
+        pub(super) fn thawribbon_route(
+            ports: *const Port,
+            ports_length: usize,
+            packet: *const u8,
+            packet_length: usize,
+            leaving: *mut u8,
+            leaving_length: usize,
+        ) -> Routed;
     }
 }
 
@@ -298,6 +336,35 @@ pub fn dual_bdf(space: &[u8], at: usize) -> Alternate {
     unsafe { linked::thawribbon_dual_bdf(space.as_ptr(), space.len(), at) }
 }
 
+/// Routes a packet.
+///
+/// ```
+/// use thawribbon::raw::{Port, Routed, route};
+///
+/// let ports = [Port { secondary: 0x05, subordinate: 0x07, tcs: true }];
+/// let mut leaving = [0; 20];
+///
+/// // A Type 1 write for bus 05h, the port's secondary: it leaves as P2's packet, which is Type 0.
+/// let packet = [0x45, 0x00, 0x00, 0x01, 0x01, 0x00, 0x07, 0x0F, 0x05, 0x18, 0x00, 0x04, 0x11, 0x22, 0x33, 0x44];
+/// assert_eq!(route(&ports, &packet, &mut leaving), Routed { length: 16, number: 0, leaves: 1, port: 0 });
+/// assert_eq!((leaving[0], &leaving[1..16]), (0x44, &packet[1..]));
+/// ```
+#[must_use = "it says whether the packet leaves, and by which port"]
+#[inline]
+pub fn route(ports: &[Port], packet: &[u8], leaving: &mut [u8]) -> Routed {
+    // SAFETY: each pointer goes with its slice's length, and what leaves is written into a slice that is lent once.
+    unsafe {
+        linked::thawribbon_route(
+            ports.as_ptr(),
+            ports.len(),
+            packet.as_ptr(),
+            packet.len(),
+            leaving.as_mut_ptr(),
+            leaving.len(),
+        )
+    }
+}
+
 // What crosses to the linked functions: the same sizes and offsets as in hosts/c/layout.c. A wrong one ends the
 // build here.
 const _: () = {
@@ -310,4 +377,7 @@ const _: () = {
     assert!(offset_of!(Dvsec, id) == 4 && offset_of!(Dvsec, length) == 6);
     assert!(size_of::<Part>() == 16 && offset_of!(Part, length) == 8);
     assert!(size_of::<Alternate>() == 3 && offset_of!(Alternate, function) == 1 && offset_of!(Alternate, device) == 2);
+    assert!(size_of::<Port>() == 3 && offset_of!(Port, subordinate) == 1 && offset_of!(Port, tcs) == 2);
+    assert!(size_of::<Routed>() == 16 && offset_of!(Routed, number) == 8);
+    assert!(offset_of!(Routed, leaves) == 9 && offset_of!(Routed, port) == 10);
 };

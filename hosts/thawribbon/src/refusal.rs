@@ -12,13 +12,16 @@ use std::fmt;
 #[repr(u8)]
 pub enum Refusal {
     /// A space or rule space isn't 4,096 bytes, a captured device is over 31, a function number or A or B is outside its
-    /// range, or a record is asked for where none may stand.
+    /// range, or a record is asked for where none may stand. At a router: a list has over 32 ports, a port's secondary
+    /// bus is over its subordinate bus, or two ranges of buses meet.
     BadDescription = 1,
-    /// The reply is under 16 bytes, or the list room is under the list's maximum.
+    /// The reply is under 16 bytes, the list room is under the list's maximum, or the buffer for what leaves is under 20
+    /// bytes.
     NoRoom,
     /// The packet has fewer than 12 bytes.
     ShortPacket,
-    /// The type code isn't one of the six.
+    /// The type code isn't one of the six. At a router: it is Type 0, or trusted and the port does not support TCS
+    /// routing.
     UnknownType,
     /// The packet length doesn't fit its type and digest bit.
     WrongLength,
@@ -74,11 +77,18 @@ impl Refusal {
         match self {
             Refusal::BadDescription => {
                 "a space or rule space of 4,096 bytes is not lent, a captured device is over 31, \
-                 a function number or A or B is outside its range, or a record is asked for where none may stand"
+                 a function number or A or B is outside its range, a record is asked for where none may stand, \
+                 or a list has over 32 ports, a secondary bus over its subordinate bus, or two ranges that meet"
             }
-            Refusal::NoRoom => "the reply is under 16 bytes, or the list room is under the list's maximum",
+            Refusal::NoRoom => {
+                "the reply is under 16 bytes, the list room is under the list's maximum, \
+                 or the buffer for what leaves is under 20 bytes"
+            }
             Refusal::ShortPacket => "the packet has fewer than 12 bytes",
-            Refusal::UnknownType => "the packet's type code is not one of the six that are served",
+            Refusal::UnknownType => {
+                "the packet's type code is not one of the six that are served, or the router does not pass it on: \
+                 it is Type 0, or it is trusted and its port does not support TCS routing"
+            }
             Refusal::WrongLength => "the packet's length does not fit its type and digest bit",
             Refusal::WrongField => "a fixed field of the packet's header has another value",
             Refusal::BrokenChain => "the chain is broken: no finite legal chain leads from the list's start to an end",

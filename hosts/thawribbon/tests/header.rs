@@ -2,7 +2,7 @@
 #![forbid(unsafe_code)]
 
 use std::collections::BTreeMap;
-use thawribbon::{List, Refusal};
+use thawribbon::{List, NotRouted, Refusal};
 
 const HEADER: &str = include_str!("../../include/thawribbon.h");
 
@@ -67,6 +67,8 @@ fn the_constants_are_those_of_the_header() {
         ("VERSION_PATCH", env!("CARGO_PKG_VERSION_PATCH")),
         ("SPACE", &thawribbon::SPACE.to_string()),
         ("REPLY", &thawribbon::REPLY.to_string()),
+        ("LEAVING", &thawribbon::LEAVING.to_string()),
+        ("PORTS", &thawribbon::PORTS.to_string()),
         ("DATA", &thawribbon::DATA.to_string()),
         ("STATUS", &thawribbon::STATUS.to_string()),
         ("STATUS_SUCCESSFUL", &hex(thawribbon::STATUS_SUCCESSFUL)),
@@ -116,4 +118,10 @@ fn the_texts_are_those_of_the_header() {
             .map(|(name, refusal)| (name, refusal.text().to_string()))
             .into()
     );
+}
+
+#[test]
+fn what_has_no_port_is_said_in_the_words_of_the_header() {
+    let text = format!("\"{}\"", NotRouted::Unsupported);
+    assert!(HEADER.contains(&text), "{text}");
 }

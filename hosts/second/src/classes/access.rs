@@ -72,7 +72,7 @@ pub fn count_accepted(view: &ServeView<'_>, history: &mut History, tally: &mut T
     if unsupported {
         count_unsupported(&causes, &parts, tally);
     } else {
-        count_reserved(bytes, tally);
+        count_reserved(bytes, Group::ReservedBits, 0, tally);
         count_success(view, &parts, tally);
         count_correlation(view, &parts, history, tally);
         count_capture(view, &parts, tally);
@@ -105,19 +105,20 @@ fn count_unsupported(causes: &[bool; 7], parts: &Parts, tally: &mut Tally) {
     }
 }
 
-/// Reserved bits: byte 0 bit 7; byte 1 bits 7 and 3:0; byte 2 bits 3:2; byte 10 bits 7:4; byte 11 bits 1:0.
-fn count_reserved(bytes: &[u8; 24], tally: &mut Tally) {
+/// Reserved bits: byte 0 bit 7; byte 1 bits 7 and 3:0; byte 2 bits 3:2; byte 10 bits 7:4; byte 11 bits 1:0. Each is
+/// counted where it is set, in the classes of a group from the first on, and then all of them where all are set.
+pub fn count_reserved(bytes: &[u8; 24], group: Group, first: usize, tally: &mut Tally) {
     let reserved = [(0, 0x80), (1, 0x8F), (2, 0x0C), (10, 0xF0), (11, 0x03)];
-    let mut class = 0;
+    let mut class = first;
     let mut all = true;
     for (place, mask) in reserved {
         for bit in (0..8).filter(|bit| mask >> bit & 1 == 1) {
-            tally.add_if(bytes[place] >> bit & 1 == 1, Group::ReservedBits, class);
+            tally.add_if(bytes[place] >> bit & 1 == 1, group, class);
             class += 1;
         }
         all &= bytes[place] & mask == mask;
     }
-    tally.add_if(all, Group::ReservedBits, class);
+    tally.add_if(all, group, class);
 }
 
 fn count_success(view: &ServeView<'_>, parts: &Parts, tally: &mut Tally) {

@@ -1,6 +1,9 @@
 //! The causes for a refusal that a call of `serve` has, and the value of one that stands alone.
 
 use super::group::Group;
+use super::packet_causes::{
+    length_field, other_first_byte, packet_causes, wrong_attributes, wrong_last_enables, wrong_traffic_class,
+};
 use super::tally::Tally;
 use crate::generate::ServeCase;
 
@@ -22,37 +25,13 @@ fn causes(case: &ServeCase) -> u32 {
         b % 4 != 0,
         case.reply_length < 16,
     ];
-    let packet = packet_causes(case);
+    let packet = packet_causes(&case.packet);
     board
         .into_iter()
         .chain(packet)
         .enumerate()
         .map(|(place, present)| u32::from(present) << place)
         .sum()
-}
-
-/// The causes of the numbers 3 to 6. Where the packet is too short or has another type code, the later ones are not
-/// looked for as far as they depend on what is missing.
-fn packet_causes(case: &ServeCase) -> [bool; 7] {
-    let (bytes, length) = (&case.packet.bytes, case.packet.length);
-    if length < 12 {
-        return [true, false, false, false, false, false, false];
-    }
-    let known = matches!(bytes[0] & 0x7F, 0x04 | 0x44 | 0x05 | 0x45 | 0x1B | 0x5B);
-    [
-        false,
-        !known,
-        known && length != case.packet.right_length(),
-        bytes[1] & 0x70 != 0,
-        bytes[2] & 0x30 != 0,
-        bytes[7] & 0xF0 != 0,
-        length_field(bytes) != 1,
-    ]
-}
-
-/// The Length of a packet.
-fn length_field(bytes: &[u8; 24]) -> usize {
-    usize::from(bytes[2] & 3) << 8 | usize::from(bytes[3])
 }
 
 /// The number of the cause at a place of the group's names.
@@ -104,14 +83,10 @@ pub fn count_causes(case: &ServeCase, number: u8, tally: &mut Tally) {
 fn count_values(case: &ServeCase, cause: u32, tally: &mut Tally) {
     let bytes = &case.packet.bytes;
     match cause {
-        14 => {
-            let served_codes = [0x04, 0x05, 0x1B, 0x44, 0x45, 0x5B, 0x84, 0x85, 0x9B, 0xC4, 0xC5, 0xDB];
-            let below = served_codes.iter().filter(|&&code| code < bytes[0]).count();
-            tally.add(Group::OtherFirstBytes, usize::from(bytes[0]) - below);
-        }
-        16 => tally.add(Group::FieldValues, usize::from(bytes[1] >> 4 & 7) - 1),
-        17 => tally.add(Group::FieldValues, 7 + usize::from(bytes[2] >> 4 & 3) - 1),
-        18 => tally.add(Group::FieldValues, 10 + usize::from(bytes[7] >> 4) - 1),
+        14 => tally.add(Group::OtherFirstBytes, other_first_byte(bytes[0])),
+        16 => tally.add(Group::FieldValues, wrong_traffic_class(bytes)),
+        17 => tally.add(Group::FieldValues, wrong_attributes(bytes)),
+        18 => tally.add(Group::FieldValues, wrong_last_enables(bytes)),
         19 => tally.add(Group::LengthValues, length_field(bytes).saturating_sub(1)),
         _ => {}
     }

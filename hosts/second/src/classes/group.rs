@@ -1,12 +1,6 @@
-//! The classes of calls that a run must reach, in groups, each with its least count for a million calls.
+//! The groups of classes, and what a line of their table says.
 
-use super::names::{
-    BOTTOM_BITS, CAPTURES, CORRELATION, DECLARED_EMPTY, DUAL_CAUSES, DUAL_IGNORED, DUAL_ORDER, DVSEC_BODIES,
-    DVSEC_CAUSES, KEPT_FORMS, NOISE, RULES, SERVE_CAUSES, SERVE_TOGETHER, UNSUPPORTED,
-};
-use super::turn::TURN_NAMES;
-
-/// A group of classes. Its place is its line in [`TABLE`].
+/// A group of classes. Its place is its line in the table.
 #[derive(Clone, Copy, Debug, PartialEq, Eq)]
 pub enum Group {
     ServeAnswers,
@@ -65,6 +59,31 @@ pub enum Group {
     DualDevices,
     DualOffsets,
     DualIgnored,
+    RouteAnswers,
+    RouteCauses,
+    RouteTogether,
+    RouteListLengths,
+    RouteOvers,
+    RoutePairs,
+    Meetings,
+    MetBuses,
+    RouteBufferLengths,
+    RouteRooms,
+    RoutePacketLengths,
+    RouteFirstBytes,
+    RouteWrongLengths,
+    RouteFieldValues,
+    RouteType0,
+    RouteNoSupport,
+    RouteUnsupported,
+    RouteUnsupportedLists,
+    RouteLeaves,
+    RouteWritten,
+    RoutePorts,
+    RoutePortsOfLists,
+    RouteBuses,
+    RouteReservedBits,
+    ListShapes,
     Noise,
 }
 
@@ -92,253 +111,4 @@ pub struct Line {
     pub classes: Classes,
     /// How often each class must be met in a million calls.
     pub per_million: u64,
-}
-
-const fn numbered(group: Group, title: &'static str, count: usize, per_million: u64) -> Line {
-    Line {
-        group,
-        title,
-        classes: Classes::Numbered(count),
-        per_million,
-    }
-}
-
-const fn named(group: Group, title: &'static str, names: &'static [&'static str], per_million: u64) -> Line {
-    Line {
-        group,
-        title,
-        classes: Classes::Named(names),
-        per_million,
-    }
-}
-
-/// All groups. "Alone" means that the call has no other cause for a refusal, or for Unsupported Request.
-pub const TABLE: [Line; 57] = [
-    numbered(Group::ServeAnswers, "serve: answers 0 to 6", 7, 1000),
-    named(
-        Group::ServeCauses,
-        "serve: each cause of 1 to 6 alone",
-        SERVE_CAUSES,
-        1000,
-    ),
-    named(
-        Group::ServeTogether,
-        "serve: causes of two numbers together",
-        SERVE_TOGETHER,
-        100,
-    ),
-    numbered(
-        Group::OtherFirstBytes,
-        "serve: every first byte without a type code",
-        244,
-        10,
-    ),
-    numbered(
-        Group::FieldValues,
-        "serve: every wrong TC, Attr and last enables alone",
-        25,
-        100,
-    ),
-    numbered(Group::LengthValues, "serve: every Length but 1 alone", 1023, 10),
-    numbered(
-        Group::TypeForms,
-        "serve: six type codes, bit 7, digest, poison",
-        48,
-        100,
-    ),
-    numbered(
-        Group::ReservedBits,
-        "serve: each reserved bit set, and all, success",
-        15,
-        1000,
-    ),
-    named(Group::Unsupported, "serve: each cause of UR alone", UNSUPPORTED, 100),
-    named(
-        Group::PoisonedReads,
-        "serve: poisoned reads, success",
-        &["ordinary", "trusted"],
-        1000,
-    ),
-    numbered(Group::Enables, "serve: 16 enables, four accesses, success", 64, 1000),
-    numbered(Group::OrdinaryReads, "serve: every word read, ordinary", 1024, 10),
-    numbered(
-        Group::OrdinaryWrites,
-        "serve: every word changed by a write, ordinary",
-        1024,
-        10,
-    ),
-    numbered(Group::TrustedReads, "serve: every word read, trusted", 1024, 10),
-    numbered(
-        Group::TrustedWrites,
-        "serve: every word changed by a write, trusted",
-        1024,
-        10,
-    ),
-    named(Group::Rules, "serve: rules of enabled bytes, success", RULES, 1000),
-    named(Group::Correlation, "serve: the correlation word", CORRELATION, 100),
-    named(Group::Captures, "serve and reset: captures", CAPTURES, 100),
-    named(Group::KeptForms, "serve: forms of the kept capture", KEPT_FORMS, 100),
-    numbered(Group::CapturedBuses, "serve: captures of every bus", 256, 100),
-    numbered(Group::CapturedDevices, "serve: captures of every device", 32, 100),
-    numbered(
-        Group::Functions,
-        "serve: eight functions, four accesses, success",
-        32,
-        1000,
-    ),
-    numbered(Group::AfterRefusal, "serve: number 0 right after each refusal", 6, 1000),
-    numbered(
-        Group::OrdinaryPacketLengths,
-        "serve: ordinary packets of 0 to 24 bytes",
-        25,
-        100,
-    ),
-    numbered(
-        Group::TrustedPacketLengths,
-        "serve: trusted packets of 1 to 24 bytes",
-        24,
-        100,
-    ),
-    numbered(
-        Group::ReplyLengths,
-        "serve: replies of 0 to 20 bytes, and more",
-        22,
-        100,
-    ),
-    numbered(
-        Group::SpaceLengths,
-        "all: spaces of 0 to 20 and 4,090 to 4,100",
-        320,
-        10,
-    ),
-    numbered(
-        Group::WalkAnswers,
-        "walks: answers 0, 1, 2 and 7 of each list",
-        12,
-        1000,
-    ),
-    numbered(Group::WalkTogether, "walks: 1 with 2, and 2 with 7, each list", 6, 10),
-    numbered(Group::Rooms, "walks: rooms of 0, max - 1, max, max + 1, more", 15, 100),
-    numbered(Group::CompatibleChains, "walks: compatible chains of 0 to 48", 49, 50),
-    numbered(Group::ExtendedChains, "walks: extended chains of 0 to 960", 961, 5),
-    numbered(Group::TrustedChains, "walks: trusted chains of 0 to 1,022", 1023, 5),
-    named(
-        Group::CompatibleTurns,
-        "walks: compatible, where the last header points",
-        TURN_NAMES,
-        50,
-    ),
-    named(
-        Group::ExtendedTurns,
-        "walks: extended, where the last header points",
-        TURN_NAMES,
-        50,
-    ),
-    named(
-        Group::TrustedTurns,
-        "walks: trusted, where the last header points",
-        TURN_NAMES,
-        50,
-    ),
-    numbered(Group::Loops, "walks: loops, five tails, six lengths, each list", 87, 20),
-    numbered(
-        Group::CompatibleFloor,
-        "walks: compatible, below the floor after 0 to 10 steps",
-        8,
-        100,
-    ),
-    numbered(
-        Group::ExtendedFloor,
-        "walks: extended, below the floor after 1 to 10 steps",
-        6,
-        100,
-    ),
-    numbered(
-        Group::TrustedFloor,
-        "walks: trusted, below the floor after 0 to 10 steps",
-        4,
-        100,
-    ),
-    named(Group::BottomBits, "walks: bottom bits of pointers", BOTTOM_BITS, 10),
-    named(
-        Group::DeclaredEmpty,
-        "walks: lists that the table calls empty, or nearly",
-        DECLARED_EMPTY,
-        100,
-    ),
-    numbered(
-        Group::DvsecAnswers,
-        "dvsec and dvsec_body: answers 0, 1, 8 and 9",
-        8,
-        1000,
-    ),
-    named(
-        Group::DvsecCauses,
-        "dvsec: each cause of 1, 8 and 9 alone",
-        DVSEC_CAUSES,
-        10,
-    ),
-    named(
-        Group::BodyCauses,
-        "dvsec_body: each cause of 1, 8 and 9 alone",
-        DVSEC_CAUSES,
-        10,
-    ),
-    named(
-        Group::DvsecBodies,
-        "dvsec and dvsec_body: lengths of the body",
-        DVSEC_BODIES,
-        10,
-    ),
-    numbered(
-        Group::DvsecOffsets,
-        "dvsec: served at every offset from 100h to FF4h",
-        958,
-        5,
-    ),
-    numbered(Group::DvsecRevisions, "dvsec: every revision", 16, 100),
-    numbered(Group::DualAnswers, "dual_bdf: answers 0, 1, 8, 9 and 10", 5, 1000),
-    named(
-        Group::DualCauses,
-        "dual_bdf: each cause of 1, 8, 9 and 10 alone",
-        DUAL_CAUSES,
-        10,
-    ),
-    named(
-        Group::DualOrder,
-        "dual_bdf: two causes, the first is told",
-        DUAL_ORDER,
-        10,
-    ),
-    numbered(Group::DualVectors, "dual_bdf: every vector", 256, 5),
-    numbered(Group::DualFunctions, "dual_bdf: eight functions, both vendors", 16, 100),
-    numbered(Group::DualDevices, "dual_bdf: 32 devices, both vendors", 64, 10),
-    numbered(
-        Group::DualOffsets,
-        "dual_bdf: served at every offset from 040h to 0F4h",
-        46,
-        10,
-    ),
-    named(
-        Group::DualIgnored,
-        "dual_bdf: served with ignored bits set",
-        DUAL_IGNORED,
-        100,
-    ),
-    named(Group::Noise, "all: plain noise (as the generator meant it)", NOISE, 100),
-];
-
-#[cfg(test)]
-mod tests {
-    use super::TABLE;
-
-    #[test]
-    fn each_line_stands_at_its_groups_place() {
-        assert!(
-            TABLE
-                .iter()
-                .enumerate()
-                .all(|(place, line)| line.group as usize == place)
-        );
-    }
 }

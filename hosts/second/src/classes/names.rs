@@ -252,4 +252,5 @@ pub const NOISE: &[&str] = &[
     "dvsec",
     "dvsec_body",
     "dual_bdf",
+    "route",
 ];

@@ -2,7 +2,8 @@
 
 use std::fmt;
 
-use super::group::{Classes, Group, Line, TABLE};
+use super::group::{Classes, Group, Line};
+use super::table::TABLE;
 
 /// How often each class was met.
 pub struct Tally {
@@ -108,7 +109,8 @@ impl fmt::Display for Tally {
 
 #[cfg(test)]
 mod tests {
-    use super::super::group::{Group, Line, TABLE};
+    use super::super::group::{Group, Line};
+    use super::super::table::TABLE;
     use super::Tally;
 
     /// A table in which one group asks for more than any run can give.

@@ -1,6 +1,8 @@
 //! A difference between the model and a subject, told so that a reader can see it without running it again.
 
-use std::fmt::{self, Debug, LowerHex, Write};
+use std::fmt::{self, Debug, Write};
+
+use thawribbon::raw::Port;
 
 use crate::twin::{Twin, word};
 
@@ -49,6 +51,17 @@ impl Difference {
         self
     }
 
+    /// Adds a list of ports: the secondary and the subordinate of each, and a plus where it supports TCS routing.
+    pub fn ports(mut self, name: &str, ports: &[Port]) -> Self {
+        let mut text = format!("{name}: {} ports:", ports.len());
+        for port in ports {
+            let support = if port.tcs { "+" } else { "" };
+            let _ = write!(text, " {:02x}-{:02x}{support}", port.secondary, port.subordinate);
+        }
+        self.inputs.push(text);
+        self
+    }
+
     /// Adds a space: its length, and the first of its nonzero words from before the call.
     pub fn space(mut self, name: &str, bytes: &[u8]) -> Self {
         let offsets = (0..bytes.len() / 4).map(|place| 4 * place);
@@ -78,7 +91,7 @@ impl Difference {
     }
 
     /// Looks for a cell that differs in a buffer, if none was found before.
-    pub fn look<Cell: Copy + PartialEq + Default + LowerHex>(mut self, name: &str, buffer: &Twin<Cell>) -> Self {
+    pub fn look<Cell: Copy + PartialEq + Default + Debug>(mut self, name: &str, buffer: &Twin<Cell>) -> Self {
         let Some((place, ours, theirs)) = buffer.first_difference() else {
             return self;
         };
@@ -88,7 +101,7 @@ impl Difference {
         } else {
             ", outside what was lent"
         };
-        let text = format!("{name}, place {place} ({place:#x}){outside}: model {ours:02x}, subject {theirs:02x}");
+        let text = format!("{name}, place {place} ({place:#x}){outside}: model {ours:02x?}, subject {theirs:02x?}");
         if self.first.starts_with("no cell") {
             self.first = text;
         } else {

@@ -2,8 +2,10 @@
 //!
 //! A capture is nothing where `captured` is 0, whatever the other two bytes hold. A refusal hands back the capture byte
 //! for byte; number 0 hands back 0, 0, 0 while nothing is captured, else 1 with the bus and the device.
+//!
+//! A packet that leaves a router does so by `leaves` 1, the port's place and the length; else all three are 0.
 
-use thawribbon::raw::{Alternate, Capture, Dvsec, Part, Served, Walked};
+use thawribbon::raw::{Alternate, Capture, Dvsec, Part, Port, Routed, Served, Walked};
 
 use super::subject::{ServeCall, Subject};
 use crate::model::{self, List};
@@ -23,6 +25,14 @@ pub fn plain(capture: Option<(u8, u8)>) -> Capture {
         bus,
         device,
     })
+}
+
+fn model_port(port: &Port) -> model::Port {
+    model::Port {
+        secondary: port.secondary,
+        subordinate: port.subordinate,
+        tcs: port.tcs,
+    }
 }
 
 fn walk(list: List, space: &[u8], room: &mut [u16]) -> Walked {
@@ -110,6 +120,17 @@ impl Subject for Reference {
             number: record.number,
             function: record.function,
             device: record.device,
+        }
+    }
+
+    fn route(&mut self, ports: &[Port], packet: &[u8], leaving: &mut [u8]) -> Routed {
+        let ports: Vec<model::Port> = ports.iter().map(model_port).collect();
+        let routed = model::route(&ports, packet, leaving);
+        Routed {
+            length: routed.length,
+            number: routed.number,
+            leaves: routed.port.is_some().into(),
+            port: routed.port.unwrap_or(0),
         }
     }
 }

@@ -5,13 +5,14 @@ use std::fmt;
 use super::difference::Difference;
 use super::packets::Packets;
 use super::records::Records;
+use super::routes::Routes;
 use super::subject::Subject;
 use super::walks::Walks;
 use crate::classes::Tally;
 use crate::generate::{Random, SHAPES};
 
-/// How often each entry is called: serve, reset, the three walks, dvsec, dvsec_body, dual_bdf.
-const WEIGHTS: [usize; 8] = [70, 3, 4, 6, 6, 4, 3, 4];
+/// How often each entry is called: serve, reset, the three walks, dvsec, dvsec_body, dual_bdf, route.
+const WEIGHTS: [usize; 9] = [70, 3, 4, 6, 6, 4, 3, 4, 25];
 
 /// Where a run met a difference.
 #[derive(Debug)]
@@ -35,6 +36,7 @@ pub fn run(subject: &mut impl Subject, seed: u64, cases: u64) -> Result<Tally, F
     let mut packets = Packets::new();
     let mut walks = SHAPES.map(Walks::new);
     let mut records = Records::new();
+    let mut routes = Routes::new();
     let mut tally = Tally::new();
     for case in 0..cases {
         tally.call();
@@ -44,7 +46,8 @@ pub fn run(subject: &mut impl Subject, seed: u64, cases: u64) -> Result<Tally, F
             list @ 2..=4 => walks[list - 2].walk(subject, &mut random, &mut tally),
             5 => records.dvsec(subject, &mut random, &mut tally),
             6 => records.dvsec_body(subject, &mut random, &mut tally),
-            _ => records.dual_bdf(subject, &mut random, &mut tally),
+            7 => records.dual_bdf(subject, &mut random, &mut tally),
+            _ => routes.route(subject, &mut random, &mut tally),
         };
         compared.map_err(|difference| Failure { seed, case, difference })?;
     }

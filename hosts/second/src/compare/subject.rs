@@ -1,6 +1,6 @@
 //! What is compared with the model: anything with the library's entries, and the linked library itself.
 
-use thawribbon::raw::{self, Alternate, Capture, Description, Dvsec, Part, Served, Walked};
+use thawribbon::raw::{self, Alternate, Capture, Description, Dvsec, Part, Port, Routed, Served, Walked};
 
 /// All that a call of `serve` is given.
 pub struct ServeCall<'lent> {
@@ -24,6 +24,7 @@ pub trait Subject {
     fn dvsec(&mut self, space: &[u8], at: usize) -> Dvsec;
     fn dvsec_body(&mut self, space: &[u8], at: usize) -> Part;
     fn dual_bdf(&mut self, space: &[u8], at: usize) -> Alternate;
+    fn route(&mut self, ports: &[Port], packet: &[u8], leaving: &mut [u8]) -> Routed;
 }
 
 /// The linked library.
@@ -69,5 +70,9 @@ impl Subject for Library {
 
     fn dual_bdf(&mut self, space: &[u8], at: usize) -> Alternate {
         raw::dual_bdf(space, at)
+    }
+
+    fn route(&mut self, ports: &[Port], packet: &[u8], leaving: &mut [u8]) -> Routed {
+        raw::route(ports, packet, leaving)
     }
 }

@@ -28,20 +28,20 @@ impl Packet {
 }
 
 /// The fields that decide what becomes of a packet.
-struct Fields {
-    route: Route,
-    writes: bool,
-    poisoned: bool,
-    enables: u8,
-    bus: u8,
-    device: u8,
-    function: u8,
-    offset: usize,
+pub struct Fields {
+    pub route: Route,
+    pub writes: bool,
+    pub poisoned: bool,
+    pub enables: u8,
+    pub bus: u8,
+    pub device: u8,
+    pub function: u8,
+    pub offset: usize,
 }
 
 /// The low six bits of the six type codes.
 #[derive(Clone, Copy, PartialEq, Eq)]
-enum Route {
+pub enum Route {
     Type0 = 0x04,
     Type1 = 0x05,
     Trusted = 0x1B,
@@ -173,7 +173,7 @@ fn other_function(board: &Board, random: &mut Random) -> u8 {
 }
 
 /// The bytes of a packet with these fields. Reserved bits are all 0, all 1 or at random.
-fn encode(fields: &Fields, random: &mut Random) -> Packet {
+pub fn encode(fields: &Fields, random: &mut Random) -> Packet {
     let mut packet = noise(random);
     let digest = random.percent(25);
     let any = random.bits();

@@ -16,8 +16,10 @@ pub enum PacketFault {
     LengthField,
 }
 
-/// Values of Length that meet 1 in some of its bits, or that lie beside it.
-const NEAR_1: [u16; 8] = [0x000, 0x002, 0x003, 0x101, 0x201, 0x301, 0x100, 0x3FF];
+/// Values of Length that meet 1 in all of its bits but one or in some of them, or that lie beside it.
+const NEAR_1: [u16; 14] = [
+    0x000, 0x003, 0x005, 0x009, 0x011, 0x021, 0x041, 0x081, 0x101, 0x201, 0x002, 0x301, 0x100, 0x3FF,
+];
 
 /// Puts faults into packets. A fault with many values takes them in turn where it is the call's only one.
 pub struct PacketFaultMaker {

@@ -1,17 +1,21 @@
-//! The answer numbers 1 to 10, each with document 01's cause. Number 0 is the absence of a refusal.
+//! The answer numbers 1 to 10, each with document 01's cause, and the causes that request 1/13 adds. Number 0 is the
+//! absence of a refusal.
 
 /// Why a call is refused. The lowest number that applies is given.
 #[derive(Clone, Copy, Debug, PartialEq, Eq)]
 #[repr(u8)]
 pub(super) enum Refusal {
     /// "a space or rule space isn't 4,096 bytes, a captured device is over 31, or a function number or offset is
-    /// outside its range"
+    /// outside its range"; for a list of ports, "if it is longer than 32, if a secondary exceeds its subordinate, or if
+    /// two ranges, ends included, meet"
     Outside = 1,
-    /// "the reply is under 16 bytes, or the list room is under the list's maximum"
+    /// "the reply is under 16 bytes, or the list room is under the list's maximum"; for the router, "What leaves is
+    /// written into a lent buffer; under 20 bytes it is 2"
     Room = 2,
     /// "the packet has fewer than 12 bytes"
     Short = 3,
-    /// "the type code isn't one of the six"
+    /// "the type code isn't one of the six"; "Type 0 at the router", and a trusted request where the port does not
+    /// support it
     TypeCode = 4,
     /// "the packet length doesn't fit its type and digest bit"
     PacketLength = 5,

@@ -2,7 +2,7 @@
 
 use second::compare::{Failure, Reference, ServeCall, Subject, Tally, run};
 use second::model::List;
-use thawribbon::raw::{Alternate, Capture, Dvsec, Part, Served, Walked};
+use thawribbon::raw::{Alternate, Capture, Dvsec, Part, Port, Routed, Served, Walked};
 
 /// The seed of every run here.
 const SEED: u64 = 20_050_701;
@@ -15,6 +15,7 @@ type WalkEntry = Box<dyn FnMut(List, &[u8], &mut [u16]) -> Walked>;
 type DvsecEntry = Box<dyn FnMut(&[u8], usize) -> Dvsec>;
 type BodyEntry = Box<dyn FnMut(&[u8], usize) -> Part>;
 type DualEntry = Box<dyn FnMut(&[u8], usize) -> Alternate>;
+type RouteEntry = Box<dyn FnMut(&[Port], &[u8], &mut [u8]) -> Routed>;
 
 /// The model, with entries that may be wrong.
 pub struct Wrong {
@@ -24,6 +25,7 @@ pub struct Wrong {
     dvsec: DvsecEntry,
     body: BodyEntry,
     dual: DualEntry,
+    route: RouteEntry,
 }
 
 impl Wrong {
@@ -36,6 +38,7 @@ impl Wrong {
             dvsec: Box::new(|space, at| Reference.dvsec(space, at)),
             body: Box::new(|space, at| Reference.dvsec_body(space, at)),
             dual: Box::new(|space, at| Reference.dual_bdf(space, at)),
+            route: Box::new(|ports, packet, leaving| Reference.route(ports, packet, leaving)),
         }
     }
 
@@ -80,6 +83,13 @@ impl Wrong {
             ..Self::nothing()
         }
     }
+
+    pub fn route(entry: impl FnMut(&[Port], &[u8], &mut [u8]) -> Routed + 'static) -> Self {
+        Self {
+            route: Box::new(entry),
+            ..Self::nothing()
+        }
+    }
 }
 
 impl Subject for Wrong {
@@ -114,6 +124,10 @@ impl Subject for Wrong {
     fn dual_bdf(&mut self, space: &[u8], at: usize) -> Alternate {
         (self.dual)(space, at)
     }
+
+    fn route(&mut self, ports: &[Port], packet: &[u8], leaving: &mut [u8]) -> Routed {
+        (self.route)(ports, packet, leaving)
+    }
 }
 
 /// The little-endian word at an offset.
@@ -133,6 +147,13 @@ pub fn right_walk(list: List, space: &[u8], room: &mut [u16]) -> Walked {
 /// The run that every subject here goes through.
 pub fn run_fixed(subject: &mut impl Subject) -> Result<Tally, Failure> {
     run(subject, SEED, CALLS)
+}
+
+/// Fails where a subject is caught.
+pub fn expect_not_caught(mut subject: Wrong) {
+    if let Err(failure) = run_fixed(&mut subject) {
+        panic!("{failure}");
+    }
 }
 
 /// Fails unless a subject is caught by a call of the given entry.

@@ -6,10 +6,10 @@ use std::collections::HashSet;
 use second::model::List;
 use thawribbon::raw::Walked;
 
-use crate::harness::{expect_caught, right_walk};
+use crate::harness::{expect_caught, expect_not_caught, right_walk};
 use crate::walker::{
-    BROKEN, Habits, LISTS, Memory, Verdict, all_walked_by, expect_each_caught, expect_none_caught, expect_not_caught,
-    listed, next, one_walked_by, start,
+    BROKEN, Habits, LISTS, Memory, Verdict, all_walked_by, expect_each_caught, expect_none_caught, listed, next,
+    one_walked_by, start,
 };
 
 const ALL: &[usize] = &[0, 1, 2];

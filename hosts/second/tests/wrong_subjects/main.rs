@@ -6,21 +6,24 @@ mod accessing;
 mod answering;
 mod capturing;
 mod harness;
+mod judging;
+mod leaving;
 mod looping;
+mod ordering;
 mod reading;
 mod refusing;
+mod router;
+mod routing;
 mod serving;
 mod walker;
 mod walking;
 
-use harness::{Wrong, expect_caught, run_fixed};
-use second::compare::Library;
+use harness::{Wrong, expect_caught, expect_not_caught, run_fixed};
+use second::compare::{Failure, Library};
 
 #[test]
 fn the_right_model_is_not_caught() {
-    if let Err(failure) = run_fixed(&mut Wrong::nothing()) {
-        panic!("{failure}");
-    }
+    expect_not_caught(Wrong::nothing());
 }
 
 #[test]
@@ -36,20 +39,25 @@ fn the_same_seed_gives_the_same_run() {
     assert_eq!(first.expect("no difference"), second.expect("no difference"));
 }
 
+/// Fails unless what is told of a difference has all of these parts.
+fn expect_told(failure: &Failure, parts: &[&str]) {
+    let told = failure.to_string();
+    for part in ["DIFFERENCE: seed", "case", "first difference"].iter().chain(parts) {
+        assert!(told.contains(part), "{part} is missing in:\n{told}");
+    }
+}
+
 #[test]
 fn a_difference_is_told_in_full() {
     let failure = expect_caught(Wrong::serve(answering::unsupported_always), "serve");
-    let told = failure.to_string();
-    for part in [
-        "DIFFERENCE: seed",
-        "case",
-        "entry: serve",
-        "description",
-        "kept",
-        "packet",
-        "reply",
-        "first difference",
-    ] {
-        assert!(told.contains(part), "{part} is missing in:\n{told}");
-    }
+    expect_told(&failure, &["entry: serve", "description", "kept", "packet", "reply"]);
+}
+
+#[test]
+fn a_difference_at_the_router_is_told_in_full() {
+    let failure = expect_caught(leaving::with_poison_lost(), "route");
+    expect_told(
+        &failure,
+        &["entry: route", "ports:", "packet", "buffer as lent", "buffer, place 2"],
+    );
 }

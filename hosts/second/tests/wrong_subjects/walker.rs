@@ -3,7 +3,7 @@
 use second::model::List;
 use thawribbon::raw::Walked;
 
-use crate::harness::{Wrong, expect_caught, right_walk, run_fixed, word};
+use crate::harness::{Wrong, expect_caught, expect_not_caught, right_walk, word};
 
 /// The lists, each with the entry that walks it, its floor and its maximum.
 pub const LISTS: [(List, &str, usize, usize); 3] = [
@@ -175,11 +175,4 @@ pub fn expect_none_caught(change: impl Fn(Habits) -> Habits + 'static) {
     expect_not_caught(all_walked_by(move |place, space, room| {
         change(right(place)).walk(LISTS[place].0, space, room)
     }));
-}
-
-/// Fails where a subject is caught.
-pub fn expect_not_caught(mut subject: Wrong) {
-    if let Err(failure) = run_fixed(&mut subject) {
-        panic!("{failure}");
-    }
 }

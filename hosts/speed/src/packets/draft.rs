@@ -21,6 +21,13 @@ impl Draft {
         Self::legal(code, random, target, setting.function).at(offset)
     }
 
+    /// A legal packet for a bus, of any device and function, at any offset.
+    pub fn for_bus(code: u8, random: &mut Random, bus: u8) -> Self {
+        let target = (bus, random.byte() & 31);
+        let function = random.byte() & 7;
+        Self::legal(code, random, target, function)
+    }
+
     /// Random bytes, with the fixed fields as document 01 wants them, with or without a digest, not poisoned.
     fn legal(code: u8, random: &mut Random, (bus, device): (u8, u8), function: u8) -> Self {
         let digest = random.byte() & 0x80;

@@ -1,7 +1,9 @@
-//! What the tests share: buffers with guards, the board of the bench sheet, and spaces with chains.
+//! What the tests share: buffers with guards, the board of the bench sheet, a switch, and spaces with chains.
 //!
 //! Every call is followed by a look at every lent element and at the guards around it.
 #![allow(dead_code)] // each test file uses a part of this
+
+pub mod switch;
 
 use std::fmt::Debug;
 use std::hint::black_box;

@@ -1,9 +1,10 @@
 //! Every answer that may not be dropped, dropped: rustc has to warn of each line that says so.
 //!
 //! tests/rust.sh compiles this; it is no test of the package, and is never run. It counts the crate's functions too: each
-//! that gives something stands here.
+//! that gives something stands here. What leaves a switch may not be dropped behind a `?` either.
 use thawribbon::raw::{self, Capture, Description};
-use thawribbon::{Board, Completion, List, NotDone, Refusal, Space, chain, dual_bdf, dvsec, dvsec_body, headers, walk};
+use thawribbon::{Board, Completion, Leaving, List, NotDone, NotRouted, Port, Refusal, Space};
+use thawribbon::{chain, dual_bdf, dvsec, dvsec_body, headers, route, walk};
 
 fn main() {}
 
@@ -31,8 +32,20 @@ pub fn drop_parts(completion: &Completion, not_done: &NotDone, refusal: Refusal)
     List::Extended.maximum(); // dropped
 }
 
+pub fn drop_routed(ports: &[Port], packet: &[u8], leaving: &Leaving) -> Result<(), NotRouted> {
+    route(ports, packet); // dropped
+    route(ports, packet)?; // dropped
+    leaving.port(); // dropped
+    leaving.bytes(); // dropped
+    Ok(())
+}
+
 pub fn drop_board(description: thawribbon::Description, ordinary: Space, trusted: Space) {
     Board::fresh(description, ordinary, trusted); // dropped
+}
+
+pub fn drop_raw_routed(ports: &[Port], packet: &[u8], leaving: &mut [u8]) {
+    raw::route(ports, packet, leaving); // dropped
 }
 
 pub fn drop_raw(space: &[u8], bytes: &mut [u8], other: &mut [u8], reply: &mut [u8], room: &mut [u16]) {

@@ -1,15 +1,15 @@
--- `desk::judging::reply` is safe and ends. Assumes nothing.
+-- `desk::judging::bytes` is safe and ends. Assumes nothing.
 use borrow.Author.Needs.{needs}
 use Prim.Native.Nat.{_-_}
 use lib.ListN.{length}
-use Rattle.desk.proofs.judging.reply.Statement.{statement}
-use Rattle.desk.proofs.judging.reply.Tie as tie
+use Rattle.desk.proofs.judging.bytes.Statement.{statement}
+use Rattle.desk.proofs.judging.bytes.Tie as tie
 
 abbrev Inv-loop : tie.InvT-loop
-Inv-loop desk found wanted at₀ at = Unit {0}
+Inv-loop desk text found wanted at₀ at = Unit {0}
 
 abbrev μ-loop : tie.MeasureT-loop
-μ-loop desk found wanted at₀ at = length found - at
+μ-loop desk text found wanted at₀ at = length found - at
 
 loop-holds : tie.Need-loop-holds Inv-loop μ-loop
 loop-holds c = search needs
@@ -38,8 +38,8 @@ loop-again c = search needs
 returns-2 : tie.Need-returns-2 Inv-loop μ-loop
 returns-2 c = search needs
 
-pub reply-spec : {M : Type 1} → statement M
-reply-spec =
+pub bytes-spec : {M : Type 1} → statement M
+bytes-spec =
     tie.close
     (tie.spec
     Inv-loop
