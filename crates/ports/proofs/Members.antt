@@ -1,5 +1,5 @@
--- THEOREMS. What is in the sets of buses that the code keeps as four words: a port's set has exactly the buses of its range, two sets together have
--- exactly what one of them has, and two sets share a bus exactly if one of the 256 is in both. Assumes nothing.
+-- THEOREMS. What is in the sets of buses that the code keeps as four words: the set of a port that is in order has exactly the buses of its range, two sets
+-- together have exactly what one of them has, and a set shares a bus with a port's exactly if one of the 256 is in both. Assumes nothing.
 use Prim.Native.Nat.{ℕ, zero, suc, _+_, _-_, _*_, _/_, _%_, _≤_, _<_, min, max}
 use mathlib.Core.Bool.{Bool, true, false, not, cond, _||_, true≢false}
 use mathlib.Core.Logic.{_⊎_, ⊎-elim}

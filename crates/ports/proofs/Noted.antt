@@ -1,5 +1,6 @@
--- What the walk's survey says of the ports noted so far, and so the choice when all are: the end of `choose`'s proof. Assumes nothing.
-use Prim.Native.Nat.{ℕ, zero, suc, _+_, _≤_, _<_, max}
+-- THEOREM. `begin`, a `note` for each port and `conclude` give the choice of the list, whatever its length. So does the walk of `choose`, which stops at the
+-- port that is too many. Assumes nothing.
+use Prim.Native.Nat.{ℕ, zero, suc, _+_, _-_, _≤_, _<_, max}
 use mathlib.Core.Bool.{Bool, true, false, cond, _||_, true≢false}
 use mathlib.Core.List.{List, [], _∷_}
 use mathlib.Core.Logic.{⊎-elim}
@@ -22,6 +23,10 @@ use Rattle.ports.proofs.Pairs.{portAt, Sound, Good, neither, is-or-not,
 -- the buses of the first n ports are bytes
 abbrev pub BytesUpTo : List Port → ℕ → Type 0
 BytesUpTo ps n = (j : ℕ) → j < n → (portAt ps j .secondary < 256) × (portAt ps j .subordinate < 256)
+
+-- the statement: the buses of ports are bytes, as their type has it
+abbrev pub NotedIsChoice : Type 0
+NotedIsChoice = (ps : List Port) (bus : ℕ) → BytesUpTo ps (length ps) → concluded (after ps bus (length ps)) ≡ choice ps bus
 
 pub bytes-more : (ps : List Port) (i : ℕ) (p : Port) → BytesUpTo ps i → p ≡ getD ps i noPort → (p .secondary < 256) × (p .subordinate < 256)
     → BytesUpTo ps (i + 1)
@@ -254,3 +259,30 @@ concluded-is-choice ps bus b = go (ltb 32 (length ps)) refl b
     go : (t : Bool) → ltb 32 (length ps) ≡ t → BytesUpTo ps (cond t 33 (length ps)) → concluded (after ps bus (cond t 33 (length ps))) ≡ choice ps bus
     go true e b = concluded-many ps bus (after ps bus 33) (ltb-true 32 (length ps) e) (surveyed ps bus 33 (omega arith) b .counted)
     go false e b = let h = ltb-false 32 (length ps) e in concluded-few ps bus h (after ps bus (length ps)) (surveyed ps bus (length ps) (omega arith) b)
+
+-- ---- a list of any length
+
+-- past 32, noting a port changes nothing
+noted-full : (s : Survey) (p : Port) → 32 < s .count → noted s p ≡ s
+unfolding noted
+noted-full s p h = rw (lt-ltb 32 (s .count) h)
+
+full-stays : (ps : List Port) (bus n k : ℕ) → 32 < after ps bus n .count → after ps bus (k + n) ≡ after ps bus n
+full-stays ps bus n zero h = let none : 0 + n ≡ n = omega arith in ap (after ps bus) none
+full-stays ps bus n (suc k) h =
+    let e = full-stays ps bus n k h in
+    let next : suc k + n ≡ suc (k + n) = omega arith in
+    ap (after ps bus) next ∙ noted-full (after ps bus (k + n)) (getD ps (k + n) noPort) (subst (λ (s : Survey). 32 < s .count) (sym e) h) ∙ e
+
+pub noted-is-choice : NotedIsChoice
+noted-is-choice ps bus b = go (ltb 32 (length ps)) refl (concluded-is-choice ps bus)
+  where
+    go : (t : Bool) → ltb 32 (length ps) ≡ t → (BytesUpTo ps (cond t 33 (length ps)) → concluded (after ps bus (cond t 33 (length ps))) ≡ choice ps bus)
+        → concluded (after ps bus (length ps)) ≡ choice ps bus
+    go true e is =
+        let h = ltb-true 32 (length ps) e in
+        let few : BytesUpTo ps 33 = λ j l. b j (omega arith) in
+        let counted = surveyed ps bus 33 (omega arith) few .counted in
+        let split : length ps ≡ (length ps - 33) + 33 = omega arith in
+        ap concluded (ap (after ps bus) split ∙ full-stays ps bus 33 (length ps - 33) (omega (arith, counted))) ∙ is few
+    go false e is = is b

@@ -1,5 +1,5 @@
--- Sets of the 256 buses, as the inner functions of this crate keep them: bit k of the word for base b is bus b + k. No entry's promise rests
--- on it: proofs/Members shows what is in them. Assumes nothing.
+-- Sets of the 256 buses, as a survey keeps them: bit k of the word for base b is bus b + k. What `note` promises is said with them, and proofs/Members
+-- shows what is in them; what `choose` promises rests on none of it. Assumes nothing.
 use Prim.Native.Nat.{ℕ, _+_, _-_, _^_}
 use mathlib.Core.Bool.{Bool, not, cond}
 use mathlib.Core.List.{[], _∷_}
@@ -17,7 +17,7 @@ width end base = cond (ltb 63 (end - base)) 64 (end - base)
 unfoldable pub below : ℕ → ℕ → ℕ
 below end base = 2 ^ width end base - 1
 
--- of the 64 buses from a base on, those below an end and not below a first
+-- of the 64 buses from a base on, those below an end and not below a first, where the first is not past the end
 abbrev pub range : ℕ → ℕ → ℕ → ℕ
 range from end base = bitXor (below end base) (below from base)
 

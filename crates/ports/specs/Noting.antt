@@ -1,5 +1,5 @@
--- What the steps of the walk keep of a list, one port after the other. `choose`'s promise does not rest on it: proofs/Noted shows that its end is
--- `choice`. Assumes nothing.
+-- What is kept of a list while it is noted, one port after the other: the promises of `begin`, `note` and `conclude`. That their end is `choice`, for a list of
+-- any length, is proofs/Noted (`noted-is-choice`); the promise of `choose` rests on none of it. Assumes nothing.
 use Prim.Native.Nat.{ℕ, zero, suc, _+_, _<_}
 use mathlib.Core.Bool.{Bool, true, false, _||_, cond}
 use mathlib.Core.List.{List}

@@ -1,4 +1,4 @@
-// The walk over the lent list: every port of it is noted, but no more than one past the most that it may have.
+// The walk over the lent list: every port of it is noted, but no more than the one that is too many.
 ghost use mathlib.Core.Path.{_≡_};
 ghost use Prim.Native.Nat.{_<_};
 ghost use lib.ListN.{length, getD};
@@ -8,17 +8,15 @@ use super::Choice;
 use super::Port;
 use super::noting;
 
-// The most ports that a list may have, and one that is too many.
-const MOST: usize = 32;
-
-const MORE: usize = 33;
+// One port more than a list may have.
+const TOO_MANY: usize = 33;
 
 // How many ports of so many are looked at.
 fn up_to(count: usize) -> usize
     ensures { λ r. ⌜ r ≡ upTo count ⌝ }
 {
-    if MOST < count {
-        return MORE;
+    if TOO_MANY <= count {
+        return TOO_MANY;
     }
     count
 }

@@ -56,8 +56,8 @@ fn has(port: Port, bus: u8) -> bool
     bus <= port.subordinate
 }
 
-// The survey with the port that has the bus.
-fn place(survey: Survey, port: Port) -> Survey
+// The survey with the port, where it has the bus.
+fn placing(survey: Survey, port: Port) -> Survey
     ensures { λ r. ⌜ r ≡ placed survey port ⌝ }
 {
     if has(port, survey.bus) {
@@ -81,7 +81,7 @@ pub fn note(survey: Survey, port: Port) -> Survey
     let its = sets::buses_of(port);
     let bad = is_bad(survey.bad, port, its, before);
     let taken = sets::together(before, its);
-    let with = place(survey, port);
+    let with = placing(survey, port);
     let chosen = with.port;
     Survey {
         bus: survey.bus,

@@ -19,7 +19,7 @@ fn below(end: usize, base: usize) -> u64
     (1u64 << width) - 1
 }
 
-// Of the 64 buses from `base` on, those from `from` on and below `end`.
+// Of the 64 buses from `base` on, those from `from` on and below `end`, where `from` is not past `end`.
 fn range(from: usize, end: usize, base: usize) -> u64
     ensures { λ r. ⌜ r ≡ range from end base ⌝ }
 {

@@ -1,8 +1,8 @@
 -- THEOREMS. When a packet leaves, and when it does not: it leaves by a port, with certain bytes, exactly if the list is good, the buffer has 20 bytes,
 -- the packet has no fault of 3 to 6 and is not of Type 0, and that port has its bus and supports TCS routing where the request is trusted. The verdict is
--- UR exactly if all that holds and no port has the bus. Any other answer is the number of the first check that applies, 1 to 6. What does not leave is
--- not written: the buffer stays, every byte, and port and count are 0. Assumes nothing.
-use Prim.Native.Nat.{ℕ, zero, suc, _≤_}
+-- UR exactly if list, buffer and packet are so and no port has the bus. Any other answer is the number of the first check that applies, 1 to 6, in the order
+-- that the request names. What does not leave is not written: the buffer stays, every byte, and port and count are 0. Assumes nothing.
+use Prim.Native.Nat.{ℕ, zero, suc, _≤_, _<_}
 use mathlib.Core.Bool.{Bool, true, false, not, _&&_, true≢false}
 use mathlib.Core.List.{List, [], _∷_, _++_, List·Memᴰ, List·Memᴰ·not-nil, List·Memᴰ.List·Memᴰ·head, List·Memᴰ.List·Memᴰ·tail}
 use mathlib.Core.Logic.{_↔_, _⊎_, ⊎-elim}
@@ -12,14 +12,15 @@ use lib.ListN.{length}
 use Rattle.answers.specs.Checks.{check, firstThatApplies}
 use Rattle.answers.proofs.Checks.{First, Positive, gives-first, gives-one-of}
 use Rattle.packet.specs.declared.Target.{Target}
+use Rattle.packet.specs.declared.Target.the-variants.{Type0, Trusted}
 use Rattle.packet.specs.Request.{packetNumber, isTrusted}
 use Rattle.ports.specs.declared.Port.{Port}
 use Rattle.ports.specs.declared.Choice.{Choice}
 use Rattle.ports.specs.declared.Choice.the-variants.{BadList, At, Nowhere}
-use Rattle.ports.specs.Ports.{supports}
+use Rattle.ports.specs.Ports.{supports, badList}
 use Rattle.ports.specs.Choice.{choice}
 use Rattle.ports.proofs.Laws.{below-or-not}
-use Rattle.ports.proofs.Pairs.{portAt, Good, is-or-not, not-true-false}
+use Rattle.ports.proofs.Pairs.{portAt, Good, is-or-not, not-true-false, good-of}
 use Rattle.ports.proofs.Only.{HasAt, chooses}
 use Rattle.router.specs.declared.Verdict.{Verdict}
 use Rattle.router.specs.declared.Verdict.the-variants.{Leaves, Unsupported, Refused}
@@ -50,6 +51,23 @@ abbrev pub UnsupportedIff : Type 0
 UnsupportedIff =
     (ports : List Port) (p : List ℕ) (size : ℕ)
     → (route ports p size ≡ unsupported) ↔ (Routable ports p size × ((place : ℕ) → HasAt ports (busOf p) place → ⊥))
+
+-- "An empty list" has no port for any bus
+abbrev pub EmptyListUnsupported : Type 0
+EmptyListUnsupported =
+    (p : List ℕ) (size : ℕ) → 20 ≤ size → packetNumber p ≡ 0 → isType0 (targetIn p) ≡ false → route [] p size ≡ unsupported
+
+-- "The list's 1, that 2 and document 01's checks 3 to 6 come first, in that order", then the two causes of 4
+pub record InOrder (ports : List Port) (p : List ℕ) (size n : ℕ) : Type 0 where
+  pub list : (Good ports → ⊥) → n ≡ 1
+  pub room : Good ports → size < 20 → n ≡ 2
+  pub packet : Good ports → 20 ≤ size → (packetNumber p ≡ 0 → ⊥) → n ≡ packetNumber p
+  pub type0 : Good ports → 20 ≤ size → packetNumber p ≡ 0 → targetIn p ≡ Type0 → n ≡ 4
+  pub trusted : Good ports → 20 ≤ size → packetNumber p ≡ 0 → targetIn p ≡ Trusted
+      → (place : ℕ) → HasAt ports (busOf p) place → supports (portAt ports place) ≡ false → n ≡ 4
+
+abbrev pub ChecksInOrder : Type 0
+ChecksInOrder = (ports : List Port) (p : List ℕ) (size : ℕ) → InOrder ports p size (route ports p size .number)
 
 -- the number: of the first check that applies, 0 exactly if none does, and no other than 0 to 6
 pub record NumberSays (ports : List Port) (p : List ℕ) (size n : ℕ) : Type 0 where
@@ -101,17 +119,17 @@ one-of-seven n m = ⊎-elim (λ (h : List·Memᴰ n (0 ∷ 1 ∷ 2 ∷ 3 ∷ 4 �
     fourth (List·Memᴰ·tail (List·Memᴰ·head e)) = at-four e
     fourth (List·Memᴰ·tail (List·Memᴰ·tail z)) = absurd (List·Memᴰ·not-nil z)
 
-shown-number : (ports : List Port) (p buffer : List ℕ) (r : Verdict) (after : List ℕ) → Routes ports p buffer r after
-    → told r after .number ≡ routeNumber (choice ports (busOf p)) p (length buffer)
-unfolding shows
-shown-number ports p buffer r after e = ap (λ (x : Seen). x .number) e ∙ decide-number (choice ports (busOf p)) p (length buffer)
+pub route-number-says : (ports : List Port) (p : List ℕ) (size : ℕ) → NumberSays ports p size (route ports p size .number)
+route-number-says ports p size =
+    let c = choice ports (busOf p) in
+    let cs = routeChecks c p size in
+    subst (NumberSays ports p size) (sym (decide-number c p size))
+    (record { first = gives-first cs (positive-all c p size); only = one-of-seven _ (gives-one-of cs) })
 
 pub number-is-first : NumberIsFirst
+unfolding shows
 number-is-first ports p buffer r after e =
-    let c = choice ports (busOf p) in
-    let cs = routeChecks c p (length buffer) in
-    subst (NumberSays ports p (length buffer)) (sym (shown-number ports p buffer r after e))
-    (record { first = gives-first cs (positive-all c p (length buffer)); only = one-of-seven _ (gives-one-of cs) })
+    subst (NumberSays ports p (length buffer)) (sym (ap (λ (x : Seen). x .number) e)) (route-number-says ports p (length buffer))
 
 -- ---- what is not written
 
@@ -124,6 +142,24 @@ silent : (n : ℕ) (c : Choice) (p : List ℕ) → byNumber n c p .leaves ≡ fa
 silent zero c p e = silent-port c p e
 silent (suc n) c p e = (refl, refl)
 
+-- what has a number but 0 does not leave, and what does not leave is not written
+leaving-zero : (n : ℕ) (c : Choice) (p : List ℕ) → byNumber n c p .leaves ≡ true → byNumber n c p .number ≡ 0
+leaving-zero zero c p e = port-number c p
+leaving-zero (suc n) c p e = absurd (true≢false (sym e))
+
+pub leaving-number : (ports : List Port) (p : List ℕ) (size : ℕ) → route ports p size .leaves ≡ true → route ports p size .number ≡ 0
+unfolding decide
+leaving-number ports p size e = leaving-zero (routeNumber (choice ports (busOf p)) p size) (choice ports (busOf p)) p e
+
+pub silent-outcome : (ports : List Port) (p : List ℕ) (size : ℕ) → route ports p size .leaves ≡ false
+    → (route ports p size .written ≡ []) × (route ports p size .port ≡ 0)
+unfolding decide
+silent-outcome ports p size e = let c = choice ports (busOf p) in silent (routeNumber c p size) c p e
+
+pub silent-buffer : (ports : List Port) (p buffer : List ℕ) → route ports p (length buffer) .leaves ≡ false → shows (route ports p (length buffer)) buffer .buffer ≡ buffer
+unfolding shows
+silent-buffer ports p buffer e = ap (λ (l : List ℕ). over l buffer) (silent-outcome ports p (length buffer) e .0)
+
 unwritten : (o : Outcome) (buffer : List ℕ) (r : Verdict) (after : List ℕ) → told r after ≡ shows o buffer → told r after .buffer ≡ after
     → (o .written ≡ []) × (o .port ≡ 0) → (after ≡ buffer) × (told r after .port ≡ 0) × (told r after .count ≡ 0)
 unfolding shows
@@ -134,14 +170,12 @@ unwritten o buffer r after e b w = (
 )
 
 pub stays-unwritten : StaysUnwritten
-unfolding shows decide
+unfolding shows
 stays-unwritten ports p buffer (Leaves place count) after e n = absurd (n place count refl)
 stays-unwritten ports p buffer Unsupported after e n =
-    let c = choice ports (busOf p) in
-    unwritten (decide c p (length buffer)) buffer Unsupported after e refl (silent (routeNumber c p (length buffer)) c p (sym (ap (λ (x : Seen). x .leaves) e)))
+    unwritten (route ports p (length buffer)) buffer Unsupported after e refl (silent-outcome ports p (length buffer) (sym (ap (λ (x : Seen). x .leaves) e)))
 stays-unwritten ports p buffer (Refused refusal) after e n =
-    let c = choice ports (busOf p) in
-    unwritten (decide c p (length buffer)) buffer (Refused refusal) after e refl (silent (routeNumber c p (length buffer)) c p (sym (ap (λ (x : Seen). x .leaves) e)))
+    unwritten (route ports p (length buffer)) buffer (Refused refusal) after e refl (silent-outcome ports p (length buffer) (sym (ap (λ (x : Seen). x .leaves) e)))
 
 -- ---- when no check applies
 
@@ -257,3 +291,38 @@ from-unsupported ports p size h =
 
 pub unsupported-iff : UnsupportedIff
 unsupported-iff ports p size = (to-unsupported ports p size (choice ports (busOf p)) refl, from-unsupported ports p size)
+
+pub empty-list-unsupported : EmptyListUnsupported
+unfolding badList
+empty-list-unsupported p size room faultless other =
+    from-unsupported [] p size (
+      record { good = good-of [] refl; room = room; faultless = faultless; notType0 = other },
+      λ place h. omega (arith, h .inside),
+    )
+
+-- ---- the order of the checks
+
+bad-choice : (ports : List Port) (bus : ℕ) → (Good ports → ⊥) → isBad (choice ports bus) ≡ true
+bad-choice ports bus n = ap isBad (chooses ports bus .bad .1 n)
+
+good-choice : (ports : List Port) (bus : ℕ) → Good ports → isBad (choice ports bus) ≡ false
+good-choice ports bus g = go (choice ports bus) refl
+  where
+    go : (c : Choice) → choice ports bus ≡ c → isBad c ≡ false
+    go BadList e = absurd (chooses ports bus .bad .0 e g)
+    go (At place port) e = refl
+    go Nowhere e = refl
+
+pub checks-in-order : ChecksInOrder
+checks-in-order ports p size =
+    let c = choice ports (busOf p) in
+    let is = decide-number c p size in
+    record {
+      list = λ n. is ∙ bad-number c p size (bad-choice ports (busOf p) n);
+      room = λ g h. is ∙ room-number c p size (good-choice ports (busOf p) g) h;
+      packet = λ g h f. is ∙ packet-number c p size (good-choice ports (busOf p) g) h f;
+      type0 = λ g h f t. is ∙ router-number c p size (good-choice ports (busOf p) g) h f ∙ rw t;
+      trusted = λ g h f t place held without.
+          let at = chooses ports (busOf p) .at place (portAt ports place) .1 (g, held, refl) in
+          is ∙ router-number c p size (good-choice ports (busOf p) g) h f ∙ rw (t, at, without);
+    }

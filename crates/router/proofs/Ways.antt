@@ -8,7 +8,8 @@ use mathlib.Core.Logic.{_⊎_, ⊎-elim}
 use mathlib.Core.Path.{_≡_, refl, sym, ap, _∙_, subst}
 use native.Mathlib.Omega.{arith}
 use lib.Dec.{eqb, ltb}
-use lib.ListN.{length}
+use lib.ListN.{length, take, drop}
+use lib.Seq.{take-append-seam, drop-append-seam}
 use borrow.Author.Tests.{eq-eqb, eqb-true}
 use Rattle.answers.specs.Checks.{check, firstThatApplies}
 use Rattle.words.specs.Bytes.{byte}
@@ -26,9 +27,11 @@ use Rattle.packet.proofs.Laws.{trusted-target}
 use Rattle.packet.proofs.Unique.{decode-unique}
 use Rattle.ports.specs.declared.Port.{Port}
 use Rattle.ports.proofs.Pairs.{portAt, is-or-not}
-use Rattle.router.specs.Routing.{busOf, targetIn, isType0, type0Code, asType0, turns, leavingBy}
-use Rattle.router.specs.Row.{Router, Passes, Way}
-use Rattle.router.proofs.Laws.{known-type, target-is, type1-codes}
+use Rattle.router.specs.Routing.{busOf, targetIn, isType0, type0Code, asType0, turns, leavingBy, Outcome, leavesBy, route}
+use Rattle.router.specs.declared.Verdict.the-variants.{Leaves}
+use Rattle.router.specs.Promise.{Seen, over, shows, Routes}
+use Rattle.router.specs.Row.{Router, Passes, Way, Unaltered}
+use Rattle.router.proofs.Laws.{known-type, target-is, type1-codes, length-as-type0}
 use Rattle.router.proofs.Verdicts.{leaves-iff}
 
 -- the same request, of Type 0
@@ -47,27 +50,35 @@ atType0 q =
       offset = q .offset;
     }
 
--- one packet is another that became Type 0: every byte but the first is the same, it has no fault, and a board's decoder reads the same request but for its
--- type, with the same data
+-- one packet is another that became Type 0: bit 7 of its first byte and every other byte are the same, it has no fault, and a board's decoder reads the
+-- same request but for its type, with the same data
 pub record BecameType0 (p q : List ℕ) : Type 0 where
   pub type1 : targetIn p ≡ Type1
   pub changed : q ≡ asType0 p
+  pub bit7 : bit 7 (byte q 0) ≡ bit 7 (byte p 0)
+  pub others : drop 1 q ≡ drop 1 p
   pub faultless : packetNumber q ≡ 0
   pub request : requestOf q ≡ atType0 (requestOf p)
   pub «data» : dataOf q ≡ dataOf p
   pub read : (d : Decoded) → Decodes q d → d ≡ Asks (atType0 (requestOf p))
 
 -- the last router of a row makes it Type 0, and those before it change nothing
-pub record LastTurns (rs : List Router) (p end : List ℕ) : Type 0 where
+pub record LastTurns (row : List Router) (p end : List ℕ) : Type 0 where
   pub before : List Router
   pub last : Router
-  pub row : rs ≡ before ++ last ∷ []
-  pub unchanged : Way before p p
+  pub stands : row ≡ before ++ last ∷ []
+  pub unaltered : Unaltered before p
   pub turned : Passes last p end × BecameType0 p end
+
+-- what a caller holds after a packet has left: in the first bytes of the buffer the packet that leaves, and past it what was there
+pub record Written (ports : List Port) (p buffer : List ℕ) (count : ℕ) (after : List ℕ) : Type 0 where
+  pub whole : count ≡ length p
+  pub passes : Passes (record { ports = ports; size = length buffer }) p (take count after)
+  pub past : drop count after ≡ drop count buffer
 
 -- the statements
 abbrev pub TrustedNeverAlters : Type 0
-TrustedNeverAlters = (rs : List Router) (p end : List ℕ) → trusted p ≡ true → Way rs p end → end ≡ p
+TrustedNeverAlters = (row : List Router) (p end : List ℕ) → trusted p ≡ true → Way row p end → Unaltered row p × (end ≡ p)
 
 -- by the port that it leaves by: the secondary turns a Type 1 request, and nothing turns another
 abbrev pub TurnsAtSecondary : Type 0
@@ -80,7 +91,12 @@ abbrev pub Type0StopsHere : Type 0
 Type0StopsHere = (r : Router) (p q : List ℕ) → targetIn p ≡ Type0 → Passes r p q → ⊥
 
 abbrev pub AtMostOnce : Type 0
-AtMostOnce = (rs : List Router) (p end : List ℕ) → Way rs p end → (end ≡ p) ⊎ LastTurns rs p end
+AtMostOnce = (row : List Router) (p end : List ℕ) → Way row p end → (Unaltered row p × (end ≡ p)) ⊎ LastTurns row p end
+
+abbrev pub WhatLeavesIsWritten : Type 0
+WhatLeavesIsWritten =
+    (ports : List Port) (p buffer : List ℕ) (place count : ℕ) (after : List ℕ) → Routes ports p buffer (Leaves place count) after
+    → Written ports p buffer count after
 
 -- ---- what leaves, by whether it turns
 
@@ -116,16 +132,17 @@ not-type1 Type0 bus port e = refl
 not-type1 Type1 bus port e = absurd (true≢false (sym e))
 not-type1 Trusted bus port e = refl
 
-trusted-kept : (r : Router) (p q : List ℕ) → trusted p ≡ true → Passes r p q → q ≡ p
+pub trusted-kept : (r : Router) (p q : List ℕ) → trusted p ≡ true → Passes r p q → q ≡ p
 trusted-kept r p q e w =
     let port = portAt (r .ports) (w .0) in
     left-is r p q w ∙ as-it-is port p (not-type1 (targetIn p) (busOf p) port (trusted-in p e))
 
 pub trusted-never-alters : TrustedNeverAlters
-trusted-never-alters rs p end e (Way.arrived _) = refl
-trusted-never-alters rs p end e (Way.onward r more _ q _ w way) =
-    let same = trusted-kept r p q e w in
-    trusted-never-alters more q end (ap trusted same ∙ e) way ∙ same
+trusted-never-alters row p end e (Way.arrived _) = (Unaltered.arrived p, refl)
+trusted-never-alters row p end e (Way.onward router more _ left _ w way) =
+    let same = trusted-kept router p left e w in
+    let rest = trusted-never-alters more left end (ap trusted same ∙ e) way in
+    (Unaltered.onward router more p (subst (Passes router p) same w) (subst (Unaltered more) same (rest .0)), rest .1 ∙ same)
 
 -- ---- a packet that became Type 0
 
@@ -134,6 +151,16 @@ pub record Turned (first : ℕ) : Type 0 where
   pub writes : Bool
   pub from : typeOf (typeCode first) ≡ Known writes Type1
   pub to : typeOf (typeCode (128 * bit 7 first + type0Code (typeCode first))) ≡ Known writes Type0
+
+small-code : (c : ℕ) → type0Code c < 128
+small-code c = go (eqb c 0x45)
+  where
+    go : (b : Bool) → cond b 0x44 0x04 < 128
+    go true = omega arith
+    go false = omega arith
+
+high-bit : (b c : ℕ) → b < 2 → c < 128 → bit 7 (128 * b + c) ≡ b
+high-bit b c h l = omega arith
 
 turned-codes : (first : ℕ) → (typeCode first ≡ 0x05) ⊎ (typeCode first ≡ 0x45) → Turned first
 unfolding typeOf
@@ -145,15 +172,8 @@ turned-codes first =
     low-code : (b c : ℕ) → c < 128 → typeCode (128 * b + c) ≡ c
     low-code b c h = omega arith
 
-    small : (c : ℕ) → type0Code c < 128
-    small c = go (eqb c 0x45)
-      where
-        go : (b : Bool) → cond b 0x44 0x04 < 128
-        go true = omega arith
-        go false = omega arith
-
     code-is : (c : ℕ) → typeCode first ≡ c → typeCode (128 * bit 7 first + type0Code (typeCode first)) ≡ type0Code c
-    code-is c e = ap (λ (x : ℕ). typeCode (128 * bit 7 first + type0Code x)) e ∙ low-code (bit 7 first) (type0Code c) (small c)
+    code-is c e = ap (λ (x : ℕ). typeCode (128 * bit 7 first + type0Code x)) e ∙ low-code (bit 7 first) (type0Code c) (small-code c)
 
 -- the number of a packet, by what its type code stands for
 abbrev numberAs : TypeCode → List ℕ → ℕ
@@ -175,6 +195,8 @@ became first rest t e =
     record {
       type1 = ap targetOf (t .from);
       changed = refl;
+      bit7 = high-bit (bit 7 first) (type0Code (typeCode first)) (omega arith) (small-code (typeCode first));
+      others = refl;
       faultless = number;
       request = request;
       «data» = refl;
@@ -217,38 +239,68 @@ type0-now : (p q : List ℕ) → BecameType0 p q → targetIn q ≡ Type0
 unfolding requestOf
 type0-now p q b = ap (λ (x : Request). x .target) (b .request)
 
-stopped : (rs : List Router) (q end : List ℕ) → targetIn q ≡ Type0 → Way rs q end → (rs ≡ []) × (end ≡ q)
-stopped rs q end e (Way.arrived _) = (refl, refl)
-stopped rs q end e (Way.onward r more _ n _ w way) = absurd (type0-stops-here r q n e w)
+stopped : (row : List Router) (q end : List ℕ) → targetIn q ≡ Type0 → Way row q end → (row ≡ []) × (end ≡ q)
+stopped row q end e (Way.arrived _) = (refl, refl)
+stopped row q end e (Way.onward router more _ left _ w way) = absurd (type0-stops-here router q left e w)
 
-turn-here : (r : Router) (rs : List Router) (p q end : List ℕ) → Passes r p q → BecameType0 p q → Way rs q end → LastTurns (r ∷ rs) p end
-turn-here r rs p q end w b way =
-    let s = stopped rs q end (type0-now p q b) way in
+turn-here : (router : Router) (row : List Router) (p q end : List ℕ) → Passes router p q → BecameType0 p q → Way row q end → LastTurns (router ∷ row) p end
+turn-here router row p q end w b way =
+    let s = stopped row q end (type0-now p q b) way in
     record {
       before = [];
-      last = r;
-      row = ap (λ (l : List Router). r ∷ l) (s .0);
-      unchanged = Way.arrived p;
-      turned = subst (λ (x : List ℕ). Passes r p x × BecameType0 p x) (sym (s .1)) (w, b);
+      last = router;
+      stands = ap (λ (l : List Router). router ∷ l) (s .0);
+      unaltered = Unaltered.arrived p;
+      turned = subst (λ (x : List ℕ). Passes router p x × BecameType0 p x) (sym (s .1)) (w, b);
     }
 
-turn-later : (r : Router) (rs : List Router) (p end : List ℕ) → Passes r p p → LastTurns rs p end → LastTurns (r ∷ rs) p end
-turn-later r rs p end w l =
+turn-later : (router : Router) (row : List Router) (p end : List ℕ) → Passes router p p → LastTurns row p end → LastTurns (router ∷ row) p end
+turn-later router row p end w l =
     record {
-      before = r ∷ l .before;
+      before = router ∷ l .before;
       last = l .last;
-      row = ap (λ (x : List Router). r ∷ x) (l .row);
-      unchanged = Way.onward r (l .before) p p p w (l .unchanged);
+      stands = ap (λ (x : List Router). router ∷ x) (l .stands);
+      unaltered = Unaltered.onward router (l .before) p w (l .unaltered);
       turned = l .turned;
     }
 
 pub at-most-once : AtMostOnce
-at-most-once rs p end (Way.arrived _) = _⊎_.inl refl
-at-most-once rs p end (Way.onward r more _ q _ w way) =
+at-most-once row p end (Way.arrived _) = _⊎_.inl (Unaltered.arrived p, refl)
+at-most-once row p end (Way.onward router more _ q _ w way) =
     ⊎-elim
-    (λ same. ⊎-elim
-    (λ e. _⊎_.inl (e ∙ same))
-    (λ l. _⊎_.inr (turn-later r more p end (subst (Passes r p) same w) (subst (λ (x : List ℕ). LastTurns more x end) same l)))
+    (λ same.
+    let here = subst (Passes router p) same w in
+    ⊎-elim
+    (λ u. _⊎_.inl (Unaltered.onward router more p here (subst (Unaltered more) same (u .0)), u .1 ∙ same))
+    (λ l. _⊎_.inr (turn-later router more p end here (subst (λ (x : List ℕ). LastTurns more x end) same l)))
     (at-most-once more q end way))
-    (λ b. _⊎_.inr (turn-here r more p q end w b way))
-    (either-way r p q w)
+    (λ b. _⊎_.inr (turn-here router more p q end w b way))
+    (either-way router p q w)
+
+-- ---- what is written
+
+pub same-outcome : (o : Outcome) (place : ℕ) → o .number ≡ 0 → o .leaves ≡ true → o .port ≡ place → o ≡ leavesBy place (o .written)
+same-outcome o place n l e = λ i. record { number = n i; leaves = l i; port = e i; written = o .written }
+
+leaving-length : (port : Port) (p : List ℕ) → length (leavingBy port p) ≡ length p
+unfolding leavingBy
+leaving-length port p = go (turns (targetIn p) (busOf p) port)
+  where
+    go : (b : Bool) → length (cond b (asType0 p) p) ≡ length p
+    go true = length-as-type0 p
+    go false = refl
+
+pub what-leaves-is-written : WhatLeavesIsWritten
+unfolding shows
+what-leaves-is-written ports p buffer place count after e =
+    let o = route ports p (length buffer) in
+    let same = same-outcome o place (sym (ap (λ (x : Seen). x .number) e)) (sym (ap (λ (x : Seen). x .leaves) e)) (sym (ap (λ (x : Seen). x .port) e)) in
+    let left = leaves-iff ports p (length buffer) place (o .written) .0 same .1 in
+    let counted : count ≡ length (o .written) = ap (λ (x : Seen). x .count) e in
+    let stands : after ≡ over (o .written) buffer = ap (λ (x : Seen). x .buffer) e in
+    let taken : take count after ≡ o .written = rw (counted, stands) (take-append-seam (o .written) (drop (length (o .written)) buffer)) in
+    record {
+      whole = counted ∙ ap length left ∙ leaving-length (portAt ports place) p;
+      passes = (place, same ∙ ap (leavesBy place) (sym taken));
+      past = rw (counted, stands) (drop-append-seam (o .written) (drop (length (o .written)) buffer));
+    }

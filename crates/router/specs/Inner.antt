@@ -13,7 +13,7 @@ use Rattle.ports.specs.declared.Choice.{Choice}
 use Rattle.router.specs.Routing.{targetIn, barredAt, routerChecks, asType0, leavingBy, Outcome, leavesBy, refused, byNumber}
 use Rattle.router.specs.Promise.{over}
 
--- a packet that has a type, and a Type 1 where it turns, with a buffer that it fits into
+-- a packet without a fault, of Type 1 where it turns, with a buffer that it fits into
 pub record Ready (p : List ℕ) (turned : Bool) (buffer : List ℕ) : Type 0 where
   pub long : 12 ≤ length p
   pub fits : length p ≤ length buffer

@@ -78,7 +78,7 @@ asType0 (first ∷ rest) = (128 * bit 7 first + type0Code (typeCode first)) ∷ 
 abbrev pub turns : Target → ℕ → Port → Bool
 turns target bus port = isType1 target && eqb bus (port .secondary)
 
--- "otherwise unchanged; one inside the range leaves unchanged": the bytes with which a packet leaves by a port
+-- "one inside the range leaves unchanged", and a trusted request "leaves there unchanged": the bytes with which a packet leaves by a port
 unfoldable pub leavingBy : Port → List ℕ → List ℕ
 leavingBy port p = cond (turns (targetIn p) (busOf p) port) (asType0 p) p
 

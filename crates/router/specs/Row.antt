@@ -12,9 +12,14 @@ pub record Router : Type 0 where
 
 -- a packet leaves a router by some port, as another
 abbrev pub Passes : Router → List ℕ → List ℕ → Type 0
-Passes r p q = (place : ℕ) × (route (r .ports) p (r .size) ≡ leavesBy place q)
+Passes router p left = (place : ℕ) × (route (router .ports) p (router .size) ≡ leavesBy place left)
 
 -- a packet goes through a row of routers, what leaves one into the next, and arrives as another
 pub data Way : List Router → List ℕ → List ℕ → Type 0 where
   arrived : (p : List ℕ) → Way [] p p
-  onward : (r : Router) (rs : List Router) (p q end : List ℕ) → Passes r p q → Way rs q end → Way (r ∷ rs) p end
+  onward : (router : Router) (row : List Router) (p left end : List ℕ) → Passes router p left → Way row left end → Way (router ∷ row) p end
+
+-- a packet goes through a row, and leaves every router as it is
+pub data Unaltered : List Router → List ℕ → Type 0 where
+  arrived : (p : List ℕ) → Unaltered [] p
+  onward : (router : Router) (row : List Router) (p : List ℕ) → Passes router p p → Unaltered row p → Unaltered (router ∷ row) p

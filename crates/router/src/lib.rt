@@ -1,6 +1,7 @@
 // The switch between host and boards: by which port a configuration request leaves, and with which bytes.
-// `route` is the entry. What it promises for every list of ports, packet and buffer is specs/Promise.antt over specs/Routing.antt, in the words of
-// the first change request of document 02.
+// `route` is lent the list of ports. What it promises for every list, packet and buffer is specs/Promise.antt over specs/Routing.antt, in the
+// words of the first change request of document 02. `bus_of` and `decide` are its two halves, before and after the choice of a port, for a
+// caller that makes the choice itself (`ports`) or wants the answer told in another way.
 mod passing; // passing.rt: a request without a fault
 mod routing; // routing.rt: the checks, and the entry
 

@@ -79,7 +79,7 @@ pub(super) fn pass(choice: Choice, request: Request, packet: &[u8], leaving: &mu
         return Verdict::Refused(Refusal::UnknownType);
     }
     match choice {
-        Choice::BadList => Verdict::Unsupported,
+        Choice::BadList => Verdict::Unsupported, // not reached: such a list is refused before
         Choice::At(place, port) => pass_by(place, port, request, packet, leaving),
         Choice::Nowhere => Verdict::Unsupported,
     }

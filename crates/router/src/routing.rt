@@ -1,7 +1,6 @@
 // Routing a packet: the checks in their order, and then the request that it is.
 ghost use mathlib.Core.Path.{_≡_};
-ghost use Rattle.words.specs.Bytes.{byte};
-ghost use Rattle.router.specs.Routing.{isBad};
+ghost use Rattle.router.specs.Routing.{busOf, isBad};
 ghost use Rattle.router.specs.Promise.{Decides, Routes};
 use super::LEAVING;
 use super::Verdict;
@@ -13,7 +12,7 @@ use ports::Port;
 
 // The bus that a packet is for: its byte 8, and 0 where it has none. A packet that short is refused, whatever port has that bus.
 pub fn bus_of(packet: &[u8]) -> u8
-    ensures { λ r. ⌜ r ≡ byte (now (packet .entry)) 8 ⌝ }
+    ensures { λ r. ⌜ r ≡ busOf (now (packet .entry)) ⌝ }
 {
     if packet.len() < 9 {
         return 0;

@@ -35,10 +35,10 @@ hostShown shown =
       buffer = shown .buffer;
     }
 
--- the same for the inner function that is given the choice
-abbrev pub HostDecides : Choice → List ℕ → List ℕ → HostRouted → List ℕ → Type 0
-HostDecides c p buffer r after = hostSees r after ≡ hostShown (shows (decide c p (length buffer)) buffer)
-
 -- the promise of `thawribbon_route`: the ports, the packet and the buffer as lent, the result, and the buffer at its end
 abbrev pub HostRoutes : List Port → List ℕ → List ℕ → HostRouted → List ℕ → Type 0
 HostRoutes ports p buffer r after = hostSees r after ≡ hostShown (shows (route ports p (length buffer)) buffer)
+
+-- the same of the inner function that is given the choice for the packet's bus
+abbrev pub HostDecides : Choice → List ℕ → List ℕ → HostRouted → List ℕ → Type 0
+HostDecides c p buffer r after = hostSees r after ≡ hostShown (shows (decide c p (length buffer)) buffer)

@@ -1,4 +1,5 @@
-// A packet routed through a switch whose ports a host lends.
+// A packet routed through a switch whose ports a host lends. The two halves of `router::route` are called, and not that itself: what is given the choice is
+// covered code, so that only the call over the lent ports is walked by hand.
 ghost use mathlib.Core.Path.{_≡_};
 ghost use Rattle.thawribbon.specs.Routes.{toldVerdict, HostDecides, HostRoutes};
 use super::HostRouted;

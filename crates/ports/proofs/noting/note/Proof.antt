@@ -18,8 +18,8 @@ is-bad-requires c κs = search needs
 together-requires : tie.Need-together-requires
 together-requires c κs = search needs
 
-place-requires : tie.Need-place-requires
-place-requires c κs = search needs
+placing-requires : tie.Need-placing-requires
+placing-requires c κs = search needs
 
 add-t10 : tie.Need-add-t10
 add-t10 c = search needs
@@ -33,7 +33,7 @@ returns-2 c =
         c .before .before .before .before .is-bad .ensures,
         c .before .before .before .together .ensures,
         c .before .before .before .before .before .buses-of .ensures,
-        c .before .before .place .ensures,
+        c .before .before .placing .ensures,
       );
       bytes = search (needs, c .before .before .before .before .before .before .before .before .before .good .1 .0);
     }
@@ -46,6 +46,6 @@ note-spec =
     buses-of-requires
     is-bad-requires
     together-requires
-    place-requires
+    placing-requires
     add-t10
     returns-2)
