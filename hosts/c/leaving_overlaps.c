@@ -137,6 +137,7 @@ static void through_two(void)
     expect(last.bytes[0] == THAWRIBBON_TYPE0_WRITE && between.bytes[0] == THAWRIBBON_TYPE1_WRITE, "another type", 0);
     expect(thawribbon_ports_route(&second, 1, between.bytes, between.length, &between) == THAWRIBBON_NOT_ROUTED, "it overlaps, and leaves", 0);
     expect(between.number == THAWRIBBON_BAD_DESCRIPTION && between.length == 0, "another number or length", 0);
+    expect(strstr(thawribbon_leaving_text(&between), "overlaps the ports or the packet") != NULL, "the text does not name the overlap", 0);
 }
 
 void leaving_overlaps(void)

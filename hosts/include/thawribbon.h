@@ -26,8 +26,8 @@
  * begins with thawribbon_ports_route.
  *
  * Any bytes, of any length, get an answer: every function tests what it is given, and returns. A number in an answer says how it went;
- * the numbers are named below. Each but 0 is a refusal, and a refusal changes no byte of a space, a reply, a room or what leaves, and no
- * capture.
+ * the numbers are named below. Each but 0 is a refusal, and a refusal changes no byte of a space, a reply, a room or the buffer for what
+ * leaves, and no capture. What the helpers write instead, an answer's completion or the bytes of what leaves, is FFh throughout after it.
  *
  * What the caller owes:
  * - A buffer is a pointer and a length, and that many bytes (for a list room, that many numbers; for a list of ports, that many ports) are
@@ -65,19 +65,20 @@ extern "C" {
 #define THAWRIBBON_MUST_USE
 #endif
 
-/* The answer numbers of document 01, and when each is given. */
+/* The answer numbers, and when each is given: by document 01, and at a router by document 02 too. */
 enum thawribbon_number {
     /* served; the completion, or at a router the verdict, may still be Unsupported Request (UR) */
     THAWRIBBON_SERVED = 0,
     /* a space or rule space isn't 4,096 bytes, a captured device is over 31, a function number or A or B is outside its range, a record is
        asked for where none may stand (rule 2.2); at a router, a list has over 32 ports, a port's secondary bus is over its subordinate bus,
-       or two ranges of buses meet */
+       or two ranges of buses meet (rule 10.2); at thawribbon_ports_route, also where what leaves overlaps the ports or the packet */
     THAWRIBBON_BAD_DESCRIPTION = 1,
     /* the reply is under 16 bytes, the list room is under the list's maximum, or the buffer for what leaves is under 20 bytes */
     THAWRIBBON_NO_ROOM = 2,
     /* the packet has fewer than 12 bytes */
     THAWRIBBON_SHORT_PACKET = 3,
-    /* the type code isn't one of the six; at a router, it is Type 0, or trusted and the port does not support TCS routing */
+    /* the type code isn't one of the six (rule 3.2); at a router, also where it is Type 0 (rule 10.5), or where it is trusted and the port
+       does not support TCS routing (rule 10.6) */
     THAWRIBBON_UNKNOWN_TYPE = 4,
     /* the packet length doesn't fit its type and digest bit */
     THAWRIBBON_WRONG_LENGTH = 5,
@@ -298,7 +299,7 @@ THAWRIBBON_MUST_USE thawribbon_alternate thawribbon_dual_bdf(const uint8_t *spac
  * Routes a packet that a switch receives from its host: chooses the port that it leaves by, and writes what leaves there.
  *
  * Takes the list of ports, the packet, and the buffer to write what leaves into; ports_length counts ports, not bytes, and may be 0. The
- * first of these that applies is given:
+ * first of these that applies is given (rule 10.4):
  *   1  the list has over 32 ports, a port's secondary bus is over its subordinate bus, or two ranges meet.
  *   2  the buffer for what leaves is under 20 bytes, also where 12 or 16 would be written.
  *   3  the packet has fewer than 12 bytes.
@@ -491,7 +492,8 @@ THAWRIBBON_MUST_USE static inline const char *thawribbon_text(unsigned number)
     case THAWRIBBON_BAD_DESCRIPTION:
         return "a space or rule space of 4,096 bytes is not lent, a captured device is over 31, "
                "a function number or A or B is outside its range, a record is asked for where none may stand, "
-               "or a list has over 32 ports, a secondary bus over its subordinate bus, or two ranges that meet";
+               "a list has over 32 ports, a secondary bus over its subordinate bus, or two ranges that meet, "
+               "or what leaves overlaps the ports or the packet";
     case THAWRIBBON_NO_ROOM:
         return "the reply is under 16 bytes, the list room is under the list's maximum, "
                "or the buffer for what leaves is under 20 bytes";
@@ -530,7 +532,7 @@ THAWRIBBON_MUST_USE static inline const char *thawribbon_answer_text(const thawr
 typedef enum thawribbon_verdict {
     /* the packet leaves by a port */
     THAWRIBBON_LEAVES = 0,
-    /* Unsupported Request: no port's range has the request's bus, and nothing leaves */
+    /* Unsupported Request: no port's range has the request's bus, and nothing leaves (rule 10.7) */
     THAWRIBBON_NO_PORT = 1,
     /* refused: nothing leaves, and the number says why */
     THAWRIBBON_NOT_ROUTED = 2

@@ -58,6 +58,7 @@ fn choose(store: &Store, count: usize, bus: u8) -> Choice {
     ports::conclude(survey)
 }
 
+// A line holds fewer than 64 ports.
 fn port_at(store: &[u8], place: usize) -> Port {
     let at = spaces::PORTS + 3 * (place % 64);
     Port {

@@ -4,11 +4,11 @@ use mathlib.Core.Bool.{true≢false}
 use mathlib.Core.List.{List}
 use mathlib.Core.Path.{_≡_, refl, sym, ap, _∙_}
 use Rattle.answers.proofs.Unique.{number-tells, number-positive}
-use Rattle.words.specs.Bytes.{byte}
 use Rattle.ports.specs.declared.Port.{Port}
 use Rattle.ports.specs.declared.Choice.{Choice}
 use Rattle.router.specs.declared.Verdict.{Verdict}
 use Rattle.router.specs.declared.Verdict.the-variants.{Leaves, Unsupported, Refused}
+use Rattle.router.specs.Routing.{busOf}
 use Rattle.router.specs.Promise.{Seen, told, Decides, Routes}
 
 -- the statements: whatever meets the promise from the same choice or ports, packet and buffer is the same verdict, with the same buffer
@@ -48,5 +48,5 @@ decide-unique c p buffer r q after after′ e f = same r q after after′ (e ∙
 pub route-unique : RouteUnique
 route-unique ports p buffer r q after after′ e f = same r q after after′ (e ∙ sym f)
 
-pub bus-of-unique : (p : List ℕ) (r q : ℕ) → r ≡ byte p 8 → q ≡ byte p 8 → r ≡ q
+pub bus-of-unique : (p : List ℕ) (r q : ℕ) → r ≡ busOf p → q ≡ busOf p → r ≡ q
 bus-of-unique p r q e f = e ∙ sym f

@@ -3,7 +3,8 @@
 use std::error::Error;
 use std::fmt;
 
-/// Why nothing was done. Each variant is an answer number of document 01, and says when it is given.
+/// Why nothing was done. Each variant is an answer number of document 01, and says when it is given: by that document,
+/// and at a router by document 02 too.
 ///
 /// After a refusal no lent byte and no capture has changed.
 /// A later version can have more of them: document 02 of the project announces some.
@@ -13,15 +14,15 @@ use std::fmt;
 pub enum Refusal {
     /// A space or rule space isn't 4,096 bytes, a captured device is over 31, a function number or A or B is outside its
     /// range, or a record is asked for where none may stand. At a router: a list has over 32 ports, a port's secondary
-    /// bus is over its subordinate bus, or two ranges of buses meet.
+    /// bus is over its subordinate bus, or two ranges of buses meet. The overlap that its text names can only be in C.
     BadDescription = 1,
     /// The reply is under 16 bytes, the list room is under the list's maximum, or the buffer for what leaves is under 20
     /// bytes.
     NoRoom,
     /// The packet has fewer than 12 bytes.
     ShortPacket,
-    /// The type code isn't one of the six. At a router: it is Type 0, or trusted and the port does not support TCS
-    /// routing.
+    /// The type code isn't one of the six. At a router, also where it is Type 0, or where it is trusted and the port does
+    /// not support TCS routing.
     UnknownType,
     /// The packet length doesn't fit its type and digest bit.
     WrongLength,
@@ -78,7 +79,8 @@ impl Refusal {
             Refusal::BadDescription => {
                 "a space or rule space of 4,096 bytes is not lent, a captured device is over 31, \
                  a function number or A or B is outside its range, a record is asked for where none may stand, \
-                 or a list has over 32 ports, a secondary bus over its subordinate bus, or two ranges that meet"
+                 a list has over 32 ports, a secondary bus over its subordinate bus, or two ranges that meet, \
+                 or what leaves overlaps the ports or the packet"
             }
             Refusal::NoRoom => {
                 "the reply is under 16 bytes, the list room is under the list's maximum, \
