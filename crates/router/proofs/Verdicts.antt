@@ -52,7 +52,7 @@ UnsupportedIff =
     (ports : List Port) (p : List ℕ) (size : ℕ)
     → (route ports p size ≡ unsupported) ↔ (Routable ports p size × ((place : ℕ) → HasAt ports (busOf p) place → ⊥))
 
--- "An empty list" has no port for any bus
+-- an empty list is a good one, and has no port for any bus
 abbrev pub EmptyListUnsupported : Type 0
 EmptyListUnsupported =
     (p : List ℕ) (size : ℕ) → 20 ≤ size → packetNumber p ≡ 0 → isType0 (targetIn p) ≡ false → route [] p size ≡ unsupported
