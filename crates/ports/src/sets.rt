@@ -1,29 +1,32 @@
-// Sets of the 256 buses as four words: the range of a port, what two sets have in common, and both together. One word is worked out
-// for any base, and the four are that for 0, 64, 128 and 192.
+// Sets of the 256 buses as four words: the range of a port, what two sets have in common, and both together. One word is worked out,
+// and the four are that for 0, 1, 2 and 3.
 ghost use mathlib.Core.Path.{_≡_};
+ghost use Prim.Native.Nat.{_*_};
 ghost use Rattle.ports.specs.Buses.{below, range, busesOf, shared, together};
 use super::Buses;
 use super::Port;
 
-// Of the 64 buses from `base` on, those below `end`.
-fn below(end: usize, base: usize) -> u64
-    ensures { λ r. ⌜ r ≡ below end base ⌝ }
+// Of the 64 buses of a word, those below `end`: all, none, or as many as `end` is past the word's first. Each is there before it is asked which, so that
+// no branch hangs on a port's buses.
+fn below(end: usize, word: usize) -> u64
+    ensures { λ r. ⌜ r ≡ below end (64 * word) ⌝ }
 {
-    if end <= base {
-        return 0;
-    }
-    let width = end - base;
-    if 63 < width {
+    let whole = end >> 6;
+    let part = (1u64 << (end & 0x3f)) - 1;
+    if word < whole {
         return 0xffff_ffff_ffff_ffff;
     }
-    (1u64 << width) - 1
+    if whole < word {
+        return 0;
+    }
+    part
 }
 
-// Of the 64 buses from `base` on, those from `from` on and below `end`, where `from` is not past `end`.
-fn range(from: usize, end: usize, base: usize) -> u64
-    ensures { λ r. ⌜ r ≡ range from end base ⌝ }
+// Of the 64 buses of a word, those from `from` on and below `end`, where `from` is not past `end`.
+fn range(from: usize, end: usize, word: usize) -> u64
+    ensures { λ r. ⌜ r ≡ range from end (64 * word) ⌝ }
 {
-    below(end, base) ^ below(from, base)
+    below(end, word) ^ below(from, word)
 }
 
 // The buses of a port whose secondary does not exceed its subordinate.
@@ -35,9 +38,9 @@ pub(super) fn buses_of(port: Port) -> Buses
     let end = last + 1;
     Buses {
         first: range(from, end, 0),
-        second: range(from, end, 64),
-        third: range(from, end, 128),
-        fourth: range(from, end, 192),
+        second: range(from, end, 1),
+        third: range(from, end, 2),
+        fourth: range(from, end, 3),
     }
 }
 

@@ -1,12 +1,8 @@
 -- THEOREMS. What the number that a host is told says, both ways, for each exported function that tells one: it is given exactly if its cause is
--- there and that of none before it is, and no other number is given. And a refusal changes nothing that a host holds, nor does a packet that no port of a
--- switch has the bus of. Assumes nothing.
+-- there and that of none before it is, and no other number is given. And a refusal changes nothing that a host holds. Assumes nothing.
 use Prim.Native.Nat.{ℕ}
 use mathlib.Core.List.{List, [], _∷_, List·Memᴰ}
-use mathlib.Core.Bool.{Bool, true, false, cond}
-use mathlib.Core.Logic.{_⊎_}
-use mathlib.Core.Logic._⊎_.{inl, inr}
-use mathlib.Core.Path.{_≡_, refl, sym, ap, _∙_, subst}
+use mathlib.Core.Path.{_≡_, sym, ap, _∙_, subst}
 use lib.ListN.{length}
 use borrow.Author.Tests.{ne-eqb}
 use Rattle.answers.proofs.Checks.{First}
@@ -20,20 +16,13 @@ use Rattle.board.specs.Serving.{serve, serveNumber}
 use Rattle.board.specs.Promise.{shows}
 use Rattle.board.proofs.Refusals.{serve-number-says, outcome-number, refused-shows}
 use Rattle.board.proofs.Refusals as packets
-use Rattle.ports.specs.declared.Port.{Port}
-use Rattle.router.specs.Routing.{route}
-use Rattle.router.specs.Promise.{shows as shown}
-use Rattle.router.proofs.Verdicts.{route-number-says, leaving-number, silent-outcome, silent-buffer}
-use Rattle.router.proofs.Verdicts as routes
 use Rattle.thawribbon.specs.declared.HostAlternate.{HostAlternate}
 use Rattle.thawribbon.specs.declared.HostCapture.{HostCapture}
 use Rattle.thawribbon.specs.declared.HostDescription.{HostDescription}
 use Rattle.thawribbon.specs.declared.HostDvsec.{HostDvsec}
-use Rattle.thawribbon.specs.declared.HostRouted.{HostRouted}
 use Rattle.thawribbon.specs.declared.HostServed.{HostServed}
 use Rattle.thawribbon.specs.declared.HostWalked.{HostWalked}
 use Rattle.thawribbon.specs.Packets.{HostSeen, hostShows, hostBoard, HostServes}
-use Rattle.thawribbon.specs.Routes.{HostSees, HostRoutes}
 use Rattle.thawribbon.specs.Walks.{HostWalks}
 use Rattle.thawribbon.specs.Records.{toldDvsec, toldDual}
 
@@ -67,17 +56,6 @@ abbrev pub HostDualNumber : Type 0
 HostDualNumber =
     (s : List ℕ) (at : ℕ) (r : HostAlternate) → r ≡ toldDual (dualSays s at)
     → First (dualChecks s at) (r .number) × List·Memᴰ (r .number) (0 ∷ 1 ∷ 8 ∷ 9 ∷ 10 ∷ [])
-
--- of `thawribbon_route`: the number, and what stays where nothing leaves, which is so with every number but 0
-abbrev pub HostRouteNumber : Type 0
-HostRouteNumber =
-    (ports : List Port) (p buffer : List ℕ) (r : HostRouted) (after : List ℕ) → HostRoutes ports p buffer r after
-    → routes.NumberSays ports p (length buffer) (r .number)
-
-abbrev pub HostRouteKeeps : Type 0
-HostRouteKeeps =
-    (ports : List Port) (p buffer : List ℕ) (r : HostRouted) (after : List ℕ) → HostRoutes ports p buffer r after
-    → (((r .leaves ≡ 1) × (r .number ≡ 0)) ⊎ ((r .leaves ≡ 0) × (r .length ≡ 0) × (r .port ≡ 0) × (after ≡ buffer)))
 
 module _ (description : HostDescription) (kept : HostCapture) (ordinary ordinaryRules trusted trustedRules p reply : List ℕ) (r : HostServed)
     (o t after : List ℕ) (e : HostServes description kept ordinary ordinaryRules trusted trustedRules p reply r o t after) where
@@ -126,32 +104,3 @@ host-dual-number s at r e =
     let says = dual-number-says s at in
     let n = sym (ap (λ (x : HostAlternate). x .number) e) in
     (subst (First (dualChecks s at)) n (says .0), subst (λ (k : ℕ). List·Memᴰ k (0 ∷ 1 ∷ 8 ∷ 9 ∷ 10 ∷ [])) n (says .1))
-
-module _ (ports : List Port) (p buffer : List ℕ) (r : HostRouted) (after : List ℕ) (e : HostRoutes ports p buffer r after) where
-  routed-number : r .number ≡ route ports p (length buffer) .number
-  unfolding shown
-  routed-number = ap (λ (x : HostSees). x .routed .number) e
-
-  routed-leaves : r .leaves ≡ cond (route ports p (length buffer) .leaves) 1 0
-  unfolding shown
-  routed-leaves = ap (λ (x : HostSees). x .routed .leaves) e
-
-  left-or-kept : (b : Bool) → route ports p (length buffer) .leaves ≡ b
-      → ((r .leaves ≡ 1) × (r .number ≡ 0)) ⊎ ((r .leaves ≡ 0) × (r .length ≡ 0) × (r .port ≡ 0) × (after ≡ buffer))
-  unfolding shown
-  left-or-kept true l = inl (routed-leaves ∙ rw l, routed-number ∙ leaving-number ports p (length buffer) l)
-  left-or-kept false l =
-      let k = silent-outcome ports p (length buffer) l in
-      inr (
-        routed-leaves ∙ rw l,
-        ap (λ (x : HostSees). x .routed .length) e ∙ ap length (k .0),
-        ap (λ (x : HostSees). x .routed .port) e ∙ k .1,
-        ap (λ (x : HostSees). x .buffer) e ∙ silent-buffer ports p buffer l,
-      )
-
-pub host-route-number : HostRouteNumber
-host-route-number ports p buffer r after e =
-    subst (routes.NumberSays ports p (length buffer)) (sym (routed-number ports p buffer r after e)) (route-number-says ports p (length buffer))
-
-pub host-route-keeps : HostRouteKeeps
-host-route-keeps ports p buffer r after e = left-or-kept ports p buffer r after e (route ports p (length buffer) .leaves) refl

@@ -1,21 +1,15 @@
 -- What the private functions tell each other gives what a host is promised. Assumes nothing.
 use Prim.Native.Nat.{ℕ}
 use mathlib.Core.List.{List}
-use mathlib.Core.Path.{_≡_, refl, ap, _∙_}
+use mathlib.Core.Path.{_≡_, ap, _∙_}
 use Rattle.capture.specs.declared.Capture.{Capture}
 use Rattle.board.specs.declared.Description.{Description}
 use Rattle.board.specs.declared.Served.{Served}
 use Rattle.board.specs.Promise.{lent, Serves}
-use Rattle.ports.specs.declared.Choice.{Choice}
-use Rattle.router.specs.declared.Verdict.{Verdict}
-use Rattle.router.specs.declared.Verdict.the-variants.{Leaves, Unsupported, Refused}
-use Rattle.router.specs.Promise.{told, Decides}
 use Rattle.thawribbon.specs.declared.HostDescription.{HostDescription}
 use Rattle.thawribbon.specs.declared.HostCapture.{HostCapture}
 use Rattle.thawribbon.specs.declared.HostServed.{HostServed}
 use Rattle.thawribbon.specs.Packets.{described, keptBy, hostSeen, hostShows, HostServes}
-use Rattle.thawribbon.specs.declared.HostRouted.{HostRouted}
-use Rattle.thawribbon.specs.Routes.{toldVerdict, hostSees, hostShown, HostDecides}
 use Rattle.thawribbon.specs.Inner.{toldServed}
 
 -- a board is served with the description and the capture that the host gave, and what is answered is told
@@ -24,14 +18,3 @@ pub serves-told : (e : Description) (l : Capture) (d : HostDescription) (kept : 
     → r ≡ toldServed kept s → HostServes d kept o or t tr p reply r o′ t′ after
 serves-told e l d kept o or t tr p reply s r o′ t′ after description capture serves told =
     rw (← description, ← capture) (ap (λ (x : HostServed). hostSeen x o′ t′ after) told ∙ ap (hostShows kept) serves)
-
--- a packet is routed by the choice that was made, and the verdict is told
-verdict-seen : (v : Verdict) (after : List ℕ) → hostSees (toldVerdict v) after ≡ hostShown (told v after)
-verdict-seen (Leaves port count) after = refl
-verdict-seen Unsupported after = refl
-verdict-seen (Refused refusal) after = refl
-
-pub decides-told : (c : Choice) (p buffer : List ℕ) (v : Verdict) (r : HostRouted) (after : List ℕ) → Decides c p buffer v after → r ≡ toldVerdict v
-    → HostDecides c p buffer r after
-decides-told c p buffer v r after decides verdict =
-    ap (λ (x : HostRouted). hostSees x after) verdict ∙ verdict-seen v after ∙ ap hostShown decides

@@ -12,13 +12,10 @@ use Rattle.thawribbon.specs.declared.HostCapture.{HostCapture}
 use Rattle.thawribbon.specs.declared.HostDescription.{HostDescription}
 use Rattle.thawribbon.specs.declared.HostDvsec.{HostDvsec}
 use Rattle.thawribbon.specs.declared.HostPart.{HostPart}
-use Rattle.ports.specs.declared.Port.{Port}
-use Rattle.thawribbon.specs.declared.HostRouted.{HostRouted}
 use Rattle.thawribbon.specs.declared.HostServed.{HostServed}
 use Rattle.thawribbon.specs.declared.HostWalked.{HostWalked}
 use Rattle.thawribbon.specs.Packets.{HostSeen, hostSeen, HostServes, keptBy, toldCapture}
 use Rattle.thawribbon.specs.Records.{toldDvsec, toldDual, bodyPart}
-use Rattle.thawribbon.specs.Routes.{HostSees, hostSees, HostRoutes}
 use Rattle.thawribbon.specs.Walks.{HostWalks, toldWalk}
 
 -- the statements
@@ -31,10 +28,6 @@ HostServeUnique =
 abbrev pub HostWalkUnique : Type 0
 HostWalkUnique =
     (kind : Kind) (s room : List ℕ) (r q : HostWalked) (l m : List ℕ) → HostWalks kind s room r l → HostWalks kind s room q m → (r ≡ q) × (l ≡ m)
-
-abbrev pub HostRouteUnique : Type 0
-HostRouteUnique =
-    (ports : List Port) (p buffer : List ℕ) (r q : HostRouted) (l m : List ℕ) → HostRoutes ports p buffer r l → HostRoutes ports p buffer q m → (r ≡ q) × (l ≡ m)
 
 pub host-serve-unique : HostServeUnique
 host-serve-unique d kept ordinary ordinaryRules trusted trustedRules p reply r q o t after o′ t′ after′ e f =
@@ -61,7 +54,3 @@ host-dvsec-body-unique s at r q e f = e ∙ sym f
 
 pub host-dual-bdf-unique : (s : List ℕ) (at : ℕ) (r q : HostAlternate) → r ≡ toldDual (dualSays s at) → q ≡ toldDual (dualSays s at) → r ≡ q
 host-dual-bdf-unique s at r q e f = e ∙ sym f
-
-pub host-route-unique : HostRouteUnique
-host-route-unique ports p buffer r q l m e f =
-    let s : hostSees r l ≡ hostSees q m = e ∙ sym f in (ap (λ (x : HostSees). x .routed) s, ap (λ (x : HostSees). x .buffer) s)

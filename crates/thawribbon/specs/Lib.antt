@@ -1,5 +1,4 @@
 pub mod Packets
 pub mod Walks
 pub mod Records
-pub mod Routes
 pub mod Inner

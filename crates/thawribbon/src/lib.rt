@@ -1,9 +1,8 @@
-// What a host in C or Rust links: the entries of board, lists, records and router, with plain numbers in the place of enums.
+// What a host in C or Rust links: the entries of board, lists and records, with plain numbers in the place of enums.
 // Each function answers for every input and keeps nothing; what it promises is in specs/, over the promises of the entries that it calls.
 // A slice is a pointer and a length. Where the length is 0 the pointer is not followed. No struct has more than 16 bytes.
 mod packets; // packets.rt: a packet served, a reset
 mod reading; // reading.rt: a DVSEC record and its body, a Dual-BDF record
-mod routes; // routes.rt: a packet through a switch
 mod walks; // walks.rt: the three lists
 
 pub use packets::thawribbon_reset;
@@ -11,7 +10,6 @@ pub use packets::thawribbon_serve;
 pub use reading::thawribbon_dual_bdf;
 pub use reading::thawribbon_dvsec;
 pub use reading::thawribbon_dvsec_body;
-pub use routes::thawribbon_route;
 pub use walks::thawribbon_walk_compatible;
 pub use walks::thawribbon_walk_extended;
 pub use walks::thawribbon_walk_trusted;
@@ -66,13 +64,4 @@ pub struct HostAlternate {
     pub number: u8,
     pub function: u8,
     pub device: u8,
-}
-
-// The number; and where `leaves` is 1, the port's place in the list and how many bytes leave by it. All else is 0.
-#[repr(C)]
-pub struct HostRouted {
-    pub length: usize,
-    pub number: u8,
-    pub leaves: u8,
-    pub port: u8,
 }

@@ -1,9 +1,9 @@
--- `thawribbon::routes::decide` meets its contract: `router::decide`'s, told. Assumes nothing.
+-- `backplane::decide` meets its contract: `router::decide`'s, told. Assumes nothing.
 use denote.Ref.{now}
 use borrow.Author.Needs.{needs}
-use Rattle.thawribbon.proofs.Told.{decides-told}
-use Rattle.thawribbon.proofs.routes.decide.Statement.{statement}
-use Rattle.thawribbon.proofs.routes.decide.Tie as tie
+use Rattle.backplane.proofs.Told.{decides-told}
+use Rattle.backplane.proofs.decide.Statement.{statement}
+use Rattle.backplane.proofs.decide.Tie as tie
 
 decide-requires : tie.Need-decide-requires
 decide-requires c κs = search needs

@@ -1,4 +1,4 @@
--- What the exported function for a switch promises: `router::route`'s promise, with a host's numbers in the place of the enum. Assumes nothing.
+-- What the function that is exported for a switch promises: `router::route`'s promise, with a host's numbers in the place of the enum. Assumes nothing.
 use Prim.Native.Nat.{ℕ}
 use mathlib.Core.Bool.{cond}
 use mathlib.Core.List.{List}
@@ -11,7 +11,7 @@ use Rattle.router.specs.declared.Verdict.{Verdict}
 use Rattle.router.specs.declared.Verdict.the-variants.{Leaves, Unsupported, Refused}
 use Rattle.router.specs.Routing.{decide, route}
 use Rattle.router.specs.Promise.{Seen, shows}
-use Rattle.thawribbon.specs.declared.HostRouted.{HostRouted}
+use Rattle.backplane.specs.declared.HostRouted.{HostRouted}
 
 -- a verdict, as a host is told it: `leaves` is 1 where the packet leaves and else 0
 abbrev pub toldVerdict : Verdict → HostRouted

@@ -1,11 +1,22 @@
-// A packet routed through a switch whose ports a host lends. The two halves of `router::route` are called, and not that itself: what is given the choice is
-// covered code, so that only the call over the lent ports is walked by hand.
+// What a host of the switch links, in C or Rust: `router::route`, with plain numbers in the place of the enum. What it promises for every list of
+// ports, packet and buffer is specs/Routes.antt. A slice is a pointer and a length; where the length is 0 the pointer is not followed.
+// It is a crate of its own, so that the board's functions are compiled as they are without it (docs/DECISIONS.md, 41). The two halves of
+// `router::route` are called, and not that itself: what is given the choice is covered code, so that only the call over the lent ports is walked by
+// hand.
 ghost use mathlib.Core.Path.{_≡_};
-ghost use Rattle.thawribbon.specs.Routes.{toldVerdict, HostDecides, HostRoutes};
-use super::HostRouted;
+ghost use Rattle.backplane.specs.Routes.{toldVerdict, HostDecides, HostRoutes};
 use ports::Choice;
 use ports::Port;
 use router::Verdict;
+
+// The number; and where `leaves` is 1, the port's place in the list and how many bytes leave by it. All else is 0.
+#[repr(C)]
+pub struct HostRouted {
+    pub length: usize,
+    pub number: u8,
+    pub leaves: u8,
+    pub port: u8,
+}
 
 fn told_verdict(verdict: Verdict) -> HostRouted
     ensures { λ r. ⌜ r ≡ toldVerdict verdict ⌝ }

@@ -1,7 +1,7 @@
--- `thawribbon::routes::told_verdict` meets its contract: each arm is a case of the verdict. Assumes nothing.
+-- `backplane::told_verdict` meets its contract: each arm is a case of the verdict. Assumes nothing.
 use borrow.Author.Needs.{needs}
-use Rattle.thawribbon.proofs.routes.told_verdict.Statement.{statement}
-use Rattle.thawribbon.proofs.routes.told_verdict.Tie as tie
+use Rattle.backplane.proofs.told_verdict.Statement.{statement}
+use Rattle.backplane.proofs.told_verdict.Tie as tie
 
 enum-known-verdict : tie.Need-enum-known-verdict
 enum-known-verdict c = search needs

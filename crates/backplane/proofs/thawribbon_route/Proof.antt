@@ -45,23 +45,23 @@ use Rattle.ports.proofs.choose as choose
 use Rattle.ports.proofs.choose.Symbol as choose-def
 use Rattle.ports.proofs.choose.Symbol.{name as #choose}
 use Rattle.ports.proofs.choose.Met as choose-thm
-use Rattle.thawribbon.specs.declared.HostRouted.{HostRouted}
-use Rattle.thawribbon.specs.Routes.{HostDecides, HostRoutes}
+use Rattle.backplane.specs.declared.HostRouted.{HostRouted}
+use Rattle.backplane.specs.Routes.{HostDecides, HostRoutes}
 use Rattle.router.proofs.Lent.{Slices, v, w, z, OwnP, OwnK, Tok₀, Tok₁, Tok₁₂, Left₁, Left₂, BusOf, Choose, to-bus, goes-bus, to-choose, goes-choose, args, Given-over, goes-inner}
-use Rattle.thawribbon.proofs.HostRouted as O
-use Rattle.thawribbon.proofs.HostRouted.Laws as O′
+use Rattle.backplane.proofs.HostRouted as O
+use Rattle.backplane.proofs.HostRouted.Laws as O′
 use Rattle.router.proofs.bus_of as bus-of
 use Rattle.router.proofs.bus_of.Symbol as bus-of-def
 use Rattle.router.proofs.bus_of.Symbol.{name as #bus-of}
 use Rattle.router.proofs.bus_of.Met as bus-of-thm
-use Rattle.thawribbon.proofs.routes.decide as inner
-use Rattle.thawribbon.proofs.routes.decide.Symbol as inner-def
-use Rattle.thawribbon.proofs.routes.decide.Symbol.{name as #inner}
-use Rattle.thawribbon.proofs.routes.decide.Met as inner-thm
-use Rattle.thawribbon.proofs.routes.thawribbon_route.Key.{name as #thawribbon-route}
-use Rattle.thawribbon.proofs.routes.thawribbon_route as fn
-use Rattle.thawribbon.proofs.routes.thawribbon_route.Statement as stated
-use Rattle.thawribbon.proofs.routes.thawribbon_route.Code as code
+use Rattle.backplane.proofs.decide as inner
+use Rattle.backplane.proofs.decide.Symbol as inner-def
+use Rattle.backplane.proofs.decide.Symbol.{name as #inner}
+use Rattle.backplane.proofs.decide.Met as inner-thm
+use Rattle.backplane.proofs.thawribbon_route.Key.{name as #thawribbon-route}
+use Rattle.backplane.proofs.thawribbon_route as fn
+use Rattle.backplane.proofs.thawribbon_route.Statement as stated
+use Rattle.backplane.proofs.thawribbon_route.Code as code
 
 abbrev stayed : Stays (fn.ended .signature .params) (fn.ended .kept)
 stayed = (stay-none-slice (0 ∷ []) tt (plain (λ _. P.the-row)) yes, (stay-none-slice (1 ∷ []) tt (plain (λ _. u8)) yes, (gave-slice (2 ∷ []) tt (plain (λ _. u8)), tt)))
@@ -152,4 +152,4 @@ thawribbon-route-spec 𝓤 H 𝓜 𝓖 𝓡 =
     (meets 𝓤 H (𝓖 .A) (givenOf 𝓤 H 𝓜 𝓖) (𝓜 .mem) (𝓡 .run) (tablesOf 𝓤 H 𝓜 (tables 𝓤 H 𝓜 𝓡 code.env))
     (cited 𝓤 H (BusOf 𝓤 H (𝓖 .A) (𝓜 .mem) (𝓡 .run)) 𝓜 𝓡 code.env #bus-of bus-of-def.routine code.calls-router·bus-of (bus-of-thm.met 𝓤 H 𝓜 𝓖 𝓡))
     (cited 𝓤 H (Choose 𝓤 H (𝓖 .A) (𝓜 .mem) (𝓡 .run)) 𝓜 𝓡 code.env #choose choose-def.routine code.calls-ports·choose (choose-thm.met 𝓤 H 𝓜 𝓖 𝓡))
-    (cited 𝓤 H (Inner 𝓤 H (𝓖 .A) (𝓜 .mem) (𝓡 .run)) 𝓜 𝓡 code.env #inner inner-def.routine code.calls-thawribbon·routes·decide (inner-thm.met 𝓤 H 𝓜 𝓖 𝓡)))
+    (cited 𝓤 H (Inner 𝓤 H (𝓖 .A) (𝓜 .mem) (𝓡 .run)) 𝓜 𝓡 code.env #inner inner-def.routine code.calls-backplane·decide (inner-thm.met 𝓤 H 𝓜 𝓖 𝓡)))
