@@ -65,6 +65,12 @@ put "$work/letters.space" 0x040 '\x0b\x03'
 put "$work/letters.space" 0x100 '\xcd\xab\xff\xef'
 put "$work/letters.space" 0xefc '\x00\x00\x3a\x00'
 
+blank "$work/blanked.space"
+put "$work/blanked.space" 0x100 '\x00\x00\x01\x14'
+put "$work/blanked.space" 0x140 '\x23\x00\x01\x18\xc0\x1e\x00\x01\x02\x00'
+put "$work/blanked.space" 0x180 '\x00\x00\x01\x1c'
+put "$work/blanked.space" 0x1c0 '\x0d\x00\x01\x00'
+
 # 48 and 960 headers, each pointing to the next word
 {
     head -c 6 /dev/zero

@@ -1,4 +1,4 @@
-/* The three lists through thawribbon_walk_..: P12, the longest chains, broken ones, every length of space and room; and headers. */
+/* The three lists through thawribbon_walk_..: P12, the longest chains, broken ones, null capabilities, every length of space and room; and headers. */
 #include "first_day.h"
 
 #include "buffers.h"
@@ -55,8 +55,8 @@ static void chain(size_t which, size_t count, uint16_t last)
     }
 }
 
-/* A walk answers this number, and lists `count` offsets from the floor on. The room is lent from room + 1 on. */
-static void walk_gives(size_t which, size_t room_length, uint8_t number, size_t count, size_t at)
+/* A walk answers this number, and lists `count` offsets. The room is lent from room + 1 on. */
+static void walk_lists(size_t which, size_t room_length, uint8_t number, const uint16_t *offsets, size_t count, size_t at)
 {
     thawribbon_walked walked;
     size_t n;
@@ -65,7 +65,7 @@ static void walk_gives(size_t which, size_t room_length, uint8_t number, size_t 
         expected_room[n] = room[n];
     }
     for (n = 0; n < count; n++) {
-        expected_room[1 + n] = (uint16_t)(lists[which].floor + 4 * n);
+        expected_room[1 + n] = offsets[n];
     }
     remember(&space);
     walked = lists[which].walk(lent(&space), space.length, room + 1, room_length);
@@ -73,6 +73,17 @@ static void walk_gives(size_t which, size_t room_length, uint8_t number, size_t 
     expect(walked.count == count, "another count", at);
     expect(memcmp(room, expected_room, sizeof room) == 0, "the room is not as it should be", at);
     expect(is_as_expected(&space), "the space has changed", at);
+}
+
+/* The same of offsets from the floor on, each the next word. */
+static void walk_gives(size_t which, size_t room_length, uint8_t number, size_t count, size_t at)
+{
+    static uint16_t offsets[MOST];
+    size_t n;
+    for (n = 0; n < count; n++) {
+        offsets[n] = (uint16_t)(lists[which].floor + 4 * n);
+    }
+    walk_lists(which, room_length, number, offsets, count, at);
 }
 
 static void p12(void)
@@ -155,6 +166,29 @@ static void walk_empty(void)
     }
 }
 
+/* A word with one bit set at 100h, and a null capability there with headers behind it: neither list is empty. */
+static void walk_null(void)
+{
+    const uint8_t none[4] = {0};
+    unsigned bit;
+    for (bit = 0; bit < 32; bit++) {
+        const uint8_t byte = (uint8_t)(1u << bit % 8);
+        const uint16_t next = (uint16_t)(((uint32_t)1 << bit) >> 20 & 0xFFC), offsets[2] = {0x100, next};
+        const int broken = next != 0 && next <= 0x100;
+        fill(&space, 0x00, THAWRIBBON_SPACE);
+        put(&space, 0x100 + bit / 8, &byte, 1);
+        walk_lists(1, THAWRIBBON_EXTENDED_MAXIMUM, broken ? THAWRIBBON_BROKEN_CHAIN : THAWRIBBON_SERVED, offsets,
+                   broken ? 0 : next == 0 ? 1 : 2, bit);
+    }
+    chain(1, 3, 0);
+    put(&space, 0x100, none, 2);
+    walk_gives(1, THAWRIBBON_EXTENDED_MAXIMUM, THAWRIBBON_SERVED, 3, 0);
+    put(&space, 0x104, none, 2);
+    walk_gives(1, THAWRIBBON_EXTENDED_MAXIMUM, THAWRIBBON_SERVED, 3, 0);
+    put(&space, 0x100, none, 4);
+    walk_gives(1, THAWRIBBON_EXTENDED_MAXIMUM, THAWRIBBON_SERVED, 0, 0);
+}
+
 /* No space, no room, and neither, with pointers that cannot be followed. */
 static void walk_nothing(void)
 {
@@ -235,6 +269,7 @@ void walks(void)
     group("walks, the longest chains", walk_maximum);
     group("walks, broken chains", walk_broken);
     group("walks, empty lists", walk_empty);
+    group("walks, null capabilities", walk_null);
     group("walks, NULL and other pointers with length 0", walk_nothing);
     group("headers, at every offset", walk_headers);
     group("headers, spaces of every length", walk_header_lengths);

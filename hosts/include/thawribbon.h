@@ -53,9 +53,9 @@ extern "C" {
 #endif
 
 /* The version of this header, and of the archive that came with it. */
-#define THAWRIBBON_VERSION "0.3.0"
+#define THAWRIBBON_VERSION "0.4.0"
 #define THAWRIBBON_VERSION_MAJOR 0
-#define THAWRIBBON_VERSION_MINOR 3
+#define THAWRIBBON_VERSION_MINOR 4
 #define THAWRIBBON_VERSION_PATCH 0
 
 /* An answer that is dropped is an answer that nobody looked at: compilers that can, warn. */
@@ -243,7 +243,8 @@ THAWRIBBON_MUST_USE thawribbon_walked thawribbon_walk_compatible(const uint8_t *
                                                                  uint16_t *room, size_t room_length);
 
 /*
- * Walks the extended list of a space: it starts at 100h, and is empty if the ID there is 0000h.
+ * Walks the extended list of a space: it starts at 100h, and is empty if the whole word there is zero. A null capability, with ID 0000h
+ * and a version or a pointer, is listed like any other, at 100h too; whoever reads records passes it by.
  *
  * Takes, gives and leaves unchanged what thawribbon_walk_compatible does, with the numbers 0, 1, 2 and 7 of the same meanings; the room
  * must have THAWRIBBON_EXTENDED_MAXIMUM numbers.

@@ -9,3 +9,4 @@ pub mod Decides
 pub mod Numbers
 pub mod Unique
 pub mod Traps
+pub mod Blanked

@@ -3,10 +3,11 @@
 use Prim.Native.Nat.{ℕ, _+_, _*_, _/_, _<_}
 use mathlib.Core.Bool.{Bool, true, false}
 use mathlib.Core.List.{List}
-use mathlib.Core.Path.{_≡_}
+use mathlib.Core.Path.{_≡_, ap}
 use native.Mathlib.Nat.{mod-lt}
 use native.Mathlib.Omega.{arith}
 use lib.Dec.{eqb, lit<}
+use borrow.Author.Tests.{eq-eqb, ne-eqb}
 use Rattle.words.specs.Bytes.{byte}
 use Rattle.words.specs.Fields.{bit, bits, word}
 use Rattle.lists.specs.declared.Kind.{Kind}
@@ -37,10 +38,19 @@ unless-below : (empty : Bool) (start bound : ℕ) → 0 < bound → start < boun
 unless-below true start bound z h = z
 unless-below false start bound z h = h
 
+-- the extended list's start: 100h, unless the word there is zero
+pub extended-none : (s : List ℕ) → word s 0x100 ≡ 0 → extendedStart s ≡ 0
+unfolding extendedStart
+extended-none s z = ap (λ (empty : Bool). unlessEmpty empty 0x100) (eq-eqb (word s 0x100) 0 z)
+
+pub extended-some : (s : List ℕ) → (word s 0x100 ≡ 0 → ⊥) → extendedStart s ≡ 0x100
+unfolding extendedStart
+extended-some s n = ap (λ (empty : Bool). unlessEmpty empty 0x100) (ne-eqb (word s 0x100) 0 n)
+
 start-below : (kind : Kind) (s : List ℕ) → Bytes s → describe kind .start s < span kind
 unfolding compatibleStart extendedStart trustedStart
 start-below Compatible s b = unless-below (eqb (bit 4 (byte s 0x06)) 0) (byte s 0x34) 0x100 (lit< tt) (b 0x34)
-start-below Extended s b = unless-below (eqb (bits 15 0 (word s 0x100)) 0) 0x100 0x1000 (lit< tt) (lit< tt)
+start-below Extended s b = unless-below (eqb (word s 0x100) 0) 0x100 0x1000 (lit< tt) (lit< tt)
 start-below Trusted s b = mod-lt (word s 0x004 / 1) (lit< tt)
 
 next-below : (kind : Kind) (s : List ℕ) (at : ℕ) → Bytes s → describe kind .next s at < span kind

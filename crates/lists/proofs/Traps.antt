@@ -9,7 +9,7 @@ use lib.Dec.{lit≤}
 use lib.ListN.{length, getD, drop, set, replicate, List·getD-append}
 use borrow.Author.Tests.{eq-eqb, eqb-false}
 use Rattle.words.specs.Bytes.{byte}
-use Rattle.words.specs.Fields.{bit, bits, word}
+use Rattle.words.specs.Fields.{bit, word}
 use Rattle.lists.specs.declared.Kind.{Kind}
 use Rattle.lists.specs.declared.Kind.the-variants.{Compatible, Extended}
 use Rattle.lists.specs.declared.Walked.{Walked}
@@ -17,6 +17,7 @@ use Rattle.lists.specs.Table.{ListRule, describe, compatibleStart, exten
 use Rattle.lists.specs.Chain.{Legal, Legal.ends, Legal.goes, HasChain, NoChain, dropped, first, follows}
 use Rattle.lists.specs.Walks.{WholeSpace, Roomy, Lists, Walks, Walks.misdescribed, Walks.roomless, Walks.broken, Walks.listed, numberGiven}
 use Rattle.lists.proofs.OneChain.{legal-unique}
+use Rattle.lists.proofs.Pointers.{extended-none}
 use Rattle.lists.proofs.Decides.{served-lists, served-iff-legal}
 
 -- the offset that following the pointers n times leads to
@@ -54,7 +55,7 @@ abbrev pub EmptyLists : Type 0
 EmptyLists =
     (s room : List ℕ) (r : Walked) (after : List ℕ) → WholeSpace s
     → (bit 4 (byte s 0x06) ≡ 0 → Roomy Compatible room → Walks Compatible s room r after → (numberGiven r ≡ 0) × (r .count ≡ 0) × (after ≡ room))
-    × (bits 15 0 (word s 0x100) ≡ 0 → Roomy Extended room → Walks Extended s room r after → (numberGiven r ≡ 0) × (r .count ≡ 0) × (after ≡ room))
+    × (word s 0x100 ≡ 0 → Roomy Extended room → Walks Extended s room r after → (numberGiven r ≡ 0) × (r .count ≡ 0) × (after ≡ room))
 
 -- ---- the count
 
@@ -149,8 +150,8 @@ nothing-listed kind s room r after whole roomy l w =
     (z, a .counted, a .listed)
 
 pub empty-lists : EmptyLists
-unfolding first compatibleStart extendedStart
+unfolding first compatibleStart
 empty-lists s room r after whole = (
   (λ e roomy. nothing-listed Compatible s room r after whole roomy (ends (rw (eq-eqb (bit 4 (byte s 0x06)) 0 e)) refl)),
-  (λ e roomy. nothing-listed Extended s room r after whole roomy (ends (rw (eq-eqb (bits 15 0 (word s 0x100)) 0 e)) refl)),
+  (λ e roomy. nothing-listed Extended s room r after whole roomy (ends (ap dropped (extended-none s e)) refl)),
 )

@@ -23,9 +23,9 @@ unlessEmpty empty start = cond empty 0 start
 unfoldable pub compatibleStart : List ℕ → ℕ
 compatibleStart s = unlessEmpty (eqb (bit 4 (byte s 0x06)) 0) (byte s 0x34)
 
--- "100h; empty if the ID there is 0000h", with "ID 15:0"
+-- "100h; empty if the ID there is 0000h", which document 02, 2/13, corrects: "the extended list is empty only if the whole word at 100h is zero"
 unfoldable pub extendedStart : List ℕ → ℕ
-extendedStart s = unlessEmpty (eqb (bits 15 0 (word s 0x100)) 0) 0x100
+extendedStart s = unlessEmpty (eqb (word s 0x100) 0) 0x100
 
 -- "bits 11:0 of the word at 004h"
 unfoldable pub trustedStart : List ℕ → ℕ

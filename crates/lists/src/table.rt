@@ -18,7 +18,7 @@ const COMPATIBLE_FLOOR: u32 = 0x040;
 
 pub const COMPATIBLE_MAXIMUM: usize = 48;
 
-// The extended list: its first header has a fixed place, and an ID of 0 says that there is none.
+// The extended list: its first header has a fixed place, and a word of 0 there says that there is none.
 const EXTENDED_START: usize = 0x100;
 
 const EXTENDED_FLOOR: u32 = 0x100;
@@ -111,7 +111,7 @@ fn extended_start(space: &[u8]) -> u32
     requires { ⌜ WholeSpace (now space) ⌝ }
     ensures { λ r. ⌜ Raw (extendedStart (now (space .entry))) r ⌝ }
 {
-    if words::word(space, EXTENDED_START) & 0xffff == 0 {
+    if words::word(space, EXTENDED_START) == 0 {
         return 0;
     }
     EXTENDED_START as u32

@@ -7,3 +7,4 @@ pub mod Printing
 pub mod Unique
 pub mod Longest
 pub mod Sample
+pub mod Blanked

@@ -11,7 +11,8 @@ use std::fmt;
 pub enum List {
     /// Starts at byte 34h; empty if byte 06h bit 4 is 0.
     Compatible,
-    /// Starts at 100h; empty if the ID there is 0000h.
+    /// Starts at 100h; empty if the whole word there is zero. A null capability, with ID 0000h and a version or a
+    /// pointer, is listed like any other, at 100h too.
     Extended,
     /// Starts where bits 11:0 of the word at 004h say.
     Trusted,
@@ -51,7 +52,7 @@ impl List {
 pub struct Header {
     /// The offset in the space, as [`dvsec`](crate::dvsec) and [`dual_bdf`](crate::dual_bdf) take it.
     pub offset: Offset,
-    /// The ID: a byte in the compatible list, bits 15:0 in the others.
+    /// The ID: a byte in the compatible list, bits 15:0 in the others. It is 0 where a supplier blanked the capability.
     pub id: u16,
     /// The version, bits 19:16; a header of the compatible list has none.
     pub version: Option<u8>,
@@ -165,6 +166,10 @@ pub fn chain(list: List, space: &[u8]) -> Result<Vec<Offset>, Refusal> {
 /// let dvsec = Header { offset: 0x100, id: 0x0023, version: Some(1) };
 /// let other = Header { offset: 0x140, id: 0x000C, version: Some(2) };
 /// assert_eq!(headers(List::Extended, &space)?, [dvsec, other]);
+///
+/// // Blanked, with its ID zeroed and its pointer kept, it is a null capability, and what is behind it is still listed.
+/// space[0x100] = 0x00;
+/// assert_eq!(headers(List::Extended, &space)?, [Header { id: 0x0000, ..dvsec }, other]);
 /// # Ok::<(), Refusal>(())
 /// ```
 ///

@@ -68,11 +68,20 @@ fn a_broken_list_and_another_size_are_refused_as_a_walk_is() {
     }
 }
 
-/// The lines of the listing program's sample, by this crate.
+/// The lines of the listing program's samples, by this crate.
 #[test]
 fn a_header_is_written_as_the_listing_writes_it() {
-    let space = include_bytes!("../../../samples/letters.space");
-    let text = include_str!("../../../samples/letters.text");
+    listed_as(
+        include_bytes!("../../../samples/letters.space"),
+        include_str!("../../../samples/letters.text"),
+    );
+    listed_as(
+        include_bytes!("../../../samples/blanked.space"),
+        include_str!("../../../samples/blanked.text"),
+    );
+}
+
+fn listed_as(space: &[u8], text: &str) {
     let mut lines = Vec::new();
     for (name, list) in [("compatible", List::Compatible), ("extended", List::Extended)] {
         let listed = headers(list, space).expect("a legal chain");

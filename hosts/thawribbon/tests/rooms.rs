@@ -87,13 +87,39 @@ fn lists_without_an_entry() {
         assert_eq!(walked(list, &[0; SPACE], list.maximum() - 1, &[]), 2);
         assert_eq!(chain(list, &[0; SPACE]), Ok(vec![]));
     }
-    // Whatever its pointers hold: byte 06h bit 4 is 0, and the ID at 100h is 0000h.
+    // Whatever else the space holds: byte 06h bit 4 is 0, and the word at 100h is.
     let mut space = vec![0xFF; SPACE];
     space[0x06] = 0xEF;
-    space[0x100..0x102].fill(0);
+    space[0x100..0x104].fill(0);
     assert_eq!(walked(List::Compatible, &space, 48, &[]), 0);
     assert_eq!(walked(List::Extended, &space, 960, &[]), 0);
     assert_eq!(walked(List::Trusted, &space, 1022, &[]), 7);
+}
+
+/// A word that is not zero at 100h is a header, with ID 0000h where only its version or its pointer is there.
+#[test]
+fn any_bit_at_100h_starts_a_chain() {
+    for bit in 0..32 {
+        let mut space = vec![0; SPACE];
+        space[0x100..0x104].copy_from_slice(&(1u32 << bit).to_le_bytes());
+        let next = (1usize << bit) >> 20 & 0xFFC;
+        let (number, offsets) = match next {
+            0 => (0, vec![0x100]),
+            ..=0x100 => (7, vec![]),
+            _ => (0, vec![0x100, next]),
+        };
+        assert_eq!(walked(List::Extended, &space, 960, &offsets), number, "bit {bit}");
+    }
+}
+
+#[test]
+fn a_blanked_capability_loses_nothing_behind_it() {
+    let offsets = [0x100, 0x140, 0x180];
+    for blanked in offsets {
+        let mut space = chained(List::Extended, &offsets, 0);
+        space[blanked..blanked + 2].fill(0);
+        assert_eq!(walked(List::Extended, &space, 960, &offsets), 0, "{blanked:X}h");
+    }
 }
 
 #[test]

@@ -1,0 +1,257 @@
+-- THEOREMS. Request 2/13 of document 02: what it corrects, and what it leaves. By document 01's row as it stood and by the one that holds, the
+-- extended list is answered alike but for a space with ID 0000h and another bit set at 100h. There the answer was an empty list, and is now the
+-- chain that begins at 100h. An ID that is zeroed and a pointer that is kept lose no offset of any list. Assumes nothing.
+use Prim.Native.Nat.{ℕ, _≤_, _<_}
+use mathlib.Core.Bool.{Bool, true, false}
+use mathlib.Core.List.{List, [], _∷_, _++_}
+use mathlib.Core.Logic.{_↔_, _⊎_}
+use mathlib.Core.Logic._⊎_.{inl, inr}
+use mathlib.Core.Path.{_≡_, refl, sym, ap, subst, _∙_}
+use native.Mathlib.Omega.{arith}
+use lib.Dec.{eqb, lit≤}
+use lib.ListN.{length, getD, drop, replicate}
+use borrow.Author.Tests.{eq-eqb, ne-eqb, eqb-true, eqb-false}
+use Rattle.words.specs.Bytes.{put}
+use Rattle.words.specs.Fields.{bits, word}
+use Rattle.lists.specs.declared.Kind.the-variants.{Extended}
+use Rattle.lists.specs.declared.Walked.{Walked}
+use Rattle.lists.specs.Table.{ListRule, describe, extendedStart, extendedNext, unlessEmpty}
+use Rattle.lists.specs.Chain.{Legal, Legal.ends, Legal.goes, HasChain, NoChain, dropped, first, follows}
+use Rattle.lists.specs.Walks.{WholeSpace, Roomy, Refuses, Lists, Walks, Walks.misdescribed, Walks.roomless, Walks.broken, Walks.listed, numberGiven}
+use Rattle.lists.proofs.Decides.{served-lists, served-iff-legal}
+use Rattle.lists.proofs.Pointers.{extended-none, extended-some}
+use Rattle.lists.proofs.Traps.{empty-lists}
+use Rattle.lists.proofs.Unique.{walk-unique}
+
+-- document 01's row as it stood: "100h; empty if the ID there is 0000h"
+abbrev pub uncorrected : ListRule
+uncorrected =
+    record {
+      start = λ s. unlessEmpty (eqb (bits 15 0 (word s 0x100)) 0) 0x100;
+      next = describe Extended .next;
+      floor = describe Extended .floor;
+      maximum = describe Extended .maximum;
+    }
+
+-- what a walk by a rule answers, of a space and a room that have their sizes: the rule's chain, or 7
+pub record AnswersBy (list : ListRule) (s room : List ℕ) (r : Walked) (after : List ℕ) : Type 0 where
+  pub served : (chain : List ℕ) → HasChain list s chain → Lists chain room r after
+  pub refused : NoChain list s → Refuses 7 room r after
+
+-- ID 0000h at 100h, and another bit of the word set
+pub record Blanked (s : List ℕ) : Type 0 where
+  pub noId : bits 15 0 (word s 0x100) ≡ 0
+  pub another : word s 0x100 ≡ 0 → ⊥
+
+-- the statements. What is not blanked at 100h has the chains that it had, and none where it had none
+abbrev pub ElsewhereAlike : Type 0
+ElsewhereAlike = (s : List ℕ) → (Blanked s → ⊥) → (chain : List ℕ) → HasChain uncorrected s chain ↔ HasChain (describe Extended) s chain
+
+-- every space that the old rule listed is listed the same, and one that it refused is refused
+abbrev pub ListedTheSame : Type 0
+ListedTheSame = (s : List ℕ)
+    → ((chain : List ℕ) → (chain ≡ [] → ⊥) → HasChain uncorrected s chain → HasChain (describe Extended) s chain)
+    × (NoChain uncorrected s → NoChain (describe Extended) s)
+
+-- the two answers, of any walk by the old rule and any by the one that holds, differ exactly in a space that is blanked at 100h
+abbrev pub DifferExactly : Type 0
+DifferExactly = (s room : List ℕ) (r q : Walked) (l m : List ℕ) → WholeSpace s → Roomy Extended room → AnswersBy uncorrected s room r l
+    → Walks Extended s room q m → (((r ≡ q) × (l ≡ m) → ⊥) ↔ Blanked s)
+
+-- "At 100h our walker calls that an empty list"
+abbrev pub LostBefore : Type 0
+LostBefore = (s room : List ℕ) (r : Walked) (after : List ℕ) → Blanked s → AnswersBy uncorrected s room r after
+    → (numberGiven r ≡ 0) × (r .count ≡ 0) × (after ≡ room)
+
+-- "Otherwise the structure is listed": any word but zero starts a chain, which goes on where its pointer leads
+abbrev pub StartsAChain : Type 0
+StartsAChain = (s : List ℕ) → (word s 0x100 ≡ 0 → ⊥) → (chain : List ℕ)
+    → HasChain (describe Extended) s chain
+    ↔ ((rest : List ℕ) × Legal (describe Extended) s (follows (describe Extended) s 0x100) rest × (chain ≡ 0x100 ∷ rest))
+
+-- "the extended list is empty only if the whole word at 100h is zero", of any walk
+abbrev pub EmptyExactly : Type 0
+EmptyExactly = (s room : List ℕ) (r : Walked) (after : List ℕ) → WholeSpace s → Roomy Extended room → Walks Extended s room r after
+    → (((numberGiven r ≡ 0) × (r .count ≡ 0)) ↔ (word s 0x100 ≡ 0))
+
+-- wrong walks, whatever else they do: one that answers by the old rule in a space that is blanked at 100h; one that is served and begins behind
+-- a structure without ID
+abbrev pub OldRuleCaught : Type 0
+OldRuleCaught = (s room : List ℕ) (r : Walked) (after : List ℕ) → WholeSpace s → Roomy Extended room → Blanked s
+    → AnswersBy uncorrected s room r after → Walks Extended s room r after → ⊥
+
+abbrev pub NotSkipped : Type 0
+NotSkipped = (s room : List ℕ) (r : Walked) (after : List ℕ) → (word s 0x100 ≡ 0 → ⊥) → Walks Extended s room r after → numberGiven r ≡ 0
+    → (0 < r .count) × (getD after 0 0 ≡ 0x100)
+
+-- "zeroing its ID and keeping its pointer", here or anywhere: two spaces with the same pointers, and no zero at 100h, have the same chains
+abbrev pub BlankingLosesNone : Type 0
+BlankingLosesNone = (s t : List ℕ) → (word s 0x100 ≡ 0 → ⊥) → (word t 0x100 ≡ 0 → ⊥)
+    → ((at : ℕ) → bits 31 20 (word s at) ≡ bits 31 20 (word t at)) → (chain : List ℕ)
+    → HasChain (describe Extended) s chain ↔ HasChain (describe Extended) t chain
+
+-- ---- chains by two rules, in two spaces
+
+carried : {a b : ListRule} {s t : List ℕ} → a .floor ≡ b .floor → ((at : ℕ) → follows a s at ≡ follows b t at) → {p : ℕ} {chain : List ℕ}
+    → Legal a s p chain → Legal b t p chain
+carried f g (ends z e) = ends z e
+carried {b = b} {t = t} f g {p} (goes {rest = rest} n h l e) =
+    goes n (subst (λ (x : ℕ). x ≤ p) f h) (subst (λ (x : ℕ). Legal b t x rest) (g p) (carried f g l)) e
+
+-- from the same first pointer, the same chains
+alike : {a b : ListRule} {s t : List ℕ} → first a s ≡ first b t → a .floor ≡ b .floor → ((at : ℕ) → follows a s at ≡ follows b t at)
+    → (chain : List ℕ) → HasChain a s chain ↔ HasChain b t chain
+alike {a} {b} {s} {t} e f g chain = (
+  (λ l. subst (λ (x : ℕ). Legal b t x chain) e (carried f g l)),
+  (λ l. subst (λ (x : ℕ). Legal a s x chain) (sym e) (carried (sym f) (λ at. sym (g at)) l)),
+)
+
+module _ {list : ListRule} {s : List ℕ} where
+  none-behind-zero : {p : ℕ} {chain : List ℕ} → Legal list s p chain → p ≡ 0 → chain ≡ []
+  none-behind-zero (ends z e) q = e
+  none-behind-zero (goes n h l e) q = absurd (n q)
+
+  begun : {p : ℕ} {chain : List ℕ} → Legal list s p chain → (p ≡ 0 → ⊥)
+      → (rest : List ℕ) × Legal list s (follows list s p) rest × (chain ≡ p ∷ rest)
+  begun (ends z e) n = absurd (n z)
+  begun (goes {rest = rest} n h l e) m = (rest, l, e)
+
+-- ---- where the list starts, by each rule
+
+old-none : (s : List ℕ) → bits 15 0 (word s 0x100) ≡ 0 → first uncorrected s ≡ 0
+unfolding first
+old-none s z = ap (λ (empty : Bool). dropped (unlessEmpty empty 0x100)) (eq-eqb (bits 15 0 (word s 0x100)) 0 z)
+
+old-some : (s : List ℕ) → (bits 15 0 (word s 0x100) ≡ 0 → ⊥) → first uncorrected s ≡ 0x100
+unfolding first
+old-some s n = ap (λ (empty : Bool). dropped (unlessEmpty empty 0x100)) (ne-eqb (bits 15 0 (word s 0x100)) 0 n)
+
+new-none : (s : List ℕ) → word s 0x100 ≡ 0 → first (describe Extended) s ≡ 0
+unfolding first
+new-none s z = ap dropped (extended-none s z)
+
+new-some : (s : List ℕ) → (word s 0x100 ≡ 0 → ⊥) → first (describe Extended) s ≡ 0x100
+unfolding first
+new-some s n = ap dropped (extended-some s n)
+
+blanked-or-not : (s : List ℕ) → Blanked s ⊎ (Blanked s → ⊥)
+blanked-or-not s = go (eqb (bits 15 0 (word s 0x100)) 0) (eqb (word s 0x100) 0) refl refl
+  where
+    go : (i w : Bool) → eqb (bits 15 0 (word s 0x100)) 0 ≡ i → eqb (word s 0x100) 0 ≡ w → Blanked s ⊎ (Blanked s → ⊥)
+    go false w e f = inr (λ b. eqb-false (bits 15 0 (word s 0x100)) 0 e (b .noId))
+    go true true e f = inr (λ b. b .another (eqb-true (word s 0x100) 0 f))
+    go true false e f = inl (record { noId = eqb-true (bits 15 0 (word s 0x100)) 0 e; another = eqb-false (word s 0x100) 0 f })
+
+same-first : (s : List ℕ) → (Blanked s → ⊥) → first uncorrected s ≡ first (describe Extended) s
+same-first s not = go (eqb (word s 0x100) 0) refl
+  where
+    go : (w : Bool) → eqb (word s 0x100) 0 ≡ w → first uncorrected s ≡ first (describe Extended) s
+    go true e = let z = eqb-true (word s 0x100) 0 e in old-none s (ap (bits 15 0) z) ∙ sym (new-none s z)
+    go false e =
+        let n = eqb-false (word s 0x100) 0 e in
+        old-some s (λ z. not (record { noId = z; another = n })) ∙ sym (new-some s n)
+
+-- ---- the theorems
+
+pub elsewhere-alike : ElsewhereAlike
+unfolding follows
+elsewhere-alike s not chain = alike (same-first s not) refl (λ at. refl) chain
+
+nothing-there : (s : List ℕ) → Blanked s → HasChain uncorrected s []
+nothing-there s b = ends (old-none s (b .noId)) refl
+
+pub listed-the-same : ListedTheSame
+listed-the-same s = (
+  (λ chain some l. elsewhere-alike s (λ b. some (none-behind-zero l (old-none s (b .noId)))) chain .0 l),
+  (λ none chain l. none chain (elsewhere-alike s (λ b. none [] (nothing-there s b)) chain .1 l)),
+)
+
+pub lost-before : LostBefore
+lost-before s room r after b a = let x = a .served [] (nothing-there s b) in (x .given, x .counted, x .listed)
+
+pub starts-a-chain : StartsAChain
+starts-a-chain s some chain = (
+  (λ l. begun (subst (λ (p : ℕ). Legal (describe Extended) s p chain) (new-some s some) l) (eqb-false 0x100 0 refl)),
+  (λ t.
+      subst (λ (p : ℕ). Legal (describe Extended) s p chain) (sym (new-some s some))
+      (goes (eqb-false 0x100 0 refl) (lit≤ tt) (t .1) (t .2))),
+)
+
+pub empty-exactly : EmptyExactly
+empty-exactly s room r after whole roomy w = (
+  (λ t. go t (eqb (word s 0x100) 0) refl),
+  (λ z. let x = empty-lists s room r after whole .1 z roomy w in (x .0, x .1)),
+)
+  where
+    go : (numberGiven r ≡ 0) × (r .count ≡ 0) → (b : Bool) → eqb (word s 0x100) 0 ≡ b → word s 0x100 ≡ 0
+    go t true e = eqb-true (word s 0x100) 0 e
+    go t false e =
+        let has = served-iff-legal Extended s room r after w whole roomy .0 .0 (t .0) in
+        let more = starts-a-chain s (eqb-false (word s 0x100) 0 e) (has .0) .0 (has .1) in
+        absurd (omega (arith, t .1, served-lists w (t .0) (has .1) .counted, ap length (more .2)))
+
+-- a walk by the old rule meets the promise where nothing is blanked at 100h
+meets : (s room : List ℕ) (r q : Walked) (l m : List ℕ) → WholeSpace s → Roomy Extended room → (Blanked s → ⊥)
+    → AnswersBy uncorrected s room r l → Walks Extended s room q m → Walks Extended s room r l
+meets s room r q l m whole roomy not a (misdescribed n x) = absurd (n whole)
+meets s room r q l m whole roomy not a (roomless h n x) = absurd (n roomy)
+meets s room r q l m whole roomy not a (broken h k none x) =
+    broken whole roomy none (a .refused (λ chain old. none chain (elsewhere-alike s not chain .0 old)))
+meets s room r q l m whole roomy not a (listed h k chain has x) =
+    listed whole roomy chain has (a .served chain (elsewhere-alike s not chain .1 has))
+
+pub differ-exactly : DifferExactly
+differ-exactly s room r q l m whole roomy a w = ((λ differ. go differ (blanked-or-not s)), apart)
+  where
+    go : ((r ≡ q) × (l ≡ m) → ⊥) → Blanked s ⊎ (Blanked s → ⊥) → Blanked s
+    go differ (inl b) = b
+    go differ (inr not) = absurd (differ (walk-unique Extended s room r q l m (meets s room r q l m whole roomy not a w) w))
+
+    apart : Blanked s → (r ≡ q) × (l ≡ m) → ⊥
+    apart b same =
+        let x = lost-before s room r l b a in
+        b .another (empty-exactly s room q m whole roomy w .0
+        (ap numberGiven (sym (same .0)) ∙ x .0, ap (λ (y : Walked). y .count) (sym (same .0)) ∙ x .1))
+
+pub old-rule-caught : OldRuleCaught
+old-rule-caught s room r after whole roomy b a w = differ-exactly s room r r after after whole roomy a w .1 b (refl, refl)
+
+pub not-skipped : NotSkipped
+not-skipped s room r after some (misdescribed n x) z = absurd (omega (arith, x .given, z))
+not-skipped s room r after some (roomless h n x) z = absurd (omega (arith, x .given, z))
+not-skipped s room r after some (broken h k n x) z = absurd (omega (arith, x .given, z))
+not-skipped s room r after some (listed h k chain has x) z =
+    let t = starts-a-chain s some chain .0 has in
+    (omega (arith, x .counted, ap length (t .2)), ap (λ (a : List ℕ). getD a 0 0) (x .listed ∙ ap (λ (c : List ℕ). c ++ drop (length c) room) (t .2)))
+
+pub blanking-loses-none : BlankingLosesNone
+unfolding follows extendedNext
+blanking-loses-none s t n m g chain = alike (new-some s n ∙ sym (new-some t m)) refl (λ at. ap dropped (g at)) chain
+
+-- ---- an example: P11's record behind a capability that is blanked at 100h, another one blanked behind the record, and a header behind that
+
+unfoldable pub lost : List ℕ
+lost =
+    put
+    (put
+    (put (put (replicate 4096 0) 0x100 (0x00 ∷ 0x00 ∷ 0x01 ∷ 0x14 ∷ [])) 0x140
+    (0x23 ∷ 0x00 ∷ 0x01 ∷ 0x18 ∷ 0xc0 ∷ 0x1e ∷ 0x00 ∷ 0x01 ∷ 0x02 ∷ 0x00 ∷ []))
+    0x180 (0x00 ∷ 0x00 ∷ 0x01 ∷ 0x1c ∷ []))
+    0x1c0 (0x0d ∷ 0x00 ∷ 0x01 ∷ 0x00 ∷ [])
+
+abbrev pub LostAndWhole : Type 0
+LostAndWhole = Blanked lost × HasChain uncorrected lost [] × HasChain (describe Extended) lost (0x100 ∷ 0x140 ∷ 0x180 ∷ 0x1c0 ∷ [])
+
+lost-blanked : Blanked lost
+unfolding lost
+lost-blanked = record { noId = refl; another = eqb-false (word lost 0x100) 0 refl }
+
+pub whole-now : HasChain (describe Extended) lost (0x100 ∷ 0x140 ∷ 0x180 ∷ 0x1c0 ∷ [])
+unfolding lost first follows extendedStart extendedNext
+whole-now =
+    goes (eqb-false 0x100 0 refl) (lit≤ tt)
+    (goes (eqb-false 0x140 0 refl) (lit≤ tt)
+    (goes (eqb-false 0x180 0 refl) (lit≤ tt) (goes (eqb-false 0x1c0 0 refl) (lit≤ tt) (ends refl refl) refl) refl) refl) refl
+
+pub lost-and-whole : LostAndWhole
+lost-and-whole = (lost-blanked, nothing-there lost lost-blanked, whole-now)
