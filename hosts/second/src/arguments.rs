@@ -9,9 +9,9 @@ const DEFAULT_CASES: u64 = 1_900_000;
 pub const HELP: &str = "\
 usage: second [--cases N] [--seed N]
 
-Compares the linked library with an independent model of document 01 and of
-request 1/13 on random packets, lists, records and ports, and counts the classes
-of calls that were reached.
+Compares the linked library with an independent model of document 01 and of the
+requests 1/13 and 2/13 on random packets, lists, records and ports, and counts
+the classes of calls that were reached.
 
   --cases N   how many calls are compared (1900000)
   --seed N    the seed of the run (from the clock); the same seed gives the same run

@@ -1,4 +1,4 @@
-//! Makes the calls: random, but steered so that every rule of document 01 and of request 1/13 is reached, and its edges
+//! Makes the calls: random, but steered so that every rule of document 01 and of the requests is reached, and its edges
 //! often.
 //!
 //! What a call is counted as is decided afterwards, from its inputs and the model's answer.
@@ -9,8 +9,10 @@ mod cursor;
 mod dual_bdf;
 mod dvsec;
 mod fault;
+mod first_word;
 mod lengths;
 mod loops;
+mod nulls;
 mod packet;
 mod packet_fault;
 mod port_fault;

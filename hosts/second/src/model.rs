@@ -1,4 +1,5 @@
-//! Document 01's rules, one module for each of its sections: packets, lists and records. And request 1/13: the router.
+//! Document 01's rules, one module for each of its sections: packets, lists and records, as request 2/13 corrects them.
+//! And request 1/13: the router.
 //!
 //! Every function answers every input. A number other than 0 leaves all that was lent as it was.
 
@@ -21,6 +22,8 @@ mod backplane;
 mod bench_sheet;
 #[cfg(all(test, debug_assertions))]
 mod checked;
+#[cfg(test)]
+mod null;
 #[cfg(test)]
 mod shapes;
 

@@ -4,9 +4,9 @@
 //! the one that waits, there is a loop (Brent). The one that waits is moved up to the runner after 1, 2, 4, 8 .. steps,
 //! so that it stands in the loop at last, and stays for long enough. There are no marks, and there is no bound.
 
+use super::header::Header;
 use crate::generate::Shape;
 use crate::model::List;
-use crate::twin::word;
 
 /// Where a list's pointers lead.
 #[derive(Clone, Copy, Debug, PartialEq, Eq)]
@@ -28,10 +28,6 @@ pub struct Chain {
     pub last: usize,
     /// Which of the bottom bits 1, 2 and 3 a pointer to a header had, by bits 1 to 3.
     pub bottom_bits: u8,
-    /// The low 16 bits of the first header, which are its ID in an extended list.
-    pub first_id: u32,
-    /// Whether those of a later header were 0000h.
-    pub zero_id: bool,
 }
 
 /// The offset that a pointer leads to.
@@ -54,13 +50,25 @@ impl<'lent> Pointers<'lent> {
         (space.len() == 4096).then_some(Self { list, floor, space })
     }
 
-    /// Whether the table calls the list empty, whatever its pointers hold.
+    /// Whether the list is called empty: the compatible one by the table, whatever its pointers hold, and the extended
+    /// one by request 2/13, where nothing is in the word at 100h.
     pub fn are_declared_empty(self) -> bool {
         match self.list {
             List::Compatible => self.space[0x06] >> 4 & 1 == 0,
-            List::Extended => self.space[0x100] == 0 && self.space[0x101] == 0,
+            List::Extended => self.header(0x100).is_zero(),
             List::Trusted => false,
         }
+    }
+
+    /// The header at an offset.
+    pub fn header(self, at: usize) -> Header {
+        Header::read(self.list, self.space, at)
+    }
+
+    /// The headers from the start on, to an end or below the floor, and round a loop for ever.
+    pub fn headers(self) -> impl Iterator<Item = Header> {
+        let header = move |pointer| (offset(pointer) >= self.floor).then(|| self.header(offset(pointer)));
+        std::iter::successors(header(self.start()), move |last| header(last.pointer))
     }
 
     /// The first pointers as they lie in the space, up to so many.
@@ -80,10 +88,7 @@ impl<'lent> Pointers<'lent> {
 
     /// The pointer of the header at an offset.
     fn next(self, at: usize) -> usize {
-        match self.list {
-            List::Compatible => self.space[at + 1].into(),
-            _ => (word(self.space, at) >> 20) as usize,
-        }
+        self.header(at).pointer
     }
 
     /// Follows the pointers to an end, below the floor, or round a loop.
@@ -94,19 +99,13 @@ impl<'lent> Pointers<'lent> {
             start,
             last: start,
             bottom_bits: 0,
-            first_id: 0,
-            zero_id: false,
         };
         let mut at = offset(start);
         let mut headers = 0;
         let (mut waiting, mut since, mut patience) = (at, 0, 1);
         while at >= self.floor {
-            let id = word(self.space, at) & 0xFFFF;
-            if headers == 0 {
-                chain.first_id = id;
-            } else {
+            if headers > 0 {
                 chain.bottom_bits |= 1 << (chain.last % 4);
-                chain.zero_id |= id == 0;
             }
             chain.last = self.next(at);
             at = offset(chain.last);

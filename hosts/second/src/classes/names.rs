@@ -176,11 +176,38 @@ pub const BOTTOM_BITS: &[&str] = &[
 pub const DECLARED_EMPTY: &[&str] = &[
     "compatible, its pointers hold a legal chain",
     "compatible, its pointers hold a broken chain",
-    "extended, its pointers hold a legal chain",
-    "extended, its pointers hold a broken chain",
-    "extended, an ID of 0000h further on",
-    "extended, not empty by the ID's low byte alone",
-    "extended, not empty by the ID's high byte alone",
+    "extended, the zero word at 100h, and something at 104h",
+    "extended, the zero word at 100h and at 104h",
+];
+
+pub const FIRST_NULLS: &[&str] = &[
+    "pointer alone, a chain",
+    "pointer alone, a chain of the maximum",
+    "pointer alone, to itself",
+    "pointer alone, a loop through 100h",
+    "pointer alone, a loop behind it",
+    "pointer alone, below the floor",
+    "pointer alone, below the floor later on",
+    "version and pointer, a chain",
+    "version and pointer, a chain of the maximum",
+    "version and pointer, to itself",
+    "version and pointer, a loop through 100h",
+    "version and pointer, a loop behind it",
+    "version and pointer, below the floor",
+    "version and pointer, below the floor later on",
+];
+
+pub const NULL_FORMS: &[&str] = &[
+    "compatible, a header of 0 at the start",
+    "compatible, a header of 0 further on",
+    "trusted, a header of 0 at the start",
+    "trusted, a header of 0 further on",
+    "extended, a header of 0 further on",
+    "extended, IDs of 0 all along a chain",
+    "extended, an ID of 0 before a loop",
+    "extended, an ID of 0 in a loop",
+    "extended, an ID of 0 where a loop closes",
+    "extended, an ID of 0 that points below the floor",
 ];
 
 pub const DVSEC_CAUSES: &[&str] = &[

@@ -3,7 +3,7 @@
 use super::group::{Classes, Group, Line};
 use super::names::{
     BOTTOM_BITS, CAPTURES, CORRELATION, DECLARED_EMPTY, DUAL_CAUSES, DUAL_IGNORED, DUAL_ORDER, DVSEC_BODIES,
-    DVSEC_CAUSES, KEPT_FORMS, NOISE, RULES, SERVE_CAUSES, SERVE_TOGETHER, UNSUPPORTED,
+    DVSEC_CAUSES, FIRST_NULLS, KEPT_FORMS, NOISE, NULL_FORMS, RULES, SERVE_CAUSES, SERVE_TOGETHER, UNSUPPORTED,
 };
 use super::route_names::{LIST_SHAPES, MEETINGS, MET_BUSES, ROUTE_ANSWERS, ROUTE_CAUSES, ROUTE_ROOMS, ROUTE_TOGETHER};
 use super::turn::TURN_NAMES;
@@ -27,7 +27,7 @@ const fn named(group: Group, title: &'static str, names: &'static [&'static str]
 }
 
 /// All groups. "Alone" means that the call has no other cause for a refusal, or for Unsupported Request.
-pub const TABLE: [Line; 82] = [
+pub const TABLE: [Line; 87] = [
     numbered(Group::ServeAnswers, "serve: answers 0 to 6", 7, 1000),
     named(
         Group::ServeCauses,
@@ -176,8 +176,38 @@ pub const TABLE: [Line; 82] = [
     named(Group::BottomBits, "walks: bottom bits of pointers", BOTTOM_BITS, 10),
     named(
         Group::DeclaredEmpty,
-        "walks: lists that the table calls empty, or nearly",
+        "walks: lists that are called empty",
         DECLARED_EMPTY,
+        100,
+    ),
+    numbered(
+        Group::FirstBits,
+        "walks: extended, each bit of the word at 100h alone",
+        32,
+        10,
+    ),
+    numbered(
+        Group::FirstFields,
+        "walks: null at 100h, every version, pointers of 0 to 3",
+        63,
+        10,
+    ),
+    named(
+        Group::FirstNulls,
+        "walks: null at 100h, where its pointer leads",
+        FIRST_NULLS,
+        10,
+    ),
+    numbered(
+        Group::NullPlaces,
+        "walks: IDs of 0, seven sets of places, each list",
+        21,
+        100,
+    ),
+    named(
+        Group::NullForms,
+        "walks: headers of 0, IDs of 0 where chains break",
+        NULL_FORMS,
         100,
     ),
     numbered(

@@ -7,6 +7,7 @@ use super::chain::{Chain, Ending, Pointers};
 use super::group::Group;
 use super::tally::Tally;
 use super::turn::turn_place;
+use super::{first_word, nulls};
 use crate::generate::{NAMED_LENGTHS, Shape, named_length_place};
 use crate::model::List;
 
@@ -37,9 +38,10 @@ pub fn count(shape: Shape, space: &[u8], room_length: usize, walked: Walked, tal
     }
     count_answer(shape, due, walked, tally);
     if empty {
-        count_empty(shape, &chain, tally);
+        count_empty(shape, pointers, &chain, tally);
     } else {
         count_ending(shape, &chain, tally);
+        count_headers(shape, pointers, chain.ending, tally);
     }
 }
 
@@ -68,16 +70,17 @@ fn count_sizes(shape: Shape, space_length: usize, room_length: usize, tally: &mu
     }
 }
 
-/// Counts a list that the table calls empty, by what its pointers hold.
-fn count_empty(shape: Shape, chain: &Chain, tally: &mut Tally) {
+/// Counts a list that is called empty: the compatible one by what its pointers hold, and the extended one by whether
+/// there is anything where the next header could lie.
+fn count_empty(shape: Shape, pointers: Pointers<'_>, chain: &Chain, tally: &mut Tally) {
     count_chain(shape, 0, tally);
-    let broken = !matches!(chain.ending, Ending::End { .. });
-    let holds_something = match (shape.list, chain.ending) {
-        (List::Extended, Ending::End { count }) => count > 1,
-        _ => chain.start > 3,
-    };
-    let first = if shape.list == List::Extended { 2 } else { 0 };
-    tally.add_if(holds_something, Group::DeclaredEmpty, first + usize::from(broken));
+    if shape.list == List::Extended {
+        let nothing_behind = pointers.header(0x104).is_zero();
+        tally.add(Group::DeclaredEmpty, 2 + usize::from(nothing_behind));
+    } else {
+        let broken = !matches!(chain.ending, Ending::End { .. });
+        tally.add_if(chain.start > 3, Group::DeclaredEmpty, usize::from(broken));
+    }
 }
 
 fn count_ending(shape: Shape, chain: &Chain, tally: &mut Tally) {
@@ -86,7 +89,6 @@ fn count_ending(shape: Shape, chain: &Chain, tally: &mut Tally) {
         Ending::End { count } => {
             count_chain(shape, count, tally);
             count_bottom_bits(shape, chain, count, tally);
-            count_ids(shape, chain, tally);
         }
         Ending::Loop { tail, length } => {
             count_loop(shape, tail, length, tally);
@@ -96,13 +98,12 @@ fn count_ending(shape: Shape, chain: &Chain, tally: &mut Tally) {
     }
 }
 
-/// Counts an extended list by its IDs: such as would make it empty at 100h, and such as hardly keep it from that.
-fn count_ids(shape: Shape, chain: &Chain, tally: &mut Tally) {
+/// Counts a list that is not called empty by what its headers hold.
+fn count_headers(shape: Shape, pointers: Pointers<'_>, ending: Ending, tally: &mut Tally) {
     if shape.list == List::Extended {
-        tally.add_if(chain.zero_id, Group::DeclaredEmpty, 4);
-        tally.add_if(chain.first_id < 0x100, Group::DeclaredEmpty, 5);
-        tally.add_if(chain.first_id % 0x100 == 0, Group::DeclaredEmpty, 6);
+        first_word::count(pointers.header(0x100), ending, shape.maximum, tally);
     }
+    nulls::count(shape, pointers, ending, tally);
 }
 
 /// Counts where the last header points.

@@ -1,7 +1,12 @@
 //! Spaces for walks: one long random chain, and for each call a few edits that are undone after it.
 
+mod nothing;
+
+use std::ops::Range;
+
 use super::board::{LONGEST_SPACE, SPACE_BYTES};
 use super::cursor::Cursor;
+use super::first_word::FirstWords;
 use super::loops::draw_loop;
 use super::random::Random;
 use super::shape::Shape;
@@ -21,6 +26,7 @@ pub struct Scene {
     /// The words that the present call changed, with what they held.
     edits: Vec<(usize, u32)>,
     chain_lengths: Cursor,
+    first_words: FirstWords,
     calls_left: usize,
 }
 
@@ -37,11 +43,13 @@ impl Scene {
             order,
             edits: Vec::new(),
             chain_lengths: Cursor::new(shape.maximum + 1),
+            first_words: FirstWords::new(),
             calls_left: 0,
         }
     }
 
-    /// Makes the space of one call. Where its sizes are right, the lengths of chains have their turn.
+    /// Makes the space of one call. Where its sizes are right, the lengths of chains and the words at 100h have their
+    /// turn.
     pub fn prepare(&mut self, in_turn: bool, random: &mut Random) {
         self.space.lend(SPACE_BYTES);
         if self.calls_left == 0 {
@@ -51,11 +59,14 @@ impl Scene {
         if self.noise {
             return;
         }
-        match random.weighted(&[45, 27, 20, 8]) {
+        let headers = match random.weighted(&[45, 27, 20, 8]) {
             0 => self.chain_of_some_length(in_turn, random),
             1 => self.make_loop(random),
             2 => self.go_below(random),
-            _ => self.declare_empty(random),
+            _ => return self.come_near_to_nothing(in_turn, random),
+        };
+        if random.percent(45) {
+            self.blank(&headers, random);
         }
     }
 
@@ -79,10 +90,11 @@ impl Scene {
         }
         let movable = usize::from(self.shape.list == List::Extended);
         random.shuffle(&mut self.order[movable..]);
+        let nulls = random.pick(&[0, 0, 3, 12]);
         for place in 0..self.order.len() {
             let next = self.order.get(place + 1).copied().unwrap_or(0);
-            if random.percent(12) {
-                self.edit(usize::from(self.order[place]), 0xFFFF, 0);
+            if random.percent(nulls) {
+                self.drop_id(place, random);
             }
             self.point(place, next, random);
         }
@@ -90,14 +102,11 @@ impl Scene {
         self.edits.clear();
     }
 
-    /// A list that the table does not call empty.
+    /// A list that is not called empty, whatever pointer its first header gets.
     fn declare_present(&mut self, random: &mut Random) {
         match self.shape.list {
             List::Compatible => self.edit(0x004, 1 << 20, 1 << 20),
-            List::Extended => {
-                let any = random.within(1, 0xFFFF) as u32;
-                self.edit(0x100, 0xFFFF, random.pick(&[0x0001, 0x0080, 0x0100, 0x8000, any, any]));
-            }
+            List::Extended => self.edit(0x100, 0xFFFF, random.within(1, 0xFFFF) as u32),
             List::Trusted => {}
         }
         let first = self.order[0];
@@ -105,40 +114,46 @@ impl Scene {
     }
 
     /// A legal chain: its length is the next in turn, a short one, or one of the edges.
-    fn chain_of_some_length(&mut self, in_turn: bool, random: &mut Random) {
+    ///
+    /// This and the three below answer the places of the headers that a walk meets.
+    fn chain_of_some_length(&mut self, in_turn: bool, random: &mut Random) -> Range<usize> {
         let maximum = self.shape.maximum;
         let length = match random.weighted(&[60, 28, 12]) {
             0 => self.chain_lengths.draw(in_turn, random),
             1 => random.below(24),
             _ => random.pick(&[0, 1, maximum - 1, maximum]),
         };
-        self.chain(length, random);
+        self.chain(length, random)
     }
 
     /// A legal chain: a part of the long one.
-    fn chain(&mut self, length: usize, random: &mut Random) {
+    fn chain(&mut self, length: usize, random: &mut Random) -> Range<usize> {
         if length == 0 {
             match self.shape.list {
-                List::Extended => self.edit(0x100, 0xFFFF, 0),
+                List::Extended => self.clear_first_word(random),
                 _ => self.point_start(0, random),
             }
-            return;
+            return 0..0;
         }
-        let last = self.begin(length, random) + length - 1;
-        if last + 1 < self.order.len() {
-            self.point(last, 0, random);
+        let first = self.begin(length, random);
+        let end = first + length;
+        if end < self.order.len() {
+            self.point(end - 1, 0, random);
         }
+        first..end
     }
 
     /// A chain that comes back to itself: after a tail, so many offsets over and over.
-    fn make_loop(&mut self, random: &mut Random) {
+    fn make_loop(&mut self, random: &mut Random) -> Range<usize> {
         let (tail, length) = draw_loop(self.shape.maximum, random);
         let first = self.begin(tail + length, random);
-        self.point(first + tail + length - 1, self.order[first + tail], random);
+        let end = first + tail + length;
+        self.point(end - 1, self.order[first + tail], random);
+        first..end
     }
 
     /// A chain that leads below the floor, at once or after some steps.
-    fn go_below(&mut self, random: &mut Random) {
+    fn go_below(&mut self, random: &mut Random) -> Range<usize> {
         let (floor, maximum) = (self.shape.floor, self.shape.maximum);
         let below = if random.percent(50) {
             floor - 4
@@ -156,24 +171,12 @@ impl Scene {
         };
         if steps == 0 && self.shape.list != List::Extended {
             self.point_start(below, random);
-        } else {
-            let first = self.begin(steps.max(1), random);
-            self.point(first + steps.max(1) - 1, below, random);
+            return 0..0;
         }
-    }
-
-    /// A list that the table calls empty while its pointers hold a chain or a loop. The trusted list has no such mark.
-    fn declare_empty(&mut self, random: &mut Random) {
-        if random.percent(50) {
-            self.make_loop(random);
-        } else {
-            self.chain(random.within(2, 40), random);
-        }
-        match self.shape.list {
-            List::Compatible => self.edit(0x004, 1 << 20, 0),
-            List::Extended => self.edit(0x100, 0xFFFF, 0),
-            List::Trusted => {}
-        }
+        let first = self.begin(steps.max(1), random);
+        let end = first + steps.max(1);
+        self.point(end - 1, below, random);
+        first..end
     }
 
     /// Starts the list at a place of the order from which so many offsets follow, and answers that place.

@@ -201,7 +201,8 @@ fn p12_header_that_points_to_itself() {
     assert_eq!(room, [0xAAAA; 960]);
 }
 
-/// Sets a list's start where it is the list's own to set, and makes it count as not empty.
+/// Sets a list's start where it is the list's own to set, and makes it count as not empty: the extended list by an ID,
+/// so that the word at 100h is not zero whatever pointer it gets.
 pub(super) fn set_start(list: List, space: &mut [u8; 4096], start: u16) {
     match list {
         List::Compatible => (space[0x06], space[0x34]) = (0x10, start as u8),

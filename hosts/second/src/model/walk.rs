@@ -104,9 +104,10 @@ fn compatible_next(space: &Space, at: usize) -> usize {
     usize::from(space[(at & 0xFC) + 1])
 }
 
-/// "100h; empty if the ID there is 0000h"
+/// Document 01: "100h; empty if the ID there is 0000h". Replaced by document 02, 2/13: "the extended list is empty only
+/// if the whole word at 100h is zero. Otherwise the structure is listed with ID 0000h."
 fn extended_start(space: &Space) -> usize {
-    if space[0x100..0x102] == [0, 0] { 0 } else { 0x100 }
+    if word(space, 0x100) == 0 { 0 } else { 0x100 }
 }
 
 /// "bits 11:0 of the word at 004h"

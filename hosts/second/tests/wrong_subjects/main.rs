@@ -4,7 +4,9 @@
 
 mod accessing;
 mod answering;
+mod blanking;
 mod capturing;
+mod emptying;
 mod harness;
 mod judging;
 mod leaving;

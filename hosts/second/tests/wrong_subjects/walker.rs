@@ -12,6 +12,9 @@ pub const LISTS: [(List, &str, usize, usize); 3] = [
     (List::Trusted, "walk_trusted", 0x008, 1022),
 ];
 
+/// The extended list's place among them.
+pub const EXTENDED: usize = 1;
+
 pub const BROKEN: Walked = Walked { count: 0, number: 7 };
 
 /// Which of the offsets met are remembered, to notice one that comes again.
@@ -72,11 +75,11 @@ pub fn right(place: usize) -> Habits {
     }
 }
 
-/// Where a list starts, as it stands in the space, and whether the table calls it empty.
+/// Where a list starts, as it stands in the space, and whether it is called empty.
 pub fn start(list: List, space: &[u8]) -> (usize, bool) {
     match list {
         List::Compatible => (space[0x34].into(), space[6] & 0x10 == 0),
-        List::Extended => (0x100, word(space, 0x100) & 0xFFFF == 0),
+        List::Extended => (0x100, word(space, 0x100) == 0),
         List::Trusted => (word(space, 4) as usize & 0xFFF, false),
     }
 }
@@ -87,6 +90,18 @@ pub fn next(list: List, space: &[u8], at: usize) -> usize {
         List::Compatible => space[at + 1].into(),
         _ => (word(space, at) >> 20) as usize,
     }
+}
+
+/// Whether the ID of a header is 0.
+pub fn is_null(place: usize, space: &[u8], at: u16) -> bool {
+    let id = if place == 0 { 0xFF } else { 0xFFFF };
+    word(space, at.into()) & id == 0
+}
+
+/// Whether all of a header is 0: the two bytes of the compatible list's, and the word of another list's.
+pub fn is_zero(place: usize, space: &[u8], at: u16) -> bool {
+    let header = if place == 0 { 0xFFFF } else { u32::MAX };
+    word(space, at.into()) & header == 0
 }
 
 /// Writes offsets to the start of the room.
@@ -118,7 +133,7 @@ impl Habits {
     }
 
     /// Walks a list of a whole space with room enough.
-    fn walk(&self, list: List, space: &[u8], room: &mut [u16]) -> Walked {
+    pub fn walk(&self, list: List, space: &[u8], room: &mut [u16]) -> Walked {
         let mask = if self.drops_bits { 0xFFC } else { 0xFFF };
         let (start, empty) = start(list, space);
         let mut at = if empty && self.looks_for_empty { 0 } else { start & mask };

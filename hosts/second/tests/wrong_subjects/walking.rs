@@ -3,7 +3,7 @@
 use thawribbon::raw::Walked;
 
 use crate::harness::{Wrong, expect_caught, right_walk};
-use crate::walker::{Habits, LISTS, Verdict, expect_each_caught, one_walked_by};
+use crate::walker::{Habits, LISTS, Verdict, expect_each_caught};
 
 #[test]
 fn a_count_other_than_the_chains_length() {
@@ -66,20 +66,6 @@ fn the_mark_of_an_empty_list_not_looked_at() {
         looks_for_empty: false,
         ..habits
     });
-}
-
-/// The extended list is empty where one byte of the ID at 100h is 0.
-#[test]
-fn the_id_at_100h_tested_by_one_of_its_bytes() {
-    for byte in [0x100, 0x101] {
-        let subject = one_walked_by(1, move |list, space, room| {
-            let mut copy = space.to_vec();
-            let kept = copy[byte];
-            copy[0x100..0x102].fill(kept);
-            right_walk(list, &copy, room)
-        });
-        expect_caught(subject, "walk_extended");
-    }
 }
 
 #[test]
