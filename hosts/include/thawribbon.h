@@ -1,8 +1,9 @@
 /*
  * thawribbon.h: a board's answers to configuration packets, the three capability lists, two records, and a switch's router.
  *
- * Document 01 of the project fixes what every function answers, and for the router document 02; their words are used here. The rules
- * stand in docs/RULES.md of the project, each with its number: "rule 4.1" is one of them. Numbers ending in h are hexadecimal.
+ * Document 01 of the project fixes what every function answers, with what document 02 corrects, and for the router document 02; their
+ * words are used here. The rules that hold stand in docs/RULES.md of the project, each with its number: "rule 4.1" is one of them. Numbers
+ * ending in h are hexadecimal.
  *
  * The packet that has to land is a trusted write. A board takes it only when a Type 0 write has told it its bus and device number. Done is
  * not landed: a write that is done has changed only the bits that the space's write rules let it change. So read it back, and compare:
@@ -243,8 +244,9 @@ THAWRIBBON_MUST_USE thawribbon_walked thawribbon_walk_compatible(const uint8_t *
                                                                  uint16_t *room, size_t room_length);
 
 /*
- * Walks the extended list of a space: it starts at 100h, and is empty if the whole word there is zero. A null capability, with ID 0000h
- * and a version or a pointer, is listed like any other, at 100h too; whoever reads records passes it by.
+ * Walks the extended list of a space: it starts at 100h, and is empty if the whole word there is zero. Otherwise 100h is listed, also
+ * where its ID is 0000h: a capability that a supplier blanked is still in the list, and so is what is behind it. A record asked for there
+ * is refused with 8. Behind 100h a header is listed whatever it holds.
  *
  * Takes, gives and leaves unchanged what thawribbon_walk_compatible does, with the numbers 0, 1, 2 and 7 of the same meanings; the room
  * must have THAWRIBBON_EXTENDED_MAXIMUM numbers.
@@ -608,7 +610,7 @@ THAWRIBBON_MUST_USE static inline const char *thawribbon_leaving_text(const thaw
 /* A header of a list: where it is, and what it says it is. */
 typedef struct thawribbon_header {
     uint16_t offset;
-    uint16_t id;     /* a byte in the compatible list, bits 15:0 in the others */
+    uint16_t id;     /* a byte in the compatible list, bits 15:0 in the others; 0 where a supplier blanked the capability */
     uint8_t version; /* bits 19:16; 0 in the compatible list, whose headers have none */
 } thawribbon_header;
 
@@ -616,7 +618,7 @@ typedef struct thawribbon_header {
  * The header of the extended list at an offset that thawribbon_walk_extended listed.
  *
  * Takes the space and the offset, which may be any number. Where the space isn't 4,096 bytes, or the offset is over FFCh, every member is
- * 0. The space is only read. The next two do the same for the other two lists.
+ * 0, the offset too, which no list has. The space is only read. The next two do the same for the other two lists.
  */
 THAWRIBBON_MUST_USE static inline thawribbon_header thawribbon_header_extended(const uint8_t *space, size_t space_length, size_t at)
 {

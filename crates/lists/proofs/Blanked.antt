@@ -1,7 +1,7 @@
 -- THEOREMS. Request 2/13 of document 02: what it corrects, and what it leaves. By document 01's row as it stood and by the one that holds, the
 -- extended list is answered alike but for a space with ID 0000h and another bit set at 100h. There the answer was an empty list, and is now the
--- chain that begins at 100h. An ID that is zeroed and a pointer that is kept lose no offset of any list. Assumes nothing.
-use Prim.Native.Nat.{ℕ, _≤_, _<_}
+-- chain that begins at 100h, or 7 where there is none. Assumes nothing.
+use Prim.Native.Nat.{ℕ, _%_, _≤_, _<_}
 use mathlib.Core.Bool.{Bool, true, false}
 use mathlib.Core.List.{List, [], _∷_, _++_}
 use mathlib.Core.Logic.{_↔_, _⊎_}
@@ -11,6 +11,7 @@ use native.Mathlib.Omega.{arith}
 use lib.Dec.{eqb, lit≤}
 use lib.ListN.{length, getD, drop, replicate}
 use borrow.Author.Tests.{eq-eqb, ne-eqb, eqb-true, eqb-false}
+use Rattle.answers.specs.declared.Answer.the-variants.{Done}
 use Rattle.words.specs.Bytes.{put}
 use Rattle.words.specs.Fields.{bits, word}
 use Rattle.lists.specs.declared.Kind.the-variants.{Extended}
@@ -20,7 +21,7 @@ use Rattle.lists.specs.Chain.{Legal, Legal.ends, Legal.goes, HasChain, N
 use Rattle.lists.specs.Walks.{WholeSpace, Roomy, Refuses, Lists, Walks, Walks.misdescribed, Walks.roomless, Walks.broken, Walks.listed, numberGiven}
 use Rattle.lists.proofs.Decides.{served-lists, served-iff-legal}
 use Rattle.lists.proofs.Pointers.{extended-none, extended-some}
-use Rattle.lists.proofs.Traps.{empty-lists}
+use Rattle.lists.proofs.Traps.{empty-lists, first-aligned, follows-aligned}
 use Rattle.lists.proofs.Unique.{walk-unique}
 
 -- document 01's row as it stood: "100h; empty if the ID there is 0000h"
@@ -74,36 +75,34 @@ abbrev pub EmptyExactly : Type 0
 EmptyExactly = (s room : List ℕ) (r : Walked) (after : List ℕ) → WholeSpace s → Roomy Extended room → Walks Extended s room r after
     → (((numberGiven r ≡ 0) × (r .count ≡ 0)) ↔ (word s 0x100 ≡ 0))
 
--- wrong walks, whatever else they do: one that answers by the old rule in a space that is blanked at 100h; one that is served and begins behind
--- a structure without ID
+-- of any walk where the word at 100h is not zero: 100h is listed first, or there is no chain, and the answer is 7
+abbrev pub ListedOrBroken : Type 0
+ListedOrBroken = (s room : List ℕ) (r : Walked) (after : List ℕ) → WholeSpace s → Roomy Extended room → (word s 0x100 ≡ 0 → ⊥)
+    → Walks Extended s room r after → ((numberGiven r ≡ 0) × (0 < r .count) × (getD after 0 0 ≡ 0x100)) ⊎ Refuses 7 room r after
+
+-- a walk by the old rule, whatever else it does, is wrong wherever a space is blanked at 100h; and there is such a walk, of any such space
 abbrev pub OldRuleCaught : Type 0
 OldRuleCaught = (s room : List ℕ) (r : Walked) (after : List ℕ) → WholeSpace s → Roomy Extended room → Blanked s
     → AnswersBy uncorrected s room r after → Walks Extended s room r after → ⊥
 
-abbrev pub NotSkipped : Type 0
-NotSkipped = (s room : List ℕ) (r : Walked) (after : List ℕ) → (word s 0x100 ≡ 0 → ⊥) → Walks Extended s room r after → numberGiven r ≡ 0
-    → (0 < r .count) × (getD after 0 0 ≡ 0x100)
-
--- "zeroing its ID and keeping its pointer", here or anywhere: two spaces with the same pointers, and no zero at 100h, have the same chains
-abbrev pub BlankingLosesNone : Type 0
-BlankingLosesNone = (s t : List ℕ) → (word s 0x100 ≡ 0 → ⊥) → (word t 0x100 ≡ 0 → ⊥)
-    → ((at : ℕ) → bits 31 20 (word s at) ≡ bits 31 20 (word t at)) → (chain : List ℕ)
-    → HasChain (describe Extended) s chain ↔ HasChain (describe Extended) t chain
+abbrev pub OldRuleAnswers : Type 0
+OldRuleAnswers = (s room : List ℕ) → Blanked s → AnswersBy uncorrected s room (record { answer = Done; count = 0 }) room
 
 -- ---- chains by two rules, in two spaces
 
-carried : {a b : ListRule} {s t : List ℕ} → a .floor ≡ b .floor → ((at : ℕ) → follows a s at ≡ follows b t at) → {p : ℕ} {chain : List ℕ}
-    → Legal a s p chain → Legal b t p chain
-carried f g (ends z e) = ends z e
-carried {b = b} {t = t} f g {p} (goes {rest = rest} n h l e) =
-    goes n (subst (λ (x : ℕ). x ≤ p) f h) (subst (λ (x : ℕ). Legal b t x rest) (g p) (carried f g l)) e
+carried : {a b : ListRule} {s t : List ℕ} → a .floor ≡ b .floor → ((at : ℕ) → at % 4 ≡ 0 → follows a s at ≡ follows b t at) → {p : ℕ}
+    → p % 4 ≡ 0 → {chain : List ℕ} → Legal a s p chain → Legal b t p chain
+carried f g aligned (ends z e) = ends z e
+carried {a} {b} {s} {t} f g {p} aligned (goes {rest = rest} n h l e) =
+    goes n (subst (λ (x : ℕ). x ≤ p) f h)
+    (subst (λ (x : ℕ). Legal b t x rest) (g p aligned) (carried f g (follows-aligned a s p) l)) e
 
--- from the same first pointer, the same chains
-alike : {a b : ListRule} {s t : List ℕ} → first a s ≡ first b t → a .floor ≡ b .floor → ((at : ℕ) → follows a s at ≡ follows b t at)
-    → (chain : List ℕ) → HasChain a s chain ↔ HasChain b t chain
+-- from the same first pointer, with the same pointers in the words, the same chains
+pub alike : {a b : ListRule} {s t : List ℕ} → first a s ≡ first b t → a .floor ≡ b .floor
+    → ((at : ℕ) → at % 4 ≡ 0 → follows a s at ≡ follows b t at) → (chain : List ℕ) → HasChain a s chain ↔ HasChain b t chain
 alike {a} {b} {s} {t} e f g chain = (
-  (λ l. subst (λ (x : ℕ). Legal b t x chain) e (carried f g l)),
-  (λ l. subst (λ (x : ℕ). Legal a s x chain) (sym e) (carried (sym f) (λ at. sym (g at)) l)),
+  (λ l. subst (λ (x : ℕ). Legal b t x chain) e (carried f g (first-aligned a s) l)),
+  (λ l. subst (λ (x : ℕ). Legal a s x chain) (sym e) (carried (sym f) (λ at m. sym (g at m)) (first-aligned b t) l)),
 )
 
 module _ {list : ListRule} {s : List ℕ} where
@@ -130,7 +129,7 @@ new-none : (s : List ℕ) → word s 0x100 ≡ 0 → first (describe Extended) s
 unfolding first
 new-none s z = ap dropped (extended-none s z)
 
-new-some : (s : List ℕ) → (word s 0x100 ≡ 0 → ⊥) → first (describe Extended) s ≡ 0x100
+pub new-some : (s : List ℕ) → (word s 0x100 ≡ 0 → ⊥) → first (describe Extended) s ≡ 0x100
 unfolding first
 new-some s n = ap dropped (extended-some s n)
 
@@ -155,7 +154,7 @@ same-first s not = go (eqb (word s 0x100) 0) refl
 
 pub elsewhere-alike : ElsewhereAlike
 unfolding follows
-elsewhere-alike s not chain = alike (same-first s not) refl (λ at. refl) chain
+elsewhere-alike s not chain = alike (same-first s not) refl (λ at aligned. refl) chain
 
 nothing-there : (s : List ℕ) → Blanked s → HasChain uncorrected s []
 nothing-there s b = ends (old-none s (b .noId)) refl
@@ -216,17 +215,25 @@ differ-exactly s room r q l m whole roomy a w = ((λ differ. go differ (blanked-
 pub old-rule-caught : OldRuleCaught
 old-rule-caught s room r after whole roomy b a w = differ-exactly s room r r after after whole roomy a w .1 b (refl, refl)
 
-pub not-skipped : NotSkipped
-not-skipped s room r after some (misdescribed n x) z = absurd (omega (arith, x .given, z))
-not-skipped s room r after some (roomless h n x) z = absurd (omega (arith, x .given, z))
-not-skipped s room r after some (broken h k n x) z = absurd (omega (arith, x .given, z))
-not-skipped s room r after some (listed h k chain has x) z =
-    let t = starts-a-chain s some chain .0 has in
-    (omega (arith, x .counted, ap length (t .2)), ap (λ (a : List ℕ). getD a 0 0) (x .listed ∙ ap (λ (c : List ℕ). c ++ drop (length c) room) (t .2)))
+pub old-rule-answers : OldRuleAnswers
+old-rule-answers s room b = record { served = nothing-listed; refused = λ none. absurd (none [] (nothing-there s b)) }
+  where
+    nothing-listed : (chain : List ℕ) → HasChain uncorrected s chain → Lists chain room (record { answer = Done; count = 0 }) room
+    nothing-listed chain l =
+        let e = none-behind-zero l (old-none s (b .noId)) in
+        record { given = refl; counted = sym (ap length e); listed = sym (ap (λ (c : List ℕ). c ++ drop (length c) room) e) }
 
-pub blanking-loses-none : BlankingLosesNone
-unfolding follows extendedNext
-blanking-loses-none s t n m g chain = alike (new-some s n ∙ sym (new-some t m)) refl (λ at. ap dropped (g at)) chain
+pub listed-or-broken : ListedOrBroken
+listed-or-broken s room r after whole roomy some (misdescribed n x) = absurd (n whole)
+listed-or-broken s room r after whole roomy some (roomless h n x) = absurd (n roomy)
+listed-or-broken s room r after whole roomy some (broken h k n x) = inr x
+listed-or-broken s room r after whole roomy some (listed h k chain has x) =
+    let t = starts-a-chain s some chain .0 has in
+    inl (
+      x .given,
+      omega (arith, x .counted, ap length (t .2)),
+      ap (λ (a : List ℕ). getD a 0 0) (x .listed ∙ ap (λ (c : List ℕ). c ++ drop (length c) room) (t .2)),
+    )
 
 -- ---- an example: P11's record behind a capability that is blanked at 100h, another one blanked behind the record, and a header behind that
 

@@ -10,3 +10,4 @@ pub mod Numbers
 pub mod Unique
 pub mod Traps
 pub mod Blanked
+pub mod Blanking

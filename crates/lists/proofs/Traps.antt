@@ -49,8 +49,8 @@ OffsetsAligned =
     (kind : Kind) (s room : List ℕ) (r : Walked) (after : List ℕ) → Walks kind s room r after → (index : ℕ) → index < r .count
     → getD after index 0 % 4 ≡ 0
 
--- "a list that the table calls empty counts as having start 0, whatever its pointers hold": a walk of it is served, lists nothing, and leaves the
--- room as it was
+-- "a list that the table calls empty counts as having start 0, whatever its pointers hold", the extended list as request 2/13 corrects the table: a
+-- walk of it is served, lists nothing, and leaves the room as it was
 abbrev pub EmptyLists : Type 0
 EmptyLists =
     (s room : List ℕ) (r : Walked) (after : List ℕ) → WholeSpace s
@@ -111,11 +111,11 @@ looping-comes-back = record { later = lit≤ tt; goesOn = looping-goes-on; again
 dropped-aligned : (pointer : ℕ) → dropped pointer % 4 ≡ 0
 dropped-aligned pointer = omega arith
 
-follows-aligned : (list : ListRule) (s : List ℕ) (at : ℕ) → follows list s at % 4 ≡ 0
+pub follows-aligned : (list : ListRule) (s : List ℕ) (at : ℕ) → follows list s at % 4 ≡ 0
 unfolding follows
 follows-aligned list s at = dropped-aligned (list .next s at)
 
-first-aligned : (list : ListRule) (s : List ℕ) → first list s % 4 ≡ 0
+pub first-aligned : (list : ListRule) (s : List ℕ) → first list s % 4 ≡ 0
 unfolding first
 first-aligned list s = dropped-aligned (list .start s)
 

@@ -23,7 +23,8 @@ unlessEmpty empty start = cond empty 0 start
 unfoldable pub compatibleStart : List ℕ → ℕ
 compatibleStart s = unlessEmpty (eqb (bit 4 (byte s 0x06)) 0) (byte s 0x34)
 
--- "100h; empty if the ID there is 0000h", which document 02, 2/13, corrects: "the extended list is empty only if the whole word at 100h is zero"
+-- "100h; empty if the ID there is 0000h", which document 02, 2/13, corrects: "the extended list is empty only if the whole word at 100h is zero.
+-- Otherwise the structure is listed with ID 0000h."
 unfoldable pub extendedStart : List ℕ → ℕ
 extendedStart s = unlessEmpty (eqb (word s 0x100) 0) 0x100
 

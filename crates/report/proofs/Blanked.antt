@@ -4,16 +4,16 @@
 use Prim.Native.Nat.{ℕ}
 use mathlib.Core.List.{List, [], _∷_, _++_}
 use mathlib.Core.Logic.{_↔_}
-use mathlib.Core.Path.{_≡_, refl, sym, ap, subst, _∙_}
+use mathlib.Core.Path.{_≡_, refl, ap, _∙_}
 use lib.ListN.{length}
 use Rattle.words.specs.Fields.{bits, word}
 use Rattle.lists.specs.Table.{compatibleStart}
 use Rattle.lists.specs.Chain.{HasChain, Legal.ends, first}
-use Rattle.lists.proofs.OneChain.{legal-unique}
 use Rattle.lists.proofs.Blanked.{Blanked, starts-a-chain, lost, whole-now}
 use Rattle.report.specs.Text.{ascii, line, digit, hex, decimal}
-use Rattle.report.specs.Listing.{compatible, extended, extendedEntry, heading, entries, Part, Part.listed, Part.broken, Says, Says.parts}
-use Rattle.report.proofs.Unique.{says-unique}
+use Rattle.report.specs.Listing.{compatible, extended, extendedEntry, heading, entries, Part, Part.listed, Says, Says.parts}
+use Rattle.report.proofs.Unique.{part-unique}
+use Rattle.report.proofs.Sample.{says-exactly}
 
 -- the statements. The extended part of a space that is blanked at 100h
 abbrev pub ListedAsNull : Type 0
@@ -40,16 +40,11 @@ first-line : (s rest : List ℕ) → Blanked s
     → entries extended s (0x100 ∷ rest) ≡ line (ascii "100 0000 " ++ hex 1 (bits 19 16 (word s 0x100))) ++ entries extended s rest
 first-line s rest b = ap (λ (x : List ℕ). line x ++ entries extended s rest) (null-entry s b)
 
-part-of : (s out chain : List ℕ) → HasChain (extended .list) s chain → Part extended s out
-    → out ≡ heading (ascii "extended") (length chain) ++ entries extended s chain
-part-of s out chain has (listed other l e) = e ∙ ap (λ (c : List ℕ). heading (ascii "extended") (length c) ++ entries extended s c) (legal-unique l has)
-part-of s out chain has (broken none e) = absurd (none chain has)
-
 pub listed-as-null : ListedAsNull
 listed-as-null s out chain b has part =
     let t = starts-a-chain s (b .another) chain .0 has in
     let lines = ap (entries extended s) (t .2) ∙ first-line s (t .0) b in
-    (t .0, t .2, part-of s out chain has part ∙ ap (λ (x : List ℕ). heading (ascii "extended") (length chain) ++ x) lines)
+    (t .0, t .2, part-unique part (listed chain has refl) ∙ ap (λ (x : List ℕ). heading (ascii "extended") (length chain) ++ x) lines)
 
 -- ---- the sample
 
@@ -71,5 +66,4 @@ unfolding lost
 says-seven = parts refl _ _ compatible-part extended-part refl
 
 pub blanked-listing : BlankedListing
-blanked-listing out =
-    ((λ says. says-unique lost out sevenLines says says-seven), (λ e. subst (λ (o : List ℕ). Says lost o) (sym e) says-seven))
+blanked-listing = says-exactly lost sevenLines says-seven

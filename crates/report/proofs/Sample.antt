@@ -49,6 +49,10 @@ says-five : Says sample fiveLines
 unfolding sample
 says-five = parts refl _ _ compatible-part extended-part refl
 
+-- a text that is right for a space is the only one
+pub says-exactly : (s text : List ℕ) → Says s text → (out : List ℕ) → Says s out ↔ (out ≡ text)
+says-exactly s text right out =
+    ((λ says. says-unique s out text says right), (λ e. subst (λ (o : List ℕ). Says s o) (sym e) right))
+
 pub sample-listing : SampleListing
-sample-listing out =
-    ((λ says. says-unique sample out fiveLines says says-five), (λ e. subst (λ (o : List ℕ). Says sample o) (sym e) says-five))
+sample-listing = says-exactly sample fiveLines says-five

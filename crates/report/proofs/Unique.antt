@@ -15,7 +15,7 @@ ListingUnique = (s text : List ℕ) (r q : ℕ) (l m : List ℕ) → Prints s te
 abbrev pub SaysUnique : Type 0
 SaysUnique = (s a b : List ℕ) → Says s a → Says s b → a ≡ b
 
-part-unique : {style : Style} {s a b : List ℕ} → Part style s a → Part style s b → a ≡ b
+pub part-unique : {style : Style} {s a b : List ℕ} → Part style s a → Part style s b → a ≡ b
 part-unique {style} {s} (listed chain l e) (listed same o f) =
     e ∙ ap (λ (c : List ℕ). heading (style .name) (length c) ++ entries style s c) (legal-unique l o) ∙ sym f
 part-unique (listed chain l e) (broken n f) = absurd (n chain l)

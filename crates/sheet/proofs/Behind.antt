@@ -1,5 +1,5 @@
 -- THEOREM. Request 2/13 of document 02, "we lose every record behind it": of the list that was lost, any walk now lists four offsets, and at the
--- second of them P11's record reads as it does at 100h. Assumes nothing.
+-- second of them P11's record reads as it does at 100h, header and body. Assumes nothing.
 use Prim.Native.Nat.{ℕ}
 use mathlib.Core.List.{List, [], _∷_}
 use mathlib.Core.Path.{_≡_, refl, ap}
@@ -11,20 +11,24 @@ use Rattle.lists.specs.Walks.{Roomy, Walks, numberGiven}
 use Rattle.lists.proofs.Decides.{served-lists, served-iff-legal}
 use Rattle.lists.proofs.Blanked.{lost, whole-now}
 use Rattle.records.specs.Required.{sized}
-use Rattle.records.specs.DvsecRule.{isDvsec, extends, dvsecNumber, dvsecSays}
+use Rattle.records.specs.DvsecRule.{isDvsec, extends, dvsecNumber, dvsecSays, dvsecBody}
 use Rattle.sheet.specs.Sheet.{vendor}
+
+-- the record at 140h, which is no refusal
+abbrev pub ReadsAlike : Type 0
+ReadsAlike = (dvsecSays lost 0x140 .number ≡ 0) × (dvsecSays lost 0x140 ≡ dvsecSays vendor 0x100) × (dvsecBody lost 0x140 ≡ dvsecBody vendor 0x100)
 
 abbrev pub RecordBehind : Type 0
 RecordBehind = (room : List ℕ) (r : Walked) (after : List ℕ) → Roomy Extended room → Walks Extended lost room r after
-    → (numberGiven r ≡ 0) × (r .count ≡ 4) × (getD after 1 0 ≡ 0x140) × (dvsecSays lost 0x140 ≡ dvsecSays vendor 0x100)
+    → (numberGiven r ≡ 0) × (r .count ≡ 4) × (getD after 1 0 ≡ 0x140) × ReadsAlike
 
 lost-whole : length lost ≡ 4096
 unfolding lost
 lost-whole = refl
 
-reads-alike : dvsecSays lost 0x140 ≡ dvsecSays vendor 0x100
-unfolding computing lost sized isDvsec extends dvsecNumber dvsecSays
-reads-alike = refl
+reads-alike : ReadsAlike
+unfolding computing lost sized isDvsec extends dvsecNumber dvsecSays dvsecBody
+reads-alike = (refl, refl, refl)
 
 pub record-behind : RecordBehind
 record-behind room r after roomy w =

@@ -1,9 +1,9 @@
 //! A board's answers to configuration packets, the three capability lists, two records, and a switch's router, by the
 //! proved code of libthawribbon.a.
 //!
-//! Document 01 of the project fixes what every function answers, and for the router document 02; their words are used
-//! here, and the rules stand in docs/RULES.md of the project. Any bytes, of any length, get an answer. After a [`Refusal`] no lent byte and no capture
-//! has changed.
+//! Document 01 of the project fixes what every function answers, with what document 02 corrects, and for the router
+//! document 02; their words are used here, and the rules that hold stand in docs/RULES.md of the project. Any bytes, of
+//! any length, get an answer. After a [`Refusal`] no lent byte and no capture has changed.
 //!
 //! | You want to | Use |
 //! |---|---|

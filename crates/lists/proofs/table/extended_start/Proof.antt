@@ -29,7 +29,7 @@ word-requires c κs = search needs
 returns : tie.Need-returns
 returns c =
     let a = c .before .before .before in
-    empty (a .args .space .now) (c .before .word .result) (a .pre) (c .before .word .ensures) (c .if1 .taken)
+    empty (a .args .space .now) (c .before .word .result) (a .pre) (c .before .word .ensures) (omega (arith, c .if1 .taken))
 
 cast-result : tie.Need-cast-result
 cast-result c = search needs
@@ -37,7 +37,7 @@ cast-result c = search needs
 returns-2 : tie.Need-returns-2
 returns-2 c =
     let a = c .before .before .before in
-    starts (a .args .space .now) (c .before .word .result) (a .pre) (c .before .word .ensures) (c .if1 .left)
+    starts (a .args .space .now) (c .before .word .result) (a .pre) (c .before .word .ensures) (λ z. c .if1 .left (omega (arith, z)))
 
 pub extended-start-spec : {M : Type 1} → statement M
 extended-start-spec = tie.close (tie.spec word-requires returns cast-result returns-2)
