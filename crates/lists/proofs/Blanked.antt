@@ -1,27 +1,24 @@
 -- THEOREMS. Request 2/13 of document 02: what it corrects, and what it leaves. By document 01's row as it stood and by the one that holds, the
 -- extended list is answered alike but for a space with ID 0000h and another bit set at 100h. There the answer was an empty list, and is now the
 -- chain that begins at 100h, or 7 where there is none. Assumes nothing.
-use Prim.Native.Nat.{ℕ, _%_, _≤_, _<_}
+use Prim.Native.Nat.{ℕ}
 use mathlib.Core.Bool.{Bool, true, false}
-use mathlib.Core.List.{List, [], _∷_, _++_}
+use mathlib.Core.List.{List, [], _++_}
 use mathlib.Core.Logic.{_↔_, _⊎_}
 use mathlib.Core.Logic._⊎_.{inl, inr}
-use mathlib.Core.Path.{_≡_, refl, sym, ap, subst, _∙_}
-use native.Mathlib.Omega.{arith}
-use lib.Dec.{eqb, lit≤}
-use lib.ListN.{length, getD, drop, replicate}
+use mathlib.Core.Path.{_≡_, refl, sym, ap, _∙_}
+use lib.Dec.{eqb}
+use lib.ListN.{length, drop}
 use borrow.Author.Tests.{eq-eqb, ne-eqb, eqb-true, eqb-false}
 use Rattle.answers.specs.declared.Answer.the-variants.{Done}
-use Rattle.words.specs.Bytes.{put}
 use Rattle.words.specs.Fields.{bits, word}
 use Rattle.lists.specs.declared.Kind.the-variants.{Extended}
 use Rattle.lists.specs.declared.Walked.{Walked}
-use Rattle.lists.specs.Table.{ListRule, describe, extendedStart, extendedNext, unlessEmpty}
+use Rattle.lists.specs.Table.{ListRule, describe, unlessEmpty}
 use Rattle.lists.specs.Chain.{Legal, Legal.ends, Legal.goes, HasChain, NoChain, dropped, first, follows}
 use Rattle.lists.specs.Walks.{WholeSpace, Roomy, Refuses, Lists, Walks, Walks.misdescribed, Walks.roomless, Walks.broken, Walks.listed, numberGiven}
-use Rattle.lists.proofs.Decides.{served-lists, served-iff-legal}
-use Rattle.lists.proofs.Pointers.{extended-none, extended-some}
-use Rattle.lists.proofs.Traps.{empty-lists, first-aligned, follows-aligned}
+use Rattle.lists.proofs.Alike.{alike}
+use Rattle.lists.proofs.FirstWord.{first-none, first-some, empty-exactly}
 use Rattle.lists.proofs.Unique.{walk-unique}
 
 -- document 01's row as it stood: "100h; empty if the ID there is 0000h"
@@ -64,22 +61,6 @@ abbrev pub LostBefore : Type 0
 LostBefore = (s room : List ℕ) (r : Walked) (after : List ℕ) → Blanked s → AnswersBy uncorrected s room r after
     → (numberGiven r ≡ 0) × (r .count ≡ 0) × (after ≡ room)
 
--- "Otherwise the structure is listed": any word but zero starts a chain, which goes on where its pointer leads
-abbrev pub StartsAChain : Type 0
-StartsAChain = (s : List ℕ) → (word s 0x100 ≡ 0 → ⊥) → (chain : List ℕ)
-    → HasChain (describe Extended) s chain
-    ↔ ((rest : List ℕ) × Legal (describe Extended) s (follows (describe Extended) s 0x100) rest × (chain ≡ 0x100 ∷ rest))
-
--- "the extended list is empty only if the whole word at 100h is zero", of any walk
-abbrev pub EmptyExactly : Type 0
-EmptyExactly = (s room : List ℕ) (r : Walked) (after : List ℕ) → WholeSpace s → Roomy Extended room → Walks Extended s room r after
-    → (((numberGiven r ≡ 0) × (r .count ≡ 0)) ↔ (word s 0x100 ≡ 0))
-
--- of any walk where the word at 100h is not zero: 100h is listed first, or there is no chain, and the answer is 7
-abbrev pub ListedOrBroken : Type 0
-ListedOrBroken = (s room : List ℕ) (r : Walked) (after : List ℕ) → WholeSpace s → Roomy Extended room → (word s 0x100 ≡ 0 → ⊥)
-    → Walks Extended s room r after → ((numberGiven r ≡ 0) × (0 < r .count) × (getD after 0 0 ≡ 0x100)) ⊎ Refuses 7 room r after
-
 -- a walk by the old rule, whatever else it does, is wrong wherever a space is blanked at 100h; and there is such a walk, of any such space
 abbrev pub OldRuleCaught : Type 0
 OldRuleCaught = (s room : List ℕ) (r : Walked) (after : List ℕ) → WholeSpace s → Roomy Extended room → Blanked s
@@ -88,34 +69,11 @@ OldRuleCaught = (s room : List ℕ) (r : Walked) (after : List ℕ) → WholeSpa
 abbrev pub OldRuleAnswers : Type 0
 OldRuleAnswers = (s room : List ℕ) → Blanked s → AnswersBy uncorrected s room (record { answer = Done; count = 0 }) room
 
--- ---- chains by two rules, in two spaces
+-- ---- where the list starts by the old rule
 
-carried : {a b : ListRule} {s t : List ℕ} → a .floor ≡ b .floor → ((at : ℕ) → at % 4 ≡ 0 → follows a s at ≡ follows b t at) → {p : ℕ}
-    → p % 4 ≡ 0 → {chain : List ℕ} → Legal a s p chain → Legal b t p chain
-carried f g aligned (ends z e) = ends z e
-carried {a} {b} {s} {t} f g {p} aligned (goes {rest = rest} n h l e) =
-    goes n (subst (λ (x : ℕ). x ≤ p) f h)
-    (subst (λ (x : ℕ). Legal b t x rest) (g p aligned) (carried f g (follows-aligned a s p) l)) e
-
--- from the same first pointer, with the same pointers in the words, the same chains
-pub alike : {a b : ListRule} {s t : List ℕ} → first a s ≡ first b t → a .floor ≡ b .floor
-    → ((at : ℕ) → at % 4 ≡ 0 → follows a s at ≡ follows b t at) → (chain : List ℕ) → HasChain a s chain ↔ HasChain b t chain
-alike {a} {b} {s} {t} e f g chain = (
-  (λ l. subst (λ (x : ℕ). Legal b t x chain) e (carried f g (first-aligned a s) l)),
-  (λ l. subst (λ (x : ℕ). Legal a s x chain) (sym e) (carried (sym f) (λ at m. sym (g at m)) (first-aligned b t) l)),
-)
-
-module _ {list : ListRule} {s : List ℕ} where
-  none-behind-zero : {p : ℕ} {chain : List ℕ} → Legal list s p chain → p ≡ 0 → chain ≡ []
-  none-behind-zero (ends z e) q = e
-  none-behind-zero (goes n h l e) q = absurd (n q)
-
-  begun : {p : ℕ} {chain : List ℕ} → Legal list s p chain → (p ≡ 0 → ⊥)
-      → (rest : List ℕ) × Legal list s (follows list s p) rest × (chain ≡ p ∷ rest)
-  begun (ends z e) n = absurd (n z)
-  begun (goes {rest = rest} n h l e) m = (rest, l, e)
-
--- ---- where the list starts, by each rule
+none-behind-zero : {list : ListRule} {s : List ℕ} {p : ℕ} {chain : List ℕ} → Legal list s p chain → p ≡ 0 → chain ≡ []
+none-behind-zero (ends z e) q = e
+none-behind-zero (goes n h l e) q = absurd (n q)
 
 old-none : (s : List ℕ) → bits 15 0 (word s 0x100) ≡ 0 → first uncorrected s ≡ 0
 unfolding first
@@ -124,14 +82,6 @@ old-none s z = ap (λ (empty : Bool). dropped (unlessEmpty empty 0x100)) (eq-eqb
 old-some : (s : List ℕ) → (bits 15 0 (word s 0x100) ≡ 0 → ⊥) → first uncorrected s ≡ 0x100
 unfolding first
 old-some s n = ap (λ (empty : Bool). dropped (unlessEmpty empty 0x100)) (ne-eqb (bits 15 0 (word s 0x100)) 0 n)
-
-new-none : (s : List ℕ) → word s 0x100 ≡ 0 → first (describe Extended) s ≡ 0
-unfolding first
-new-none s z = ap dropped (extended-none s z)
-
-pub new-some : (s : List ℕ) → (word s 0x100 ≡ 0 → ⊥) → first (describe Extended) s ≡ 0x100
-unfolding first
-new-some s n = ap dropped (extended-some s n)
 
 blanked-or-not : (s : List ℕ) → Blanked s ⊎ (Blanked s → ⊥)
 blanked-or-not s = go (eqb (bits 15 0 (word s 0x100)) 0) (eqb (word s 0x100) 0) refl refl
@@ -145,10 +95,10 @@ same-first : (s : List ℕ) → (Blanked s → ⊥) → first uncorrected s ≡ 
 same-first s not = go (eqb (word s 0x100) 0) refl
   where
     go : (w : Bool) → eqb (word s 0x100) 0 ≡ w → first uncorrected s ≡ first (describe Extended) s
-    go true e = let z = eqb-true (word s 0x100) 0 e in old-none s (ap (bits 15 0) z) ∙ sym (new-none s z)
+    go true e = let z = eqb-true (word s 0x100) 0 e in old-none s (ap (bits 15 0) z) ∙ sym (first-none s z)
     go false e =
         let n = eqb-false (word s 0x100) 0 e in
-        old-some s (λ z. not (record { noId = z; another = n })) ∙ sym (new-some s n)
+        old-some s (λ z. not (record { noId = z; another = n })) ∙ sym (first-some s n)
 
 -- ---- the theorems
 
@@ -156,7 +106,7 @@ pub elsewhere-alike : ElsewhereAlike
 unfolding follows
 elsewhere-alike s not chain = alike (same-first s not) refl (λ at aligned. refl) chain
 
-nothing-there : (s : List ℕ) → Blanked s → HasChain uncorrected s []
+pub nothing-there : (s : List ℕ) → Blanked s → HasChain uncorrected s []
 nothing-there s b = ends (old-none s (b .noId)) refl
 
 pub listed-the-same : ListedTheSame
@@ -167,27 +117,6 @@ listed-the-same s = (
 
 pub lost-before : LostBefore
 lost-before s room r after b a = let x = a .served [] (nothing-there s b) in (x .given, x .counted, x .listed)
-
-pub starts-a-chain : StartsAChain
-starts-a-chain s some chain = (
-  (λ l. begun (subst (λ (p : ℕ). Legal (describe Extended) s p chain) (new-some s some) l) (eqb-false 0x100 0 refl)),
-  (λ t.
-      subst (λ (p : ℕ). Legal (describe Extended) s p chain) (sym (new-some s some))
-      (goes (eqb-false 0x100 0 refl) (lit≤ tt) (t .1) (t .2))),
-)
-
-pub empty-exactly : EmptyExactly
-empty-exactly s room r after whole roomy w = (
-  (λ t. go t (eqb (word s 0x100) 0) refl),
-  (λ z. let x = empty-lists s room r after whole .1 z roomy w in (x .0, x .1)),
-)
-  where
-    go : (numberGiven r ≡ 0) × (r .count ≡ 0) → (b : Bool) → eqb (word s 0x100) 0 ≡ b → word s 0x100 ≡ 0
-    go t true e = eqb-true (word s 0x100) 0 e
-    go t false e =
-        let has = served-iff-legal Extended s room r after w whole roomy .0 .0 (t .0) in
-        let more = starts-a-chain s (eqb-false (word s 0x100) 0 e) (has .0) .0 (has .1) in
-        absurd (omega (arith, t .1, served-lists w (t .0) (has .1) .counted, ap length (more .2)))
 
 -- a walk by the old rule meets the promise where nothing is blanked at 100h
 meets : (s room : List ℕ) (r q : Walked) (l m : List ℕ) → WholeSpace s → Roomy Extended room → (Blanked s → ⊥)
@@ -222,43 +151,3 @@ old-rule-answers s room b = record { served = nothing-listed; refused = λ none.
     nothing-listed chain l =
         let e = none-behind-zero l (old-none s (b .noId)) in
         record { given = refl; counted = sym (ap length e); listed = sym (ap (λ (c : List ℕ). c ++ drop (length c) room) e) }
-
-pub listed-or-broken : ListedOrBroken
-listed-or-broken s room r after whole roomy some (misdescribed n x) = absurd (n whole)
-listed-or-broken s room r after whole roomy some (roomless h n x) = absurd (n roomy)
-listed-or-broken s room r after whole roomy some (broken h k n x) = inr x
-listed-or-broken s room r after whole roomy some (listed h k chain has x) =
-    let t = starts-a-chain s some chain .0 has in
-    inl (
-      x .given,
-      omega (arith, x .counted, ap length (t .2)),
-      ap (λ (a : List ℕ). getD a 0 0) (x .listed ∙ ap (λ (c : List ℕ). c ++ drop (length c) room) (t .2)),
-    )
-
--- ---- an example: P11's record behind a capability that is blanked at 100h, another one blanked behind the record, and a header behind that
-
-unfoldable pub lost : List ℕ
-lost =
-    put
-    (put
-    (put (put (replicate 4096 0) 0x100 (0x00 ∷ 0x00 ∷ 0x01 ∷ 0x14 ∷ [])) 0x140
-    (0x23 ∷ 0x00 ∷ 0x01 ∷ 0x18 ∷ 0xc0 ∷ 0x1e ∷ 0x00 ∷ 0x01 ∷ 0x02 ∷ 0x00 ∷ []))
-    0x180 (0x00 ∷ 0x00 ∷ 0x01 ∷ 0x1c ∷ []))
-    0x1c0 (0x0d ∷ 0x00 ∷ 0x01 ∷ 0x00 ∷ [])
-
-abbrev pub LostAndWhole : Type 0
-LostAndWhole = Blanked lost × HasChain uncorrected lost [] × HasChain (describe Extended) lost (0x100 ∷ 0x140 ∷ 0x180 ∷ 0x1c0 ∷ [])
-
-lost-blanked : Blanked lost
-unfolding lost
-lost-blanked = record { noId = refl; another = eqb-false (word lost 0x100) 0 refl }
-
-pub whole-now : HasChain (describe Extended) lost (0x100 ∷ 0x140 ∷ 0x180 ∷ 0x1c0 ∷ [])
-unfolding lost first follows extendedStart extendedNext
-whole-now =
-    goes (eqb-false 0x100 0 refl) (lit≤ tt)
-    (goes (eqb-false 0x140 0 refl) (lit≤ tt)
-    (goes (eqb-false 0x180 0 refl) (lit≤ tt) (goes (eqb-false 0x1c0 0 refl) (lit≤ tt) (ends refl refl) refl) refl) refl) refl
-
-pub lost-and-whole : LostAndWhole
-lost-and-whole = (lost-blanked, nothing-there lost lost-blanked, whole-now)

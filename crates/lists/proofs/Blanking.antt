@@ -18,7 +18,9 @@ use Rattle.lists.specs.Table.{describe, extendedNext}
 use Rattle.lists.specs.Chain.{HasChain, dropped, follows}
 use Rattle.lists.specs.Walks.{WholeSpace}
 use Rattle.lists.proofs.Pointers.{Bytes}
-use Rattle.lists.proofs.Blanked.{alike, new-some, lost}
+use Rattle.lists.proofs.Alike.{alike}
+use Rattle.lists.proofs.FirstWord.{first-some}
+use Rattle.lists.proofs.Lost.{lost}
 
 -- the statements
 abbrev pub SamePointers : Type 0
@@ -42,7 +44,7 @@ LostByBlanking = (s : List ℕ) × WholeSpace s × (bits 15 0 (word s 0x100) ≡
 
 pub same-pointers : SamePointers
 unfolding follows extendedNext
-same-pointers s t n m g chain = alike (new-some s n ∙ sym (new-some t m)) refl (λ at aligned. ap dropped (g at aligned)) chain
+same-pointers s t n m g chain = alike (first-some s n ∙ sym (first-some t m)) refl (λ at aligned. ap dropped (g at aligned)) chain
 
 -- the pointer of a word is in its last two bytes
 pointer-of : (a b c d x y : ℕ) → a < 256 → b < 256 → x < 256 → y < 256 → bits 31 20 (joined a b c d) ≡ bits 31 20 (joined x y c d)

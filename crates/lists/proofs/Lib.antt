@@ -9,5 +9,8 @@ pub mod Decides
 pub mod Numbers
 pub mod Unique
 pub mod Traps
+pub mod Alike
+pub mod FirstWord
 pub mod Blanked
+pub mod Lost
 pub mod Blanking

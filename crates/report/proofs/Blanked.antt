@@ -9,7 +9,9 @@ use lib.ListN.{length}
 use Rattle.words.specs.Fields.{bits, word}
 use Rattle.lists.specs.Table.{compatibleStart}
 use Rattle.lists.specs.Chain.{HasChain, Legal.ends, first}
-use Rattle.lists.proofs.Blanked.{Blanked, starts-a-chain, lost, whole-now}
+use Rattle.lists.proofs.FirstWord.{starts-a-chain}
+use Rattle.lists.proofs.Blanked.{Blanked}
+use Rattle.lists.proofs.Lost.{lost, whole-now}
 use Rattle.report.specs.Text.{ascii, line, digit, hex, decimal}
 use Rattle.report.specs.Listing.{compatible, extended, extendedEntry, heading, entries, Part, Part.listed, Says, Says.parts}
 use Rattle.report.proofs.Unique.{part-unique}

@@ -9,7 +9,7 @@ use Rattle.lists.specs.declared.Kind.the-variants.{Extended}
 use Rattle.lists.specs.declared.Walked.{Walked}
 use Rattle.lists.specs.Walks.{Roomy, Walks, numberGiven}
 use Rattle.lists.proofs.Decides.{served-lists, served-iff-legal}
-use Rattle.lists.proofs.Blanked.{lost, whole-now}
+use Rattle.lists.proofs.Lost.{lost, whole-now}
 use Rattle.records.specs.Required.{sized}
 use Rattle.records.specs.DvsecRule.{isDvsec, extends, dvsecNumber, dvsecSays, dvsecBody}
 use Rattle.sheet.specs.Sheet.{vendor}
