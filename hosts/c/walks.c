@@ -166,7 +166,7 @@ static void walk_empty(void)
     }
 }
 
-/* A word with one bit set at 100h, and a null capability there with headers behind it: neither list is empty. */
+/* Only a zero word at 100h is an empty list: each bit alone, and null capabilities there and further on. */
 static void walk_null(void)
 {
     const uint8_t none[4] = {0};

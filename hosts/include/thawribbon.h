@@ -244,9 +244,9 @@ THAWRIBBON_MUST_USE thawribbon_walked thawribbon_walk_compatible(const uint8_t *
                                                                  uint16_t *room, size_t room_length);
 
 /*
- * Walks the extended list of a space: it starts at 100h, and is empty if the whole word there is zero. Otherwise 100h is listed, also
- * where its ID is 0000h: a capability that a supplier blanked is still in the list, and so is what is behind it. A record asked for there
- * is refused with 8. Behind 100h a header is listed whatever it holds.
+ * Walks the extended list of a space: it starts at 100h, and is empty if the whole word there is zero. Otherwise its chain begins at 100h,
+ * also where the ID there is 0000h: a capability that a supplier blanked is still in the list, and so is what is behind it. A DVSEC record
+ * asked for at a blanked offset is refused with 8. Behind 100h a header is listed whatever it holds.
  *
  * Takes, gives and leaves unchanged what thawribbon_walk_compatible does, with the numbers 0, 1, 2 and 7 of the same meanings; the room
  * must have THAWRIBBON_EXTENDED_MAXIMUM numbers.

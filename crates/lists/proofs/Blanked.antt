@@ -6,7 +6,7 @@ use mathlib.Core.Bool.{Bool, true, false}
 use mathlib.Core.List.{List, [], _++_}
 use mathlib.Core.Logic.{_↔_, _⊎_}
 use mathlib.Core.Logic._⊎_.{inl, inr}
-use mathlib.Core.Path.{_≡_, refl, sym, ap, _∙_}
+use mathlib.Core.Path.{_≡_, refl, sym, ap, subst, _∙_}
 use lib.Dec.{eqb}
 use lib.ListN.{length, drop}
 use borrow.Author.Tests.{eq-eqb, ne-eqb, eqb-true, eqb-false}
@@ -19,6 +19,7 @@ use Rattle.lists.specs.Chain.{Legal, Legal.ends, Legal.goes, HasChain, N
 use Rattle.lists.specs.Walks.{WholeSpace, Roomy, Refuses, Lists, Walks, Walks.misdescribed, Walks.roomless, Walks.broken, Walks.listed, numberGiven}
 use Rattle.lists.proofs.Alike.{alike}
 use Rattle.lists.proofs.FirstWord.{first-none, first-some, empty-exactly}
+use Rattle.lists.proofs.OneChain.{legal-unique}
 use Rattle.lists.proofs.Unique.{walk-unique}
 
 -- document 01's row as it stood: "100h; empty if the ID there is 0000h"
@@ -61,13 +62,17 @@ abbrev pub LostBefore : Type 0
 LostBefore = (s room : List ℕ) (r : Walked) (after : List ℕ) → Blanked s → AnswersBy uncorrected s room r after
     → (numberGiven r ≡ 0) × (r .count ≡ 0) × (after ≡ room)
 
--- a walk by the old rule, whatever else it does, is wrong wherever a space is blanked at 100h; and there is such a walk, of any such space
+-- a walk by the old rule, whatever else it does, is wrong wherever a space is blanked at 100h. There is such a walk of any space: there one that
+-- lists nothing, and elsewhere every walk that is right
 abbrev pub OldRuleCaught : Type 0
 OldRuleCaught = (s room : List ℕ) (r : Walked) (after : List ℕ) → WholeSpace s → Roomy Extended room → Blanked s
     → AnswersBy uncorrected s room r after → Walks Extended s room r after → ⊥
 
 abbrev pub OldRuleAnswers : Type 0
-OldRuleAnswers = (s room : List ℕ) → Blanked s → AnswersBy uncorrected s room (record { answer = Done; count = 0 }) room
+OldRuleAnswers = (s room : List ℕ)
+    → (Blanked s → AnswersBy uncorrected s room (record { answer = Done; count = 0 }) room)
+    × ((r : Walked) (after : List ℕ) → WholeSpace s → Roomy Extended room → (Blanked s → ⊥) → Walks Extended s room r after
+    → AnswersBy uncorrected s room r after)
 
 -- ---- where the list starts by the old rule
 
@@ -144,10 +149,28 @@ differ-exactly s room r q l m whole roomy a w = ((λ differ. go differ (blanked-
 pub old-rule-caught : OldRuleCaught
 old-rule-caught s room r after whole roomy b a w = differ-exactly s room r r after after whole roomy a w .1 b (refl, refl)
 
-pub old-rule-answers : OldRuleAnswers
-old-rule-answers s room b = record { served = nothing-listed; refused = λ none. absurd (none [] (nothing-there s b)) }
+-- a walk that meets the promise answers by the old rule where nothing is blanked at 100h
+answers : (s room : List ℕ) (r : Walked) (after : List ℕ) → WholeSpace s → Roomy Extended room → (Blanked s → ⊥) → Walks Extended s room r after
+    → AnswersBy uncorrected s room r after
+answers s room r after whole roomy not (misdescribed n x) = absurd (n whole)
+answers s room r after whole roomy not (roomless h n x) = absurd (n roomy)
+answers s room r after whole roomy not (broken h k none x) =
+    record { served = λ chain old. absurd (none chain (elsewhere-alike s not chain .0 old)); refused = λ never. x }
+answers s room r after whole roomy not (listed h k chain has x) =
+    record {
+      served =
+          λ other old. subst (λ (c : List ℕ). Lists c room r after) (legal-unique has (elsewhere-alike s not other .0 old)) x;
+      refused = λ never. absurd (never chain (elsewhere-alike s not chain .1 has));
+    }
+
+-- a walk that lists nothing answers by it where something is
+nothing-listed : (s room : List ℕ) → Blanked s → AnswersBy uncorrected s room (record { answer = Done; count = 0 }) room
+nothing-listed s room b = record { served = none; refused = λ never. absurd (never [] (nothing-there s b)) }
   where
-    nothing-listed : (chain : List ℕ) → HasChain uncorrected s chain → Lists chain room (record { answer = Done; count = 0 }) room
-    nothing-listed chain l =
+    none : (chain : List ℕ) → HasChain uncorrected s chain → Lists chain room (record { answer = Done; count = 0 }) room
+    none chain l =
         let e = none-behind-zero l (old-none s (b .noId)) in
         record { given = refl; counted = sym (ap length e); listed = sym (ap (λ (c : List ℕ). c ++ drop (length c) room) e) }
+
+pub old-rule-answers : OldRuleAnswers
+old-rule-answers s room = (nothing-listed s room, answers s room)

@@ -1,13 +1,13 @@
 -- THEOREMS. Request 2/13 of document 02: "zeroing its ID and keeping its pointer" loses nothing, whichever structure of a space it is done to and
 -- wherever its list goes, unless it leaves a zero word at 100h: the extended list has the chain that it had, or none where it had none. For the IDs
 -- and versions do not matter: spaces with the same pointers, and no zero word at 100h, have the same chains. Assumes nothing.
-use Prim.Native.Nat.{ℕ, zero, suc, _+_, _-_, _%_, _≤_, _<_}
+use Prim.Native.Nat.{ℕ, zero, suc, _+_, _-_, _/_, _%_, _≤_, _<_}
 use mathlib.Core.Bool.{Bool, true, false}
 use mathlib.Core.List.{List, [], _∷_}
 use mathlib.Core.Logic.{_↔_}
 use mathlib.Core.Path.{_≡_, refl, sym, ap, _∙_}
 use native.Mathlib.Omega.{arith}
-use lib.Dec.{ltb, lit≤}
+use lib.Dec.{ltb, lit<, lit≤}
 use lib.ListN.{length}
 use borrow.Author.Tests.{ltb-true, ltb-false}
 use Rattle.words.specs.Bytes.{byte, put}
@@ -38,7 +38,7 @@ BlankingLosesNone = (s : List ℕ) (at : ℕ) → WholeSpace s → Bytes s → a
 
 -- the list that was lost is one whose first structure was blanked
 abbrev pub LostByBlanking : Type 0
-LostByBlanking = (s : List ℕ) × WholeSpace s × (bits 15 0 (word s 0x100) ≡ 0x000b) × (blankedAt s 0x100 ≡ lost)
+LostByBlanking = (s : List ℕ) × WholeSpace s × Bytes s × (bits 15 0 (word s 0x100) ≡ 0x000b) × (blankedAt s 0x100 ≡ lost)
 
 -- ---- pointers
 
@@ -99,6 +99,20 @@ blanking-loses-none s at whole b aligned below some chain =
 
 -- ---- the example
 
+unblanked : List ℕ
+unblanked = put lost 0x100 (0x0b ∷ 0x00 ∷ [])
+
+-- what the elements of a list have over a byte
+over : List ℕ → ℕ
+over [] = 0
+over (x ∷ rest) = x / 256 + over rest
+
+none-over : (s : List ℕ) → over s ≡ 0 → Bytes s
+unfolding over
+none-over [] e at = lit< tt
+none-over (x ∷ rest) e zero = omega (arith, e)
+none-over (x ∷ rest) e (suc at) = none-over rest (omega (arith, e)) at
+
 pub lost-by-blanking : LostByBlanking
-unfolding lost
-lost-by-blanking = (put lost 0x100 (0x0b ∷ 0x00 ∷ []), refl, refl, refl)
+unfolding lost unblanked over
+lost-by-blanking = (unblanked, refl, none-over unblanked refl, refl, refl)

@@ -14,7 +14,7 @@ use Rattle.words.specs.Fields.{word}
 use Rattle.lists.specs.declared.Kind.the-variants.{Extended}
 use Rattle.lists.specs.declared.Walked.{Walked}
 use Rattle.lists.specs.Table.{ListRule, describe}
-use Rattle.lists.specs.Chain.{Legal, Legal.ends, Legal.goes, HasChain, dropped, first, follows}
+use Rattle.lists.specs.Chain.{Legal, Legal.ends, Legal.goes, HasChain, NoChain, dropped, first, follows}
 use Rattle.lists.specs.Walks.{WholeSpace, Roomy, Refuses, Walks, Walks.misdescribed, Walks.roomless, Walks.broken, Walks.listed, numberGiven}
 use Rattle.lists.proofs.Decides.{served-lists, served-iff-legal}
 use Rattle.lists.proofs.Pointers.{extended-none, extended-some}
@@ -34,7 +34,8 @@ EmptyExactly = (s room : List ℕ) (r : Walked) (after : List ℕ) → WholeSpac
 -- of any walk where the word at 100h is not zero: 100h is listed first, or there is no chain, and the answer is 7
 abbrev pub ListedOrBroken : Type 0
 ListedOrBroken = (s room : List ℕ) (r : Walked) (after : List ℕ) → WholeSpace s → Roomy Extended room → (word s 0x100 ≡ 0 → ⊥)
-    → Walks Extended s room r after → ((numberGiven r ≡ 0) × (0 < r .count) × (getD after 0 0 ≡ 0x100)) ⊎ Refuses 7 room r after
+    → Walks Extended s room r after → ((numberGiven r ≡ 0) × (0 < r .count) × (getD after 0 0 ≡ 0x100))
+    ⊎ (NoChain (describe Extended) s × Refuses 7 room r after)
 
 -- ---- where the list starts
 
@@ -78,7 +79,7 @@ empty-exactly s room r after whole roomy w = (
 pub listed-or-broken : ListedOrBroken
 listed-or-broken s room r after whole roomy some (misdescribed n x) = absurd (n whole)
 listed-or-broken s room r after whole roomy some (roomless h n x) = absurd (n roomy)
-listed-or-broken s room r after whole roomy some (broken h k n x) = inr x
+listed-or-broken s room r after whole roomy some (broken h k n x) = inr (n, x)
 listed-or-broken s room r after whole roomy some (listed h k chain has x) =
     let t = starts-a-chain s some chain .0 has in
     inl (

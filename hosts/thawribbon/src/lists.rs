@@ -11,8 +11,8 @@ use std::fmt;
 pub enum List {
     /// Starts at byte 34h; empty if byte 06h bit 4 is 0.
     Compatible,
-    /// Starts at 100h; empty if the whole word there is zero. Otherwise 100h is listed, also where its ID is 0000h: a
-    /// capability that a supplier blanked is still in the list, and so is what is behind it.
+    /// Starts at 100h; empty if the whole word there is zero. Otherwise its chain begins at 100h, also where the ID there
+    /// is 0000h: a capability that a supplier blanked is still in the list, and so is what is behind it.
     Extended,
     /// Starts where bits 11:0 of the word at 004h say.
     Trusted,

@@ -105,7 +105,7 @@ fn any_bit_at_100h_starts_a_chain() {
         let next = (1usize << bit) >> 20 & 0xFFC;
         let (number, offsets) = match next {
             0 => (0, vec![0x100]),
-            ..=0x100 => (7, vec![]),
+            1..=0x100 => (7, vec![]),
             _ => (0, vec![0x100, next]),
         };
         assert_eq!(walked(List::Extended, &space, 960, &offsets), number, "bit {bit}");

@@ -1,5 +1,5 @@
-//! The classes of headers whose ID is 0, further on in the extended list and anywhere in the other two: no walk may end
-//! at them or leave them out.
+//! The classes of headers whose ID is 0: in the chains of all three lists, and in the extended list also where it is
+//! broken. No walk may end at them or leave them out.
 
 use super::chain::{Ending, Pointers};
 use super::group::Group;

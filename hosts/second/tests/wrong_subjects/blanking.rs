@@ -119,7 +119,7 @@ fn a_loop_behind_a_null_capability_listed() {
 }
 
 #[test]
-fn a_null_capability_that_points_to_itself_taken_for_the_last() {
+fn a_header_that_points_to_itself_taken_for_the_last_where_100h_is_null() {
     expect_caught_behind_100h(|habits| Habits {
         memory: Memory::Last(1),
         again: Verdict::End,

@@ -52,7 +52,7 @@ fn empty_where_the_version_and_the_pointer_at_100h_are_0() {
 
 /// The pointer's bottom two bits are dropped before the word is tested, and the version is tested or not.
 #[test]
-fn empty_where_the_pointer_at_100h_leads_to_0() {
+fn empty_where_the_id_at_100h_is_0_and_the_pointer_leads_to_0() {
     expect_bits_caught(0xFFCF_FFFF);
     expect_bits_caught(0xFFC0_FFFF);
 }
@@ -80,27 +80,26 @@ fn the_word_at_100h_tested_by_one_of_its_bytes() {
     }
 }
 
-#[test]
-fn the_word_at_104h_tested_too() {
-    let subject = one_walked_by(EXTENDED, |list, space, room| {
+/// Sees that an extended list is caught which has one offset where the word at 100h is zero and the next is not.
+fn expect_offset_caught(offset: u16) {
+    let subject = one_walked_by(EXTENDED, move |list, space, room| {
         if word(space, 0x100) == 0 && word(space, 0x104) != 0 {
-            return listed(&[0x100], room);
+            return listed(&[offset], room);
         }
         right_walk(list, space, room)
     });
     expect_caught(subject, "walk_extended");
 }
 
+#[test]
+fn the_word_at_104h_tested_too() {
+    expect_offset_caught(0x100);
+}
+
 /// The list begins at 104h where the word at 100h is zero.
 #[test]
 fn a_zero_word_at_100h_passed_over() {
-    let subject = one_walked_by(EXTENDED, |list, space, room| {
-        if word(space, 0x100) == 0 && word(space, 0x104) != 0 {
-            return listed(&[0x104], room);
-        }
-        right_walk(list, space, room)
-    });
-    expect_caught(subject, "walk_extended");
+    expect_offset_caught(0x104);
 }
 
 #[test]
