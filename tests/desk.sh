@@ -55,8 +55,16 @@ packet 1B ->|the line's end stands where a word is wanted
 packet 1B -> 0|'0' stands where a word is wanted
 packet 1B -> number|the line's end stands where a number is still wanted
 packet 1B -> number 3,|the line's end stands where a word is wanted
-packet 1B -> number A|'A' is no answer number: those are 0 to 10, and the only numbers in decimal
-packet 1B -> number 11|'11' is too large here
+packet 1B -> number A|'A' is no answer number: those are 0 to 12, and the only numbers in decimal
+packet 1B -> number 13|'13' is too large here
+packet 1B -> number 7|'7' is given no more: a broken list is 11 or 12, with its place
+walk extended -> number 7|'7' is given no more: a broken list is 11 or 12, with its place
+walk extended -> number 12, place|the line's end stands where a number is still wanted
+walk extended -> number 12, place 100 104|'104' is a number too many
+walk extended -> number 12, place 1000|'1000' is too large here
+walk extended -> number 12, place 100, place 100|'place' says again what is expected already
+walk extended -> place 100, number 12|'place' stands where the expected number is wanted first
+packet 1B -> number 3, place 100|'place' cannot be expected of this
 packet 1B -> number 3 4|'4' is a number too many
 packet 1B -> number 3, number 3|'number' says again what is expected already
 packet 1B -> number 3, forgotten, captured 05 03|'captured' says again what is expected already
@@ -170,6 +178,7 @@ merge 0F 0F 0F 0F F0 F0 F0 F0 A5 A5 A5 A5 0F -> bytes AF AF AF AF
 walk extended -> number 0, offsets 100 104 108
 walk extended -> number 0, steps 3 100 4
 walk compatible -> number 0
+walk trusted -> number 12, place 724
 dvsec ordinary 200 -> number 0, header 1EC0 3 2 C, body 20A 2
 dvsec ordinary 300 -> number 0, header 1EC0 0 2 10, body 30A 6
 dual ordinary 040 -> number 0, alternate 6 5
@@ -202,7 +211,7 @@ wrong() {
     function other(number,   comma, last) {
         comma = sub(/,$/, "", number) ? "," : ""
         last = substr(number, length(number))
-        return substr(number, 1, length(number) - 1) (last == "5" ? "6" : "5") comma
+        return substr(number, 1, length(number) - 1) (last == "1" ? "2" : "1") comma
     }' "$1"
 }
 # asked FILE: each line on a board of its own
@@ -227,7 +236,7 @@ fi
 sed -n 's/^\(.* -> .*\), [a-z]* [0-9A-F ]*$/\1/p' "$work/right" >"$work/short"
 shorts=$(wc -l <"$work/short")
 asked "$work/short" | desk >"$work/out" 2>&1
-if [ "$shorts" -ge 11 ] && [ "$(tail -n 1 "$work/out")" = "checks $shorts, as expected 0, lines not understood 0" ]; then
+if [ "$shorts" -ge 12 ] && [ "$(tail -n 1 "$work/out")" = "checks $shorts, as expected 0, lines not understood 0" ]; then
     echo "ok desk, $shorts expectations without their last clause"
 else
     echo "FAILED desk, $shorts expectations without their last clause: $(tail -n 1 "$work/out")"

@@ -57,6 +57,16 @@ put "$work/below_floor.space" 0x06 '\x10'
 put "$work/below_floor.space" 0x34 '\x3c'
 put "$work/below_floor.space" 0x100 '\x23\x00\xc1\x0f'
 
+blank "$work/looping.space"
+put "$work/looping.space" 0x06 '\x10'
+put "$work/looping.space" 0x34 '\x40'
+put "$work/looping.space" 0x040 '\x05\x80'
+put "$work/looping.space" 0x080 '\x09\xc0'
+put "$work/looping.space" 0x0c0 '\x01\x40'
+put "$work/looping.space" 0x100 '\x0b\x00\x01\x14'
+put "$work/looping.space" 0x140 '\x0b\x00\x01\x18'
+put "$work/looping.space" 0x180 '\x0b\x00\x01\x14'
+
 blank "$work/letters.space"
 put "$work/letters.space" 0x06 '\xff'
 put "$work/letters.space" 0x34 '\xaf'
@@ -133,12 +143,12 @@ listing <samples/full.space >&- 2>"$work/errors"
 ended 'listing with standard output closed' $?
 if [ "$(cat "$work/errors")" = "$said" ]; then echo 'ok listing with standard output closed says so'; else echo "FAILED listing with standard output closed said $(head -c 200 "$work/errors")"; fi
 
-# shaped FILE: two parts, each refused or with as many lines as its heading says, and the end
+# shaped FILE: two parts, each refused with 11 or 12 and a place or with as many lines as its heading says, and the end
 shaped() {
     awk '
         left > 0 && $0 ~ entry { left--; next }
         left > 0 { exit }
-        part < 2 && $0 == name[part] " 7 refused" { part++; next }
+        part < 2 && $1 == name[part] && $2 ~ /^1[12]$/ && $3 ~ /^[0-9A-F][0-9A-F][048C]$/ && $4 == "refused" && NF == 4 { part++; next }
         part < 2 && $1 == name[part] && $2 ~ /^(0|[1-9][0-9]*)$/ && NF == 2 { left = $2; entry = line[part++]; next }
         part == 2 && $0 == "end" { part = 3; next }
         { part = 9 }

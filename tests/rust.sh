@@ -5,8 +5,8 @@
 page=docs/LIBRARY.md
 sources=hosts/thawribbon/src
 # The tests and examples that there are at least.
-least_tests=91
-least_examples=27
+least_tests=98
+least_examples=29
 export CARGO_TERM_COLOR=never
 
 # passed PART: how many tests, or examples, the last run of cargo test passed; it runs the examples last
@@ -80,6 +80,8 @@ page_notices() {
     other_page_rust "Rust program 1 of $page notices that it has not landed" 1 's/\[0xFF; SPACE\]/[0xF0; SPACE]/' 'done, and not landed'
     other_page_rust "Rust program 2 of $page stops at a board that is badly described" 2 's/function: 0/function: 8/' 'Error: BadDescription'
     if [ "$(grep -c '^dropped' "$work/log")" -ne 1 ]; then echo "FAILED Rust program 2 of $page goes on with a board that is badly described"; fi
+    other_page_rust "Rust program 3 of $page tells where a list is broken" 3 's/0x23, 0x00, 0x01, 0x14/0x23, 0x00, 0x01, 0x10/' \
+        "$(sed -n 's/.*the program would end with `\(Error: [^`]*\)`.*/\1/p' $page)"
     other_page_rust "Rust program 4 of $page stops where a port does not support TCS routing" 4 's/tcs: true/tcs: false/' 'Error: Refused(UnknownType)'
     other_page_rust "Rust program 4 of $page stops where no port has the bus" 4 's/0x06, 0x18/0x07, 0x18/' 'Error: Unsupported'
 }

@@ -233,18 +233,21 @@ static void outcomes_told(void)
     }
 }
 
-/* Eleven numbers have a text each, of their own; any other has that of no number. */
+/* The twelve numbers 0 to 6 and 8 to 12 have a text each, of their own; any other, 7 among them, has that of no number. */
 static void texts(void)
 {
-    const char *no_number = thawribbon_text(11);
-    unsigned one, other;
-    for (one = 0; one <= 10; one++) {
-        expect(strlen(thawribbon_text(one)) > 10, "hardly a text", one);
-        for (other = one + 1; other <= 11; other++) {
-            expect(strcmp(thawribbon_text(one), thawribbon_text(other)) != 0, "two numbers have one text", one);
+    static const unsigned numbers[12] = {0, 1, 2, 3, 4, 5, 6, 8, 9, 10, 11, 12}, none[4] = {7, 13, 255, UINT_MAX};
+    size_t one, other;
+    for (one = 0; one < 12; one++) {
+        expect(strlen(thawribbon_text(numbers[one])) > 10, "hardly a text", numbers[one]);
+        expect(strcmp(thawribbon_text(numbers[one]), thawribbon_text(7)) != 0, "a number has the text of none", numbers[one]);
+        for (other = one + 1; other < 12; other++) {
+            expect(strcmp(thawribbon_text(numbers[one]), thawribbon_text(numbers[other])) != 0, "two numbers have one text", numbers[one]);
         }
     }
-    expect(strcmp(thawribbon_text(255), no_number) == 0 && strcmp(thawribbon_text(UINT_MAX), no_number) == 0, "another text", 255);
+    for (one = 0; one < 4; one++) {
+        expect(strcmp(thawribbon_text(none[one]), "a number that is no answer") == 0, "another text", none[one]);
+    }
 }
 
 static void answer_texts(void)
@@ -255,7 +258,7 @@ static void answer_texts(void)
     answer.outcome = THAWRIBBON_UNSUPPORTED_REQUEST;
     expect(strncmp(thawribbon_answer_text(&answer), "Unsupported Request", 19) == 0, "another text of what is unsupported", 0);
     answer.outcome = THAWRIBBON_REFUSED;
-    for (number = 1; number <= 10; number++) {
+    for (number = 1; number <= 12; number++) {
         answer.number = (uint8_t)number;
         expect(strcmp(thawribbon_answer_text(&answer), thawribbon_text(number)) == 0, "another text of a refusal", number);
     }

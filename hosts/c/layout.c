@@ -17,6 +17,7 @@ HOLDS(served_capture, offsetof(thawribbon_served, capture) == 9);
 HOLDS(walked_size, sizeof(thawribbon_walked) == 16);
 HOLDS(walked_count, offsetof(thawribbon_walked, count) == 0);
 HOLDS(walked_number, offsetof(thawribbon_walked, number) == 8);
+HOLDS(walked_place, offsetof(thawribbon_walked, place) == 10);
 HOLDS(dvsec_size, sizeof(thawribbon_dvsec_header) == 8);
 HOLDS(dvsec_number, offsetof(thawribbon_dvsec_header, number) == 0);
 HOLDS(dvsec_revision, offsetof(thawribbon_dvsec_header, revision) == 1);

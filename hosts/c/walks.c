@@ -1,4 +1,5 @@
-/* The three lists through thawribbon_walk_..: P12, the longest chains, broken ones, null capabilities, every length of space and room; and headers. */
+/* The three lists through thawribbon_walk_..: P12, the longest chains, what breaks and where, null capabilities, every length of space and room;
+   and headers. */
 #include "first_day.h"
 
 #include "buffers.h"
@@ -55,8 +56,8 @@ static void chain(size_t which, size_t count, uint16_t last)
     }
 }
 
-/* A walk answers this number, and lists `count` offsets. The room is lent from room + 1 on. */
-static void walk_lists(size_t which, size_t room_length, uint8_t number, const uint16_t *offsets, size_t count, size_t at)
+/* A walk answers this number and this place, and lists `count` offsets. The room is lent from room + 1 on. */
+static void walk_tells(size_t which, size_t room_length, uint8_t number, uint16_t place, const uint16_t *offsets, size_t count, size_t at)
 {
     thawribbon_walked walked;
     size_t n;
@@ -70,9 +71,22 @@ static void walk_lists(size_t which, size_t room_length, uint8_t number, const u
     remember(&space);
     walked = lists[which].walk(lent(&space), space.length, room + 1, room_length);
     expect(walked.number == number, "another number", at);
+    expect(walked.place == place, "another place", at);
     expect(walked.count == count, "another count", at);
     expect(memcmp(room, expected_room, sizeof room) == 0, "the room is not as it should be", at);
     expect(is_as_expected(&space), "the space has changed", at);
+}
+
+/* The same of a walk that has no place to tell. */
+static void walk_lists(size_t which, size_t room_length, uint8_t number, const uint16_t *offsets, size_t count, size_t at)
+{
+    walk_tells(which, room_length, number, 0, offsets, count, at);
+}
+
+/* The same of a list that is broken, in a room of its maximum. */
+static void walk_breaks(size_t which, uint8_t number, uint16_t place, size_t at)
+{
+    walk_tells(which, lists[which].maximum, number, place, NULL, 0, at);
 }
 
 /* The same of offsets from the floor on, each the next word. */
@@ -89,7 +103,7 @@ static void walk_gives(size_t which, size_t room_length, uint8_t number, size_t 
 static void p12(void)
 {
     chain(1, 1, 0x100);
-    walk_gives(1, THAWRIBBON_EXTENDED_MAXIMUM, THAWRIBBON_BROKEN_CHAIN, 0, 0);
+    walk_breaks(1, THAWRIBBON_COMES_BACK, 0x100, 0);
 }
 
 static void walk_space_lengths(void)
@@ -117,15 +131,17 @@ static void walk_room_lengths(void)
             chain(which, 2, 0);
             walk_gives(which, length, enough ? THAWRIBBON_SERVED : THAWRIBBON_NO_ROOM, enough ? 2 : 0, length);
             chain(which, 2, lists[which].floor);
-            walk_gives(which, length, enough ? THAWRIBBON_BROKEN_CHAIN : THAWRIBBON_NO_ROOM, 0, length);
+            walk_tells(which, length, enough ? THAWRIBBON_COMES_BACK : THAWRIBBON_NO_ROOM,
+                       enough ? (uint16_t)(lists[which].floor + 4) : 0, NULL, 0, length);
         }
     }
 }
 
-/* Each list's longest chain, in a room of exactly the maximum, of one more and of one less; and led back to its start. */
+/* Each list's longest chain, in a room of exactly the maximum, of one more and of one less; and led back to its start, to itself, to its
+   middle and below its floor. */
 static void walk_maximum(void)
 {
-    size_t which;
+    size_t which, n;
     for (which = 0; which < LISTS; which++) {
         size_t maximum = lists[which].maximum;
         chain(which, maximum, 0);
@@ -133,27 +149,74 @@ static void walk_maximum(void)
         walk_gives(which, maximum, THAWRIBBON_SERVED, maximum, which);
         walk_gives(which, maximum + 1, THAWRIBBON_SERVED, maximum, which);
         walk_gives(which, maximum - 1, THAWRIBBON_NO_ROOM, 0, which);
-        chain(which, maximum, lists[which].floor);
-        walk_gives(which, maximum, THAWRIBBON_BROKEN_CHAIN, 0, which);
-        walk_gives(which, maximum - 1, THAWRIBBON_NO_ROOM, 0, which);
+        for (n = 0; n < 4; n++) {
+            const uint16_t last = (uint16_t)(lists[which].end - 4);
+            const uint16_t to[4] = {lists[which].floor, last, (uint16_t)(last / 2 & ~3), (uint16_t)(lists[which].floor - 4)};
+            chain(which, maximum, to[n]);
+            walk_breaks(which, n < 3 ? THAWRIBBON_COMES_BACK : THAWRIBBON_BELOW_FLOOR, last, n);
+            walk_gives(which, maximum - 1, THAWRIBBON_NO_ROOM, 0, which);
+        }
     }
 }
 
-/* Pointers that hold whoever follows them, and pointers 4 below the floor. */
+/* Chains of one to fifty headers, whose last one points to each of them, or below the floor: the place is that of the last. */
 static void walk_broken(void)
+{
+    size_t which, count, n;
+    for (which = 0; which < LISTS; which++) {
+        uint16_t lowest = lists[which].floor;
+        for (count = 1; count <= 50 && count <= lists[which].maximum; count++) {
+            const uint16_t last = (uint16_t)(lowest + 4 * (count - 1));
+            for (n = 0; n < count; n++) {
+                chain(which, count, (uint16_t)(lowest + 4 * n));
+                walk_breaks(which, THAWRIBBON_COMES_BACK, last, count);
+            }
+            for (n = 1; n < lowest; n++) {
+                chain(which, count, (uint16_t)n);
+                if (n < 4) {
+                    walk_gives(which, lists[which].maximum, THAWRIBBON_SERVED, count, count);
+                } else {
+                    walk_breaks(which, THAWRIBBON_BELOW_FLOOR, last, count);
+                }
+            }
+        }
+    }
+}
+
+/* A start below the floor is place 0, whatever stands behind it: of every such start of the two lists that can have one. */
+static void walk_start_below(void)
+{
+    size_t which, n;
+    for (which = 0; which < LISTS; which += 2) {
+        for (n = 0; n < lists[which].floor; n++) {
+            const uint8_t start = (uint8_t)n;
+            chain(which, 1, lists[which].floor);
+            put(&space, which == 0 ? 0x34 : 0x004, &start, 1);
+            if (n < 4) {
+                walk_gives(which, lists[which].maximum, THAWRIBBON_SERVED, 0, n);
+            } else {
+                walk_breaks(which, THAWRIBBON_BELOW_FLOOR, 0, n);
+            }
+        }
+    }
+}
+
+/* Only what the walk comes to is told: a fault that nothing leads to is none, and none is told after the first. */
+static void walk_first_fault(void)
 {
     size_t which;
     for (which = 0; which < LISTS; which++) {
-        size_t maximum = lists[which].maximum;
         uint16_t lowest = lists[which].floor;
-        chain(which, 1, lowest);
-        walk_gives(which, maximum, THAWRIBBON_BROKEN_CHAIN, 0, which);
-        chain(which, 3, (uint16_t)(lowest + 4));
-        walk_gives(which, maximum, THAWRIBBON_BROKEN_CHAIN, 0, which);
-        chain(which, 3, (uint16_t)(lowest - 4));
-        walk_gives(which, maximum, THAWRIBBON_BROKEN_CHAIN, 0, which);
-        chain(which, 3, 3);
-        walk_gives(which, maximum, THAWRIBBON_SERVED, 3, which);
+        chain(which, 2, lowest);
+        put_header(which, (uint16_t)(lowest + 8), (uint16_t)(lowest - 4));
+        walk_breaks(which, THAWRIBBON_COMES_BACK, (uint16_t)(lowest + 4), which);
+        chain(which, 2, (uint16_t)(lowest - 4));
+        put_header(which, (uint16_t)(lowest + 8), (uint16_t)(lowest + 8));
+        walk_breaks(which, THAWRIBBON_BELOW_FLOOR, (uint16_t)(lowest + 4), which);
+        chain(which, 2, 0);
+        put_header(which, (uint16_t)(lowest + 8), (uint16_t)(lowest - 4));
+        put_header(which, (uint16_t)(lowest + 12), (uint16_t)(lowest + 12));
+        walk_gives(which, lists[which].maximum, THAWRIBBON_SERVED, 2, which);
     }
 }
 
@@ -174,11 +237,13 @@ static void walk_null(void)
     for (bit = 0; bit < 32; bit++) {
         const uint8_t byte = (uint8_t)(1u << bit % 8);
         const uint16_t next = (uint16_t)(((uint32_t)1 << bit) >> 20 & 0xFFC), offsets[2] = {0x100, next};
-        const int broken = next != 0 && next <= 0x100;
         fill(&space, 0x00, THAWRIBBON_SPACE);
         put(&space, 0x100 + bit / 8, &byte, 1);
-        walk_lists(1, THAWRIBBON_EXTENDED_MAXIMUM, broken ? THAWRIBBON_BROKEN_CHAIN : THAWRIBBON_SERVED, offsets,
-                   broken ? 0 : next == 0 ? 1 : 2, bit);
+        if (next != 0 && next <= 0x100) {
+            walk_breaks(1, next < 0x100 ? THAWRIBBON_BELOW_FLOOR : THAWRIBBON_COMES_BACK, 0x100, bit);
+        } else {
+            walk_lists(1, THAWRIBBON_EXTENDED_MAXIMUM, THAWRIBBON_SERVED, offsets, next == 0 ? 1 : 2, bit);
+        }
     }
     chain(1, 3, 0);
     put(&space, 0x100, none, 2);
@@ -202,11 +267,11 @@ static void walk_nothing(void)
             lend_instead(&space, nothing);
             walk_gives(which, lists[which].maximum, THAWRIBBON_BAD_DESCRIPTION, 0, which);
             walked = lists[which].walk(nothing, 0, no_room, 0);
-            expect(walked.number == THAWRIBBON_BAD_DESCRIPTION && walked.count == 0, "another answer without both", which);
+            expect(walked.number == THAWRIBBON_BAD_DESCRIPTION && walked.count == 0 && walked.place == 0, "another answer without both", which);
             chain(which, 2, 0);
             remember(&space);
             walked = lists[which].walk(lent(&space), space.length, no_room, 0);
-            expect(walked.number == THAWRIBBON_NO_ROOM && walked.count == 0, "another answer without room", which);
+            expect(walked.number == THAWRIBBON_NO_ROOM && walked.count == 0 && walked.place == 0, "another answer without room", which);
             expect(is_as_expected(&space), "the space has changed", which);
         }
     }
@@ -268,6 +333,8 @@ void walks(void)
     group("walks, rooms of every length", walk_room_lengths);
     group("walks, the longest chains", walk_maximum);
     group("walks, broken chains", walk_broken);
+    group("walks, a start below the floor", walk_start_below);
+    group("walks, the first fault", walk_first_fault);
     group("walks, empty lists", walk_empty);
     group("walks, null capabilities", walk_null);
     group("walks, NULL and other pointers with length 0", walk_nothing);

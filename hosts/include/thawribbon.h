@@ -54,9 +54,9 @@ extern "C" {
 #endif
 
 /* The version of this header, and of the archive that came with it. */
-#define THAWRIBBON_VERSION "0.4.0"
+#define THAWRIBBON_VERSION "0.5.0"
 #define THAWRIBBON_VERSION_MAJOR 0
-#define THAWRIBBON_VERSION_MINOR 4
+#define THAWRIBBON_VERSION_MINOR 5
 #define THAWRIBBON_VERSION_PATCH 0
 
 /* An answer that is dropped is an answer that nobody looked at: compilers that can, warn. */
@@ -66,7 +66,7 @@ extern "C" {
 #define THAWRIBBON_MUST_USE
 #endif
 
-/* The answer numbers, and when each is given: by document 01, and at a router by document 02 too. */
+/* The answer numbers, and when each is given: by document 01, and by what document 02 adds and changes. 7 is given no more. */
 enum thawribbon_number {
     /* served; the completion, or at a router the verdict, may still be Unsupported Request (UR) */
     THAWRIBBON_SERVED = 0,
@@ -85,14 +85,16 @@ enum thawribbon_number {
     THAWRIBBON_WRONG_LENGTH = 5,
     /* a fixed header field has another value */
     THAWRIBBON_WRONG_FIELD = 6,
-    /* broken chain */
-    THAWRIBBON_BROKEN_CHAIN = 7,
     /* not the structure asked for */
     THAWRIBBON_OTHER_STRUCTURE = 8,
     /* a wrong length, or the structure runs out of its space */
     THAWRIBBON_WRONG_EXTENT = 9,
     /* function vector without exactly one bit */
-    THAWRIBBON_NOT_ONE_FUNCTION = 10
+    THAWRIBBON_NOT_ONE_FUNCTION = 10,
+    /* a pointer of the list is below its floor (rule 6.8) */
+    THAWRIBBON_BELOW_FLOOR = 11,
+    /* a pointer of the list leads to an offset that is already in the chain (rule 6.8) */
+    THAWRIBBON_COMES_BACK = 12
 };
 
 /* The bytes of a space, and of a rule space. */
@@ -157,7 +159,8 @@ typedef struct thawribbon_served {
 /* The answer of a walk. */
 typedef struct thawribbon_walked {
     size_t count;   /* how many offsets are listed: 0 where refused */
-    uint8_t number; /* 0, 1, 2 or 7 */
+    uint8_t number; /* 0, 1, 2, 11 or 12 */
+    uint16_t place; /* with 11 and 12, the offset of the structure that holds the pointer, or 0 where it is the list's start; else 0 */
 } thawribbon_walked;
 
 /* The answer to the first question about a DVSEC record. Every field but the number is 0 where refused. */
@@ -237,8 +240,10 @@ THAWRIBBON_MUST_USE thawribbon_capture thawribbon_reset(thawribbon_capture kept)
  *   0  a legal chain exists. The first `count` numbers of the room are its offsets in order, and the rest stays as lent.
  *   1  the space isn't 4,096 bytes.
  *   2  the room is under THAWRIBBON_COMPATIBLE_MAXIMUM numbers, also where the chain is shorter.
- *   7  no finite legal chain leads from the start to an end.
- * Any number but 0 leaves the room unchanged and gives count 0. The space is only read.
+ *  11  no finite legal chain leads from the start to an end: the walk came to a pointer below the floor.
+ *  12  no finite legal chain leads from the start to an end: the walk came to a pointer that leads to an offset already in the chain.
+ * With 11 and 12, `place` is the offset of the structure that holds that pointer, the first at fault on the way; with 11 it is 0 where the
+ * pointer is the list's start. Any number but 0 leaves the room unchanged and gives count 0. The space is only read.
  */
 THAWRIBBON_MUST_USE thawribbon_walked thawribbon_walk_compatible(const uint8_t *space, size_t space_length,
                                                                  uint16_t *room, size_t room_length);
@@ -248,8 +253,8 @@ THAWRIBBON_MUST_USE thawribbon_walked thawribbon_walk_compatible(const uint8_t *
  * also where the ID there is 0000h: a capability that a supplier blanked is still in the list, and so is what is behind it. A DVSEC record
  * asked for at a blanked offset is refused with 8. Behind 100h a header is listed whatever it holds.
  *
- * Takes, gives and leaves unchanged what thawribbon_walk_compatible does, with the numbers 0, 1, 2 and 7 of the same meanings; the room
- * must have THAWRIBBON_EXTENDED_MAXIMUM numbers.
+ * Takes, gives and leaves unchanged what thawribbon_walk_compatible does, with the numbers 0, 1, 2, 11 and 12 of the same meanings; the
+ * room must have THAWRIBBON_EXTENDED_MAXIMUM numbers.
  */
 THAWRIBBON_MUST_USE thawribbon_walked thawribbon_walk_extended(const uint8_t *space, size_t space_length,
                                                                uint16_t *room, size_t room_length);
@@ -257,8 +262,8 @@ THAWRIBBON_MUST_USE thawribbon_walked thawribbon_walk_extended(const uint8_t *sp
 /*
  * Walks the trusted list of a space: it starts where bits 11:0 of the word at 004h say.
  *
- * Takes, gives and leaves unchanged what thawribbon_walk_compatible does, with the numbers 0, 1, 2 and 7 of the same meanings; the room
- * must have THAWRIBBON_TRUSTED_MAXIMUM numbers.
+ * Takes, gives and leaves unchanged what thawribbon_walk_compatible does, with the numbers 0, 1, 2, 11 and 12 of the same meanings; the
+ * room must have THAWRIBBON_TRUSTED_MAXIMUM numbers.
  */
 THAWRIBBON_MUST_USE thawribbon_walked thawribbon_walk_trusted(const uint8_t *space, size_t space_length,
                                                               uint16_t *room, size_t room_length);
@@ -509,16 +514,18 @@ THAWRIBBON_MUST_USE static inline const char *thawribbon_text(unsigned number)
         return "the packet's length does not fit its type and digest bit";
     case THAWRIBBON_WRONG_FIELD:
         return "a fixed field of the packet's header has another value";
-    case THAWRIBBON_BROKEN_CHAIN:
-        return "the chain is broken: no finite legal chain leads from the list's start to an end";
     case THAWRIBBON_OTHER_STRUCTURE:
         return "this is not the structure asked for";
     case THAWRIBBON_WRONG_EXTENT:
         return "the structure has a wrong length, or runs out of its space";
     case THAWRIBBON_NOT_ONE_FUNCTION:
         return "the function vector does not have exactly one bit";
+    case THAWRIBBON_BELOW_FLOOR:
+        return "a pointer of the list is below its floor";
+    case THAWRIBBON_COMES_BACK:
+        return "a pointer of the list leads to an offset that is already in the chain";
     default:
-        return "a number that document 01 does not have";
+        return "a number that is no answer";
     }
 }
 

@@ -5,7 +5,7 @@ use mathlib.Core.Path.{_≡_, refl, sym, ap, _∙_}
 use native.Mathlib.Omega.{arith}
 use lib.ListN.{getD}
 use Rattle.answers.specs.declared.Refusal.{Refusal}
-use Rattle.answers.specs.declared.Refusal.the-variants.{BadDescription, NoRoom, ShortPacket, UnknownType, WrongLength, WrongField, BrokenChain, OtherStructure, WrongExtent, NotOneFunction}
+use Rattle.answers.specs.declared.Refusal.the-variants.{BadDescription, NoRoom, ShortPacket, UnknownType, WrongLength, WrongField, OtherStructure, WrongExtent, NotOneFunction, BelowFloor, ComesBack}
 use Rattle.answers.specs.declared.Answer.{Answer}
 use Rattle.answers.specs.declared.Answer.the-variants.{Done, Refused}
 use Rattle.answers.specs.Numbers.{numberOf, answerOf}
@@ -17,10 +17,14 @@ NumberTells = (r q : Refusal) → numberOf r ≡ numberOf q → r ≡ q
 abbrev pub AnswerTells : Type 0
 AnswerTells = (r q : Answer) → answerOf r ≡ answerOf q → r ≡ q
 
+-- document 02, 3/13
+abbrev pub NoSeven : Type 0
+NoSeven = (answer : Answer) → answerOf answer ≡ 7 → ⊥
+
 -- the refusal that a number stands for (the first, where it stands for none)
 refusalOf : ℕ → Refusal
 refusalOf n =
-    getD (BadDescription ∷ BadDescription ∷ NoRoom ∷ ShortPacket ∷ UnknownType ∷ WrongLength ∷ WrongField ∷ BrokenChain ∷ OtherStructure ∷ WrongExtent ∷ NotOneFunction ∷ []) n BadDescription
+    getD (BadDescription ∷ BadDescription ∷ NoRoom ∷ ShortPacket ∷ UnknownType ∷ WrongLength ∷ WrongField ∷ BadDescription ∷ OtherStructure ∷ WrongExtent ∷ NotOneFunction ∷ BelowFloor ∷ ComesBack ∷ []) n BadDescription
 
 back : (r : Refusal) → refusalOf (numberOf r) ≡ r
 unfolding refusalOf
@@ -30,10 +34,11 @@ back ShortPacket = refl
 back UnknownType = refl
 back WrongLength = refl
 back WrongField = refl
-back BrokenChain = refl
 back OtherStructure = refl
 back WrongExtent = refl
 back NotOneFunction = refl
+back BelowFloor = refl
+back ComesBack = refl
 
 pub number-tells : NumberTells
 number-tells r q e = sym (back r) ∙ ap refusalOf e ∙ back q
@@ -46,10 +51,29 @@ number-positive ShortPacket e = omega arith
 number-positive UnknownType e = omega arith
 number-positive WrongLength e = omega arith
 number-positive WrongField e = omega arith
-number-positive BrokenChain e = omega arith
 number-positive OtherStructure e = omega arith
 number-positive WrongExtent e = omega arith
 number-positive NotOneFunction e = omega arith
+number-positive BelowFloor e = omega arith
+number-positive ComesBack e = omega arith
+
+-- "7 is no longer given": no answer has that number
+pub no-seven : NoSeven
+no-seven Done e = omega arith
+no-seven (Refused r) e = none r e
+  where
+    none : (r : Refusal) → numberOf r ≡ 7 → ⊥
+    none BadDescription e = omega arith
+    none NoRoom e = omega arith
+    none ShortPacket e = omega arith
+    none UnknownType e = omega arith
+    none WrongLength e = omega arith
+    none WrongField e = omega arith
+    none OtherStructure e = omega arith
+    none WrongExtent e = omega arith
+    none NotOneFunction e = omega arith
+    none BelowFloor e = omega arith
+    none ComesBack e = omega arith
 
 pub answer-tells : AnswerTells
 answer-tells Done Done e = refl

@@ -1,13 +1,14 @@
--- Document 01, "Answer numbers": the number that each answer stands for. Assumes nothing.
+-- Document 01, "Answer numbers", and document 02, 3/13: the number that each answer stands for. Assumes nothing.
 use Prim.Native.Nat.{ℕ}
 use Rattle.answers.specs.declared.Refusal.{Refusal}
-use Rattle.answers.specs.declared.Refusal.the-variants.{BadDescription, NoRoom, ShortPacket, UnknownType, WrongLength, WrongField, BrokenChain, OtherStructure, WrongExtent, NotOneFunction}
+use Rattle.answers.specs.declared.Refusal.the-variants.{BadDescription, NoRoom, ShortPacket, UnknownType, WrongLength, WrongField, OtherStructure, WrongExtent, NotOneFunction, BelowFloor, ComesBack}
 use Rattle.answers.specs.declared.Answer.{Answer}
 use Rattle.answers.specs.declared.Answer.the-variants.{Done, Refused}
 
 -- 1 a space, device, function number or offset is out of its range · 2 no room · 3 fewer than 12 bytes · 4 not one of the six
--- types · 5 the packet's length · 6 a fixed header field · 7 broken chain · 8 not the structure asked for · 9 a wrong length, or out of
--- the space · 10 not exactly one function
+-- types · 5 the packet's length · 6 a fixed header field · 8 not the structure asked for · 9 a wrong length, or out of the space · 10 not
+-- exactly one function. Document 01's "7 broken chain" is split by document 02, 3/13: "11 for a pointer below the floor, 12 for a pointer to an offset
+-- already in the chain [..] 7 is no longer given"
 abbrev pub numberOf : Refusal → ℕ
 numberOf BadDescription = 1
 numberOf NoRoom = 2
@@ -15,10 +16,11 @@ numberOf ShortPacket = 3
 numberOf UnknownType = 4
 numberOf WrongLength = 5
 numberOf WrongField = 6
-numberOf BrokenChain = 7
 numberOf OtherStructure = 8
 numberOf WrongExtent = 9
 numberOf NotOneFunction = 10
+numberOf BelowFloor = 11
+numberOf ComesBack = 12
 
 -- 0 served; any other number, the refusal's
 abbrev pub answerOf : Answer → ℕ

@@ -1,4 +1,4 @@
-// Document 01's answer numbers, named once. Every answer of every public entry is one of these, and its
+// The answer numbers of document 01, with those of document 02 that are built, named once. Every answer of every public entry is one of these, and its
 // number is `numberOf` or `answerOf` of specs/Numbers.antt.
 ghost use mathlib.Core.Path.{_≡_};
 ghost use Rattle.answers.specs.Numbers.{numberOf, answerOf};
@@ -11,10 +11,11 @@ pub enum Refusal {
     UnknownType, // 4
     WrongLength, // 5
     WrongField, // 6
-    BrokenChain, // 7
     OtherStructure, // 8
     WrongExtent, // 9
     NotOneFunction, // 10
+    BelowFloor, // 11
+    ComesBack, // 12
 }
 
 pub enum Answer {
@@ -33,10 +34,11 @@ impl Refusal {
             Refusal::UnknownType => 4,
             Refusal::WrongLength => 5,
             Refusal::WrongField => 6,
-            Refusal::BrokenChain => 7,
             Refusal::OtherStructure => 8,
             Refusal::WrongExtent => 9,
             Refusal::NotOneFunction => 10,
+            Refusal::BelowFloor => 11,
+            Refusal::ComesBack => 12,
         }
     }
 }

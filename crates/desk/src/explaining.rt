@@ -21,22 +21,29 @@ use packet::Request;
 use packet::Target;
 use reasons::Cause;
 
-// What numbers mean at the switch stands in the table below behind what they mean at the board.
-pub const ROUTED: usize = 11;
+// What numbers mean at the switch stands in the table below before what they mean at the board.
+pub const ROUTED: usize = 0;
 
-pub const UNROUTED: usize = 12;
+pub const UNROUTED: usize = 1;
 
-pub const BAD_PORTS: usize = 13;
+pub const BAD_PORTS: usize = 2;
 
-pub const SHORT_BUFFER: usize = 14;
+pub const SHORT_BUFFER: usize = 3;
 
-pub const TYPE_0: usize = 15;
+pub const TYPE_0: usize = 4;
 
-pub const NO_TCS: usize = 16;
+pub const NO_TCS: usize = 5;
+
+const BOARD: usize = 6;
 
 // An answer number and what it means.
 pub fn put_number(number: u8) {
-    put_number_as(number, number as usize);
+    put_number_as(number, meaning_of(number));
+}
+
+// The place in the table of what a number means at the board.
+pub fn meaning_of(number: u8) -> usize {
+    BOARD + number as usize
 }
 
 // The same, where the number means something else: the meaning's place in the table.
@@ -46,25 +53,28 @@ pub fn put_number_as(number: u8, meaning: usize) {
     say(wording::END);
 }
 
+// The board gives no 7: 11 and 12 stand in its place.
 fn put_meaning(number: usize) {
     put(texts::entry(
-        b"answered
+        b"routed
+unsupported request (UR): no port has this bus
+badly described: more than 32 ports, a secondary over its subordinate, or two ranges that meet
+no room: the buffer for what leaves has fewer than 20 bytes
+a Type 0 request, which no switch passes on
+a trusted request, and its port does not support TCS routing
+answered
 badly described: a space of another size than 1000, or a number or an offset out of range
 no room: the reply's buffer or the list room is too small
 the packet has fewer than 12 bytes
 byte 0 without bit 7 is none of the six type codes
 the packet's length does not fit its type and digest bit
 TC, Attr or the last enables are not 0, or Length is not 1
-no finite legal chain: a pointer below the floor, or a loop
+
 another structure stands there
 the structure's length is wrong, or it does not fit
 its function vector has not exactly one bit
-routed
-unsupported request (UR): no port has this bus
-badly described: more than 32 ports, a secondary over its subordinate, or two ranges that meet
-no room: the buffer for what leaves has fewer than 20 bytes
-a Type 0 request, which no switch passes on
-a trusted request, and its port does not support TCS routing
+a pointer below the floor
+a pointer to an offset that is in the chain already
 ",
         number,
     ));

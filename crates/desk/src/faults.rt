@@ -59,6 +59,8 @@ pub const NO_CHAIN: usize = 23;
 
 pub const UNREAD: usize = 24;
 
+pub const NO_SEVEN: usize = 25;
+
 // A line is not understood: from `from` on it does not fit.
 pub fn tell(desk: &mut Desk, line: &[u8], from: usize, what: usize) {
     begin(desk);
@@ -109,7 +111,7 @@ says again what is expected already
 stands a second time
 stands outside an expectation
 stands where the expected number is wanted first
-is no answer number: those are 0 to 10, and the only numbers in decimal
+is no answer number: those are 0 to 12, and the only numbers in decimal
 has 4,000 characters or more; none of it is read
 has more than 128 words and numbers; none of it is read
 a sheet begins before the last one has ended
@@ -118,6 +120,7 @@ the sheet has no end: was it cut?
 a carriage return stands within the line; none of it is read
 the chain does not fit: its headers leave the space, or a pointer is too large
 the input could not be read to its end
+is given no more: a broken list is 11 or 12, with its place
 ",
         what,
     ));

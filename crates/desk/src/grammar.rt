@@ -66,11 +66,12 @@ walk            00 00 00000 00000 0 --- -------
 dvsec           01 01 FFFFF FFFFF 2 --- -------
 dual            01 01 FFFFF FFFFF 2 --- -------
 route           00 40 000FF 000FF - --- -------
-number          01 01 00010 00010 - --- 1--1111
+number          01 01 00012 00012 - --- 1--1111
 reply           01 14 000FF 000FF - --- 1------
 bytes           04 04 000FF 000FF - --- --1----
 offsets         01 40 0FFFF 0FFFF - --- ---1---
 steps           03 03 003FE 0FFFF - --- ---1---
+place           01 01 00FFF 00FFF - --- ---1---
 header          04 04 0FFFF 0FFFF - --- ----1--
 body            02 02 01000 01000 - --- ----1--
 alternate       02 02 000FF 000FF - --- -----1-
@@ -186,7 +187,7 @@ fn fault_of_number(tokens: &Tokens, head: usize, place: usize) -> usize {
     )
 }
 
-// What is wrong with a number behind a word that has so many already, of which this is the first. An answer number is written in decimal.
+// What is wrong with a number behind a word that has so many already, of which this is the first.
 fn fault_of_value(word: usize, first: usize, given: usize, number: usize) -> usize {
     if is_too_large(word, given, number) {
         return faults::TOO_LARGE;
@@ -195,9 +196,18 @@ fn fault_of_value(word: usize, first: usize, given: usize, number: usize) -> usi
         return faults::NO_FIT;
     }
     if word == NUMBER {
-        if 9 < number % 16 {
-            return faults::NO_ANSWER;
-        }
+        return fault_of_answer(number);
+    }
+    faults::NONE
+}
+
+// An answer number is written in decimal. 7 is none any more.
+fn fault_of_answer(number: usize) -> usize {
+    if 9 < number % 16 {
+        return faults::NO_ANSWER;
+    }
+    if number == 7 {
+        return faults::NO_SEVEN;
     }
     faults::NONE
 }

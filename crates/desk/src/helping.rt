@@ -29,12 +29,13 @@ Questions:
   dvsec SPACE N      the record at offset N; SPACE is ordinary or trusted; also: dual
   merge b b ..       four old bytes, four rules, four data bytes, the enables
 A question with an expectation is a check, and everything that is not said is expected to stay.
-A refusal has no reply, no port, no offsets and no fields.
-Only the answer numbers, 0 to 10, are decimal:
+A refusal has no reply, no port, no offsets and no fields; that of a broken list, 11 or 12, has the place of the fault, 0 for the start.
+Only the answer numbers, 0 to 12, are decimal:
   packet .. -> number N, reply b b .., captured BUS DEVICE, ordinary N b b .., trusted N b b ..
   route .. -> number N, port P, leaves b b ..      UR is number 0 without a port
   reset -> forgotten
   walk LIST -> number N, offsets N N ..      or: steps C F S, C offsets from F on by S
+  walk LIST -> number N, place P
   dvsec SPACE N -> number N, header VENDOR REVISION ID LENGTH, body N C
   dual SPACE N -> number N, alternate FUNCTION DEVICE
   merge .. -> bytes b b b b

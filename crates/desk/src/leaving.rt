@@ -11,7 +11,7 @@ use packet::Target;
 
 pub fn tell(packet: &[u8], number: u8, port: usize, left: &[u8]) {
     match packet::decode(packet) {
-        Decoded::Refused(_) => put_number(number, number as usize, left),
+        Decoded::Refused(_) => put_number(number, explaining::meaning_of(number), left),
         Decoded::Asks(asked) => {
             put_number(number, barred(asked), left);
             explaining::put_request(asked, packet);
@@ -42,7 +42,7 @@ fn put_number(number: u8, four: usize, left: &[u8]) {
         1 => explaining::BAD_PORTS,
         2 => explaining::SHORT_BUFFER,
         4 => four,
-        _ => number as usize,
+        _ => explaining::meaning_of(number),
     };
     explaining::put_number_as(number, meaning);
 }

@@ -76,25 +76,27 @@ pub const OFFSETS: usize = 33;
 
 pub const STEPS: usize = 34;
 
-pub const HEADER: usize = 35;
+pub const PLACE: usize = 35;
 
-pub const BODY: usize = 36;
+pub const HEADER: usize = 36;
 
-pub const ALTERNATE: usize = 37;
+pub const BODY: usize = 37;
 
-pub const PORT: usize = 38;
+pub const ALTERNATE: usize = 38;
 
-pub const LEAVES: usize = 39;
+pub const PORT: usize = 39;
+
+pub const LEAVES: usize = 40;
 
 // The lists, beside the trusted one.
-pub const COMPATIBLE: usize = 40;
+pub const COMPATIBLE: usize = 41;
 
-pub const EXTENDED: usize = 41;
+pub const EXTENDED: usize = 42;
 
 // The marks of an expectation.
-pub const ARROW: usize = 42;
+pub const ARROW: usize = 43;
 
-pub const COMMA: usize = 43;
+pub const COMMA: usize = 44;
 
 // The table has the words in the order of their numbers, from HELP on.
 pub fn word_of(text: &[u8]) -> usize {
@@ -133,6 +135,7 @@ reply
 bytes
 offsets
 steps
+place
 header
 body
 alternate

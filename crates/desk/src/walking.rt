@@ -1,4 +1,4 @@
-// A list of the board at the desk is walked. The number, the count and every entry of the room are told, or held against what is
+// A list of the board at the desk is walked. The number, the place, the count and every entry of the room are told, or held against what is
 // expected. The compatible and the extended list lie in the ordinary space, the trusted list in the trusted one.
 use crate::explaining;
 use crate::judging;
@@ -8,9 +8,12 @@ use crate::tokens;
 use crate::tokens::Tokens;
 use crate::vocabulary;
 use crate::wording;
+use crate::wording::say;
 use crate::wording::say_one;
 use crate::wording::say_three;
 use crate::wording::say_two;
+use answers::Answer;
+use answers::Refusal;
 use lists::Kind;
 use lists::Walked;
 ghost use Rattle.io.specs.Counts.{Counts};
@@ -67,16 +70,23 @@ fn number_of(walked: Walked) -> u8 {
     answer.number()
 }
 
-// The number; the offsets that are expected one by one, and then so many by steps; the rest of the room is untouched.
+// The number; the place; the offsets that are expected one by one, and then so many by steps; the rest of the room is untouched.
 fn judge(desk: &Desk, tokens: &Tokens, walked: Walked, room: &Room) -> bool {
     let mut wanted = [UNTOUCHED; ROOM];
     let listed = list(&mut wanted, tokens);
     let stepped = step(&mut wanted, tokens, listed);
-    let number = judging::number(desk, tokens, number_of(walked));
+    let told = judge_told(desk, tokens, walked);
     if judging::value(desk, wording::WRONG_COUNT, walked.count, stepped) {
-        return number & judge_entries(desk, room, &wanted);
+        return told & judge_entries(desk, room, &wanted);
     }
     false
+}
+
+// A place that is not said is 0.
+fn judge_told(desk: &Desk, tokens: &Tokens, walked: Walked) -> bool {
+    let place = tokens::at(tokens, tokens::behind(tokens, vocabulary::PLACE));
+    let number = judging::number(desk, tokens, number_of(walked));
+    number & judging::value(desk, wording::WRONG_PLACE, walked.place as usize, place)
 }
 
 // Tells the first entry that is another.
@@ -150,12 +160,29 @@ fn step(room: &mut Room, tokens: &Tokens, before: usize) -> usize {
     std::num::wrapping_add_usize(before, steps)
 }
 
-// The number, and where it is 0 the headers that were listed.
+// The number; where it is 0 the headers that were listed, and where the list is broken the place.
 fn tell(kind: Kind, space: &[u8], walked: Walked, room: &Room) {
-    explaining::put_number(number_of(walked));
-    if number_of(walked) == 0 {
-        say_one(wording::LISTED, walked.count);
-        tell_headers(kind, space, walked.count, room);
+    let answer = walked.answer;
+    explaining::put_number(answer.number());
+    match answer {
+        Answer::Done => {
+            say_one(wording::LISTED, walked.count);
+            tell_headers(kind, space, walked.count, room);
+        }
+        Answer::Refused(refusal) => tell_place(refusal, walked.place),
+    }
+}
+
+fn tell_place(refusal: Refusal, place: u16) {
+    match refusal {
+        Refusal::BelowFloor | Refusal::ComesBack => {
+            if place == 0 {
+                say(wording::NO_HOLDER);
+            } else {
+                say_one(wording::HOLDER, place as usize);
+            }
+        }
+        _ => {}
     }
 }
 

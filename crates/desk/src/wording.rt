@@ -59,62 +59,68 @@ pub const SHORT_HEADER: usize = 23;
 
 pub const LONG_HEADER: usize = 24;
 
-pub const ALTERNATE: usize = 25;
+pub const HOLDER: usize = 25;
 
-pub const HEADER: usize = 26;
+pub const NO_HOLDER: usize = 26;
 
-pub const BODY: usize = 27;
+pub const ALTERNATE: usize = 27;
+
+pub const HEADER: usize = 28;
+
+pub const BODY: usize = 29;
 
 // What leaves the switch.
-pub const LEAVES: usize = 28;
+pub const LEAVES: usize = 30;
 
-pub const TURNED: usize = 29;
+pub const TURNED: usize = 31;
 
 // What is not as expected.
-pub const DIFFERENCE: usize = 30;
+pub const DIFFERENCE: usize = 32;
 
-pub const WRONG_NUMBER: usize = 31;
+pub const WRONG_NUMBER: usize = 33;
 
-pub const WRONG_LENGTH: usize = 32;
+pub const WRONG_LENGTH: usize = 34;
 
-pub const WRONG_BYTE: usize = 33;
+pub const WRONG_BYTE: usize = 35;
 
-pub const WRONG_CAPTURE: usize = 34;
+pub const WRONG_CAPTURE: usize = 36;
 
-pub const EXPECTED_CAPTURE: usize = 35;
+pub const EXPECTED_CAPTURE: usize = 37;
 
-pub const WRONG_BYTES: usize = 36;
+pub const WRONG_BYTES: usize = 38;
 
-pub const WRONG_COUNT: usize = 37;
+pub const WRONG_COUNT: usize = 39;
 
-pub const WRONG_ENTRY: usize = 38;
+pub const WRONG_PLACE: usize = 40;
 
-pub const WRONG_FIELDS: usize = 39;
+pub const WRONG_ENTRY: usize = 41;
 
-pub const WRONG_FIELD: usize = 40;
+pub const WRONG_FIELDS: usize = 42;
 
-pub const WRONG_BODY: usize = 41;
+pub const WRONG_FIELD: usize = 43;
 
-pub const WRONG_BODY_PLACE: usize = 42;
+pub const WRONG_BODY: usize = 44;
 
-pub const WRONG_PORT: usize = 43;
+pub const WRONG_BODY_PLACE: usize = 45;
 
-pub const WRONG_LEAVING: usize = 44;
+pub const WRONG_PORT: usize = 46;
 
-pub const WRONG_LEAVING_BYTE: usize = 45;
+pub const WRONG_LEAVING: usize = 47;
+
+pub const WRONG_LEAVING_BYTE: usize = 48;
 
 // The session.
-pub const LINE: usize = 46;
+pub const LINE: usize = 49;
 
-pub const PROMPT: usize = 47;
+pub const PROMPT: usize = 50;
 
-pub const QUOTE: usize = 48;
+pub const QUOTE: usize = 51;
 
-pub const UNQUOTE: usize = 49;
+pub const UNQUOTE: usize = 52;
 
-pub const LINE_END: usize = 50;
+pub const LINE_END: usize = 53;
 
-pub const TALLY: usize = 51;
+pub const TALLY: usize = 54;
 
 // A text with its numbers, as many as it has places for.
 pub fn say_all(
@@ -151,6 +157,8 @@ nothing
   listed: %v%n
   %3: ID %2%n
   %3: ID %4 version %1%n
+  place %3: the structure that holds it%n
+  place 0: the start of the list itself%n
   alternate: function %1 device %2%n
   vendor %4 revision %1 ID %4 length %3%n
   body:
@@ -164,6 +172,7 @@ captured%_
 , expected%_
 bytes
 count %v, expected %v%n
+place %v, expected %v%n
 room entry %v is %4, expected %4%n
 count of fields %v, expected %v%n
 field %v, expected %v%n

@@ -1,6 +1,6 @@
 -- THEOREMS. Request 2/13 of document 02: what it corrects, and what it leaves. By document 01's row as it stood and by the one that holds, the
 -- extended list is answered alike but for a space with ID 0000h and another bit set at 100h. There the answer was an empty list, and is now the
--- chain that begins at 100h, or 7 where there is none. Assumes nothing.
+-- chain that begins at 100h, or what broke in it. Assumes nothing.
 use Prim.Native.Nat.{ℕ}
 use mathlib.Core.Bool.{Bool, true, false}
 use mathlib.Core.List.{List, [], _++_}
@@ -16,8 +16,10 @@ use Rattle.lists.specs.declared.Kind.the-variants.{Extended}
 use Rattle.lists.specs.declared.Walked.{Walked}
 use Rattle.lists.specs.Table.{ListRule, describe, unlessEmpty}
 use Rattle.lists.specs.Chain.{Legal, Legal.ends, Legal.goes, HasChain, NoChain, dropped, first, follows}
+use Rattle.lists.specs.Breaks.{Breaks}
 use Rattle.lists.specs.Walks.{WholeSpace, Roomy, Refuses, Lists, Walks, Walks.misdescribed, Walks.roomless, Walks.broken, Walks.listed, numberGiven}
-use Rattle.lists.proofs.Alike.{alike}
+use Rattle.lists.proofs.Breaking.{breaks-unique, breaks-unending}
+use Rattle.lists.proofs.Alike.{alike, breaks-alike}
 use Rattle.lists.proofs.FirstWord.{first-none, first-some, empty-exactly}
 use Rattle.lists.proofs.OneChain.{legal-unique}
 use Rattle.lists.proofs.Unique.{walk-unique}
@@ -32,10 +34,10 @@ uncorrected =
       maximum = describe Extended .maximum;
     }
 
--- what a walk by a rule answers, of a space and a room that have their sizes: the rule's chain, or 7
+-- what a walk by a rule answers, of a space and a room that have their sizes: the rule's chain, or what broke
 pub record AnswersBy (list : ListRule) (s room : List ℕ) (r : Walked) (after : List ℕ) : Type 0 where
   pub served : (chain : List ℕ) → HasChain list s chain → Lists chain room r after
-  pub refused : NoChain list s → Refuses 7 room r after
+  pub refused : (number place : ℕ) → Breaks list s number place → Refuses number place room r after
 
 -- ID 0000h at 100h, and another bit of the word set
 pub record Blanked (s : List ℕ) : Type 0 where
@@ -70,7 +72,7 @@ OldRuleCaught = (s room : List ℕ) (r : Walked) (after : List ℕ) → WholeSpa
 
 abbrev pub OldRuleAnswers : Type 0
 OldRuleAnswers = (s room : List ℕ)
-    → (Blanked s → AnswersBy uncorrected s room (record { answer = Done; count = 0 }) room)
+    → (Blanked s → AnswersBy uncorrected s room (record { answer = Done; place = 0; count = 0 }) room)
     × ((r : Walked) (after : List ℕ) → WholeSpace s → Roomy Extended room → (Blanked s → ⊥) → Walks Extended s room r after
     → AnswersBy uncorrected s room r after)
 
@@ -111,6 +113,10 @@ pub elsewhere-alike : ElsewhereAlike
 unfolding follows
 elsewhere-alike s not chain = alike (same-first s not) refl (λ at aligned. refl) chain
 
+pub elsewhere-breaks : (s : List ℕ) → (Blanked s → ⊥) → (number place : ℕ) → Breaks uncorrected s number place ↔ Breaks (describe Extended) s number place
+unfolding follows
+elsewhere-breaks s not number place = breaks-alike (same-first s not) refl (λ at aligned. refl) number place
+
 pub nothing-there : (s : List ℕ) → Blanked s → HasChain uncorrected s []
 nothing-there s b = ends (old-none s (b .noId)) refl
 
@@ -128,8 +134,8 @@ meets : (s room : List ℕ) (r q : Walked) (l m : List ℕ) → WholeSpace s →
     → AnswersBy uncorrected s room r l → Walks Extended s room q m → Walks Extended s room r l
 meets s room r q l m whole roomy not a (misdescribed n x) = absurd (n whole)
 meets s room r q l m whole roomy not a (roomless h n x) = absurd (n roomy)
-meets s room r q l m whole roomy not a (broken h k none x) =
-    broken whole roomy none (a .refused (λ chain old. none chain (elsewhere-alike s not chain .0 old)))
+meets s room r q l m whole roomy not a (broken h k number place b x) =
+    broken whole roomy number place b (a .refused number place (elsewhere-breaks s not number place .1 b))
 meets s room r q l m whole roomy not a (listed h k chain has x) =
     listed whole roomy chain has (a .served chain (elsewhere-alike s not chain .1 has))
 
@@ -154,23 +160,28 @@ answers : (s room : List ℕ) (r : Walked) (after : List ℕ) → WholeSpace s �
     → AnswersBy uncorrected s room r after
 answers s room r after whole roomy not (misdescribed n x) = absurd (n whole)
 answers s room r after whole roomy not (roomless h n x) = absurd (n roomy)
-answers s room r after whole roomy not (broken h k none x) =
-    record { served = λ chain old. absurd (none chain (elsewhere-alike s not chain .0 old)); refused = λ never. x }
+answers s room r after whole roomy not (broken h k number place b x) =
+    record {
+      served = λ chain old. absurd (breaks-unending b chain (elsewhere-alike s not chain .0 old));
+      refused = λ other there old.
+          let same = breaks-unique _ _ _ _ _ _ b (elsewhere-breaks s not other there .0 old) in
+          subst (λ (n : ℕ). Refuses n there room r after) (same .0) (subst (λ (p : ℕ). Refuses number p room r after) (same .1) x);
+    }
 answers s room r after whole roomy not (listed h k chain has x) =
     record {
       served =
           λ other old. subst (λ (c : List ℕ). Lists c room r after) (legal-unique has (elsewhere-alike s not other .0 old)) x;
-      refused = λ never. absurd (never chain (elsewhere-alike s not chain .1 has));
+      refused = λ number place old. absurd (breaks-unending (elsewhere-breaks s not number place .0 old) chain has);
     }
 
 -- a walk that lists nothing answers by it where something is
-nothing-listed : (s room : List ℕ) → Blanked s → AnswersBy uncorrected s room (record { answer = Done; count = 0 }) room
-nothing-listed s room b = record { served = none; refused = λ never. absurd (never [] (nothing-there s b)) }
+nothing-listed : (s room : List ℕ) → Blanked s → AnswersBy uncorrected s room (record { answer = Done; place = 0; count = 0 }) room
+nothing-listed s room b = record { served = none; refused = λ number place old. absurd (breaks-unending old [] (nothing-there s b)) }
   where
-    none : (chain : List ℕ) → HasChain uncorrected s chain → Lists chain room (record { answer = Done; count = 0 }) room
+    none : (chain : List ℕ) → HasChain uncorrected s chain → Lists chain room (record { answer = Done; place = 0; count = 0 }) room
     none chain l =
         let e = none-behind-zero l (old-none s (b .noId)) in
-        record { given = refl; counted = sym (ap length e); listed = sym (ap (λ (c : List ℕ). c ++ drop (length c) room) e) }
+        record { given = refl; counted = sym (ap length e); whole = refl; listed = sym (ap (λ (c : List ℕ). c ++ drop (length c) room) e) }
 
 pub old-rule-answers : OldRuleAnswers
 old-rule-answers s room = (nothing-listed s room, answers s room)

@@ -1,6 +1,6 @@
 -- THEOREMS. Request 2/13 of document 02: "zeroing its ID and keeping its pointer" loses nothing, whichever structure of a space it is done to and
--- wherever its list goes, unless it leaves a zero word at 100h: the extended list has the chain that it had, or none where it had none. For the IDs
--- and versions do not matter: spaces with the same pointers, and no zero word at 100h, have the same chains. Assumes nothing.
+-- wherever its list goes, unless it leaves a zero word at 100h: the extended list has the chain that it had, or breaks where it broke. For the IDs
+-- and versions do not matter: spaces with the same pointers, and no zero word at 100h, have the same chains, and break alike. Assumes nothing.
 use Prim.Native.Nat.{ℕ, zero, suc, _+_, _-_, _/_, _%_, _≤_, _<_}
 use mathlib.Core.Bool.{Bool, true, false}
 use mathlib.Core.List.{List, [], _∷_}
@@ -16,17 +16,22 @@ use Rattle.words.proofs.Laws.{put-there, put-before, put-after}
 use Rattle.lists.specs.declared.Kind.the-variants.{Extended}
 use Rattle.lists.specs.Table.{describe, extendedNext}
 use Rattle.lists.specs.Chain.{HasChain, dropped, follows}
+use Rattle.lists.specs.Breaks.{Breaks}
 use Rattle.lists.specs.Walks.{WholeSpace}
 use Rattle.lists.proofs.Pointers.{Bytes}
-use Rattle.lists.proofs.Alike.{alike}
+use Rattle.lists.proofs.Alike.{alike, breaks-alike}
 use Rattle.lists.proofs.FirstWord.{first-some}
 use Rattle.lists.proofs.Lost.{lost}
+
+-- two spaces whose extended lists have the same chain, or break in the same way and at the same place
+pub record SameList (s t : List ℕ) : Type 0 where
+  pub chained : (chain : List ℕ) → HasChain (describe Extended) s chain ↔ HasChain (describe Extended) t chain
+  pub broken : (number place : ℕ) → Breaks (describe Extended) s number place ↔ Breaks (describe Extended) t number place
 
 -- the statements
 abbrev pub SamePointers : Type 0
 SamePointers = (s t : List ℕ) → (word s 0x100 ≡ 0 → ⊥) → (word t 0x100 ≡ 0 → ⊥)
-    → ((at : ℕ) → at % 4 ≡ 0 → bits 31 20 (word s at) ≡ bits 31 20 (word t at)) → (chain : List ℕ)
-    → HasChain (describe Extended) s chain ↔ HasChain (describe Extended) t chain
+    → ((at : ℕ) → at % 4 ≡ 0 → bits 31 20 (word s at) ≡ bits 31 20 (word t at)) → SameList s t
 
 -- a space of bytes with the ID at an offset zeroed, "ID 15:0"
 abbrev pub blankedAt : List ℕ → ℕ → List ℕ
@@ -34,7 +39,7 @@ blankedAt s at = put s at (0x00 ∷ 0x00 ∷ [])
 
 abbrev pub BlankingLosesNone : Type 0
 BlankingLosesNone = (s : List ℕ) (at : ℕ) → WholeSpace s → Bytes s → at % 4 ≡ 0 → at < 4096 → (word (blankedAt s at) 0x100 ≡ 0 → ⊥)
-    → (chain : List ℕ) → HasChain (describe Extended) s chain ↔ HasChain (describe Extended) (blankedAt s at) chain
+    → SameList s (blankedAt s at)
 
 -- the list that was lost is one whose first structure was blanked
 abbrev pub LostByBlanking : Type 0
@@ -44,7 +49,9 @@ LostByBlanking = (s : List ℕ) × WholeSpace s × Bytes s × (bits 15 0 (word s
 
 pub same-pointers : SamePointers
 unfolding follows extendedNext
-same-pointers s t n m g chain = alike (first-some s n ∙ sym (first-some t m)) refl (λ at aligned. ap dropped (g at aligned)) chain
+same-pointers s t n m g =
+    let start = first-some s n ∙ sym (first-some t m) in
+    record { chained = alike start refl (λ at aligned. ap dropped (g at aligned)); broken = breaks-alike start refl (λ at aligned. ap dropped (g at aligned)) }
 
 -- the pointer of a word is in its last two bytes
 pointer-of : (a b c d x y : ℕ) → a < 256 → b < 256 → x < 256 → y < 256 → bits 31 20 (joined a b c d) ≡ bits 31 20 (joined x y c d)
@@ -94,8 +101,8 @@ module _ (s : List ℕ) (at : ℕ) (aligned : at % 4 ≡ 0) (below : at < 4096) 
       (b o) (b (o + 1)) (small o) (small (o + 1)))
 
 pub blanking-loses-none : BlankingLosesNone
-blanking-loses-none s at whole b aligned below some chain =
-    same-pointers s (blankedAt s at) (λ z. some (zero-stays s at aligned below whole 0x100 z)) some (pointer-kept s at aligned below whole b) chain
+blanking-loses-none s at whole b aligned below some =
+    same-pointers s (blankedAt s at) (λ z. some (zero-stays s at aligned below whole 0x100 z)) some (pointer-kept s at aligned below whole b)
 
 -- ---- the example
 

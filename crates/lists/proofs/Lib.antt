@@ -3,7 +3,14 @@ pub mod NoRepeats
 pub mod Pointers
 pub mod Maxima
 pub mod Attained
-pub mod Reaching
+pub mod Breaking
+pub mod Latest
+pub mod Tested
+pub mod Telling
+pub mod Misplaced
+pub mod Course
+pub mod Following
+pub mod Marking
 pub mod Walking
 pub mod Decides
 pub mod Numbers

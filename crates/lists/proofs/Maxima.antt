@@ -2,7 +2,7 @@
 -- of what the pointers reach, and a chain repeats none of them. Assumes nothing.
 use Prim.Native.Nat.{ℕ, zero, suc, _+_, _*_, _/_, _≤_, _<_}
 use mathlib.Core.Bool.{Bool, true, false}
-use mathlib.Core.List.{List, _∷_, List·Memᴰ, List·Memᴰ·not-nil, List·Memᴰ·cases-cons, Memᴰ·cast, List·Memᴰ.List·Memᴰ·head, List·Memᴰ.List·Memᴰ·tail}
+use mathlib.Core.List.{List, [], _∷_, List·Memᴰ, List·Memᴰ·not-nil, List·Memᴰ·cases-cons, Memᴰ·cast, List·Memᴰ.List·Memᴰ·head, List·Memᴰ.List·Memᴰ·tail}
 use mathlib.Core.Logic.{_⊎_, inl, inr, ⊎-elim}
 use mathlib.Core.Path.{_≡_, refl, sym, ap, subst}
 use native.Mathlib.Omega.{arith}
@@ -11,9 +11,12 @@ use lib.Dec.{eqb}
 use lib.ListN.{length}
 use Rattle.lists.specs.declared.Kind.{Kind}
 use Rattle.lists.specs.declared.Kind.the-variants.{Compatible, Extended, Trusted}
-use Rattle.lists.specs.Table.{describe}
-use Rattle.lists.specs.Chain.{Legal, Legal.ends, Legal.goes, HasChain}
-use Rattle.lists.proofs.NoRepeats.{Distinct, Distinct.none, Distinct.more, legal-repeats-none}
+use Rattle.lists.specs.Table.{ListRule, describe}
+use Rattle.lists.specs.Chain.{HasChain}
+use Rattle.lists.specs.Breaks.{met, Back}
+use Rattle.lists.specs.Inner.{Leading}
+use Rattle.lists.proofs.Course.{chain-met, new-before}
+use Rattle.lists.proofs.NoRepeats.{Distinct, Distinct.none, Distinct.more}
 use Rattle.lists.proofs.Pointers.{Bytes, Within, span, first-within, follows-within}
 
 abbrev pub ChainMaximum : Type 0
@@ -82,19 +85,50 @@ floor-aligned Compatible = refl
 floor-aligned Extended = refl
 floor-aligned Trusted = refl
 
-module _ (kind : Kind) (s : List ℕ) (bytes : Bytes s) where
-  place : {x : ℕ} → Within kind x → describe kind .floor ≤ x → Place (describe kind .floor) (describe kind .maximum) x
-  place w high = record { aligned = w .aligned; above = high; below = omega (arith, w .below, spans kind) }
+-- the offsets that the first so many pointers lead to, the last one first
+passed : ListRule → List ℕ → ℕ → List ℕ
+passed list s zero = []
+passed list s (suc n) = met list s n ∷ passed list s n
 
-  placed : {pointer : ℕ} {chain : List ℕ} → Within kind pointer → Legal (describe kind) s pointer chain
-      → (x : ℕ) → List·Memᴰ x chain → Place (describe kind .floor) (describe kind .maximum) x
-  placed w (ends z e) x m = absurd (List·Memᴰ·not-nil (subst (λ (l : List ℕ). List·Memᴰ x l) e m))
-  placed {pointer} w (goes n high l e) x m =
-      ⊎-elim (λ q. subst (λ (y : ℕ). Place (describe kind .floor) (describe kind .maximum) y) (sym q) (place w high))
-      (placed (follows-within kind s pointer bytes) l x)
-      (List·Memᴰ·cases-cons (subst (λ (c : List ℕ). List·Memᴰ x c) e m))
+passed-length : (list : ListRule) (s : List ℕ) (n : ℕ) → length (passed list s n) ≡ n
+unfolding passed
+passed-length list s zero = refl
+passed-length list s (suc n) = ap suc (passed-length list s n)
+
+passed-met : (list : ListRule) (s : List ℕ) (n : ℕ) {x : ℕ} → List·Memᴰ x (passed list s n) → (k : ℕ) × (k < n) × (x ≡ met list s k)
+unfolding passed
+passed-met list s zero m = absurd (List·Memᴰ·not-nil m)
+passed-met list s (suc n) m =
+    ⊎-elim (λ e. (n, omega arith, e)) (λ rest. let t = passed-met list s n rest in (t .0, omega (arith, t .1), t .2)) (List·Memᴰ·cases-cons m)
+
+passed-distinct : (list : ListRule) (s : List ℕ) (n : ℕ) → ((k : ℕ) → k < n → Back list s k → ⊥) → Distinct (passed list s n)
+unfolding passed
+passed-distinct list s zero new = none
+passed-distinct list s (suc n) new =
+    more (λ m. let t = passed-met list s n m in new n (omega arith) (record { earlier = t .0; before = t .1; same = t .2 }))
+    (passed-distinct list s n (λ k small. new k (omega arith)))
+
+module _ (kind : Kind) (s : List ℕ) (bytes : Bytes s) where
+  pub met-within : (n : ℕ) → Within kind (met (describe kind) s n)
+  unfolding met
+  met-within zero = first-within kind s bytes
+  met-within (suc n) = follows-within kind s (met (describe kind) s n) bytes
+
+  -- pointers that lead on, and of which none comes back, are at most the maximum
+  pub leading-maximum : (n : ℕ) → Leading (describe kind) s n → ((k : ℕ) → k < n → Back (describe kind) s k → ⊥) → n ≤ describe kind .maximum
+  leading-maximum n l new =
+      omega (
+        arith,
+        passed-length (describe kind) s n,
+        pigeonhole (describe kind .floor) (describe kind .maximum) (floor-aligned kind) (passed-distinct (describe kind) s n new)
+            (λ x m.
+            let t = passed-met (describe kind) s n m in
+            let w = met-within (t .0) in
+            subst (λ (y : ℕ). Place (describe kind .floor) (describe kind .maximum) y) (sym (t .2))
+            (record { aligned = w .aligned; above = l .above (t .0) (t .1); below = omega (arith, w .below, spans kind) })),
+      )
 
 pub chain-maximum : ChainMaximum
-chain-maximum kind s bytes chain l =
-    pigeonhole (describe kind .floor) (describe kind .maximum) (floor-aligned kind) (legal-repeats-none _ _ _ _ l)
-    (placed kind s bytes (first-within kind s bytes) l)
+chain-maximum kind s bytes chain legal =
+    let t = chain-met legal in
+    leading-maximum kind s bytes (length chain) (t .0) (new-before (t .0) (inl (t .1)))

@@ -14,7 +14,7 @@ use Rattle.lists.specs.declared.Kind.{Kind}
 use Rattle.lists.specs.declared.Kind.the-variants.{Compatible, Extended, Trusted}
 use Rattle.lists.specs.Table.{ListRule, describe, compatibleStart, extendedStart, trustedStart, compatibleNext, extendedNext, unlessEmpty}
 use Rattle.lists.specs.Chain.{dropped, first, follows}
-use Rattle.lists.specs.Inner.{Raw, Word, Header, pointerIn}
+use Rattle.lists.specs.Inner.{Raw, Word, Header, Half, Whole, pointerIn}
 
 -- every element of a lent space is a byte
 abbrev pub Bytes : List ℕ → Type 0
@@ -75,19 +75,16 @@ first-word d s p o = record { is = rw (← p .is) (o .is); inside = o .inside }
 top-bits : (w header : ℕ) → header ≡ w → header < 4294967296 → header / 1048576 ≡ bits 31 20 w
 top-bits w header e h = omega arith
 
--- the pointer that the code takes from a header is the one that the table says, and has at most twelve bits
-pub pointer-small : (kind : Kind) (header : ℕ) → header < 4294967296 → pointerIn kind header < 0x1000
-pointer-small Compatible header h = omega arith
-pointer-small Extended header h = omega arith
-pointer-small Trusted header h = omega arith
+-- the pointer that the code takes from a header is the one that the table says
+pub half-header : (s : List ℕ) (at : ℕ) {header : ℕ} → Half s at header → Header Compatible s at header
+unfolding compatibleNext
+half-header s at h = record { is = h .is; small = omega (arith, h .small) }
 
-pointer-there : (kind : Kind) (s : List ℕ) (at header : ℕ) → Header s at header → pointerIn kind header ≡ describe kind .next s at
-unfolding compatibleNext extendedNext
-pointer-there Compatible s at header h = h .second
-pointer-there Extended s at header h = top-bits (word s at) header (h .is) (h .small)
-pointer-there Trusted s at header h = top-bits (word s at) header (h .is) (h .small)
+pub whole-header : (s : List ℕ) (at : ℕ) {header : ℕ} → Whole s at header → Raw (extendedNext s at) (header / 1048576)
+unfolding extendedNext
+whole-header s at {header} h = record { is = top-bits (word s at) header (h .is) (h .small); small = omega (arith, h .small) }
 
-pub follows-word : (kind : Kind) (s : List ℕ) (at : ℕ) {header pointer number : ℕ} → Header s at header → pointer ≡ pointerIn kind header
+pub follows-word : (kind : Kind) (s : List ℕ) (at header : ℕ) {pointer number : ℕ} → Header kind s at header → pointer ≡ pointerIn kind header
     → Word (dropped pointer) number → Word (follows (describe kind) s at) number
 unfolding follows
-follows-word kind s at {header} h p o = record { is = rw (← pointer-there kind s at header h, ← p) (o .is); inside = o .inside }
+follows-word kind s at header h p o = record { is = rw (← h .is, ← p) (o .is); inside = o .inside }

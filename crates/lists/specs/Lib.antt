@@ -1,4 +1,5 @@
 pub mod Table
 pub mod Chain
+pub mod Breaks
 pub mod Walks
 pub mod Inner

@@ -1,21 +1,23 @@
-// The capability lists of a lent configuration space: the chain of one of three lists, or why there is none.
+// The capability lists of a lent configuration space: the chain of one of three lists, or what broke in it, and where.
 // `walk` answers for every list, space and room. It follows the pointers once, at most the list's maximum of them, and nothing scans
 // the space. A refusal leaves the room as it was lent.
 use answers::Answer;
 use answers::Refusal;
 use chase::Chased;
+use chase::Step;
 pub use table::COMPATIBLE_MAXIMUM;
 pub use table::EXTENDED_MAXIMUM;
 pub use table::TRUSTED_MAXIMUM;
 ghost use mathlib.Core.Path.{_≡_};
 ghost use Prim.Native.Nat.{_*_, _≤_, _<_};
-ghost use lib.ListN.{length};
+ghost use lib.ListN.{length, take};
 ghost use Rattle.lists.specs.Table.{describe};
-ghost use Rattle.lists.specs.Walks.{Walks, WholeSpace, Roomy};
-ghost use Rattle.lists.specs.Inner.{Underway, Logged, Answers};
+ghost use Rattle.lists.specs.Walks.{Walks, WholeSpace, Roomy, Lists};
+ghost use Rattle.lists.specs.Inner.{Underway, Stops, Words, Onward, RefusedAt, Told};
 
 mod chase; // chase.rt: a chain is followed, a step at a time
-mod logs; // logs.rt: offsets are copied from one list of them to another
+mod logs; // logs.rt: lists of offsets
+mod marks; // marks.rt: where a list comes back for the first time
 mod table; // table.rt: the three lists, as document 01 describes them
 
 // The three lists.
@@ -25,9 +27,11 @@ pub enum Kind {
     Trusted,
 }
 
-// What a walk answers: the count is that of the headers read, 0 where it is refused.
+// What a walk answers. The place, where the list is broken, is the offset of the structure that holds the pointer at fault, or 0 where the
+// start itself is at fault, and 0 otherwise. The count is that of the headers read, 0 where the walk is refused.
 pub struct Walked {
     pub answer: Answer,
+    pub place: u16,
     pub count: usize,
 }
 
@@ -41,68 +45,101 @@ pub fn walk(kind: Kind, space: &[u8], room: &mut [u16]) -> Walked
     ensures { λ r. ⌜ Walks kind (now (space .entry)) (now (room .entry)) r (now (room .exit)) ⌝ }
 {
     if space.len() != words::SPACE {
-        return refused(Refusal::BadDescription);
+        return refused(Refusal::BadDescription, 0);
     }
     if room.len() < table::maximum(kind) {
-        return refused(Refusal::NoRoom);
+        return refused(Refusal::NoRoom, 0);
     }
-    // A call for each list, so that each walk is compiled for its own.
+    // Two calls, so that the walk is no part of this function, and is compiled for each list where that is known.
     match kind {
         Kind::Compatible => walk_short(Kind::Compatible, space, room),
-        Kind::Extended => walk_short(Kind::Extended, space, room),
-        Kind::Trusted => walk_short(Kind::Trusted, space, room),
+        _ => walk_short(kind, space, room),
     }
 }
 
-fn refused(refusal: Refusal) -> Walked
-    ensures { λ r. ⌜ (r .answer ≡ Answer.Refused refusal) × (r .count ≡ 0) ⌝ }
+fn refused(refusal: Refusal, place: u16) -> Walked
+    ensures { λ r. ⌜ RefusedAt refusal place r ⌝ }
 {
     Walked {
         answer: Answer::Refused(refusal),
+        place,
         count: 0,
     }
 }
 
-// The walk with a short log, and with a long one where the chain goes on and the list may be longer.
+// The walk with a short log: a chain that ends in it is listed. What else there may be is two calls, as above, so that this function stays small
+// enough to be compiled for each list.
 fn walk_short(kind: Kind, space: &[u8], room: &mut [u16]) -> Walked
     requires { ⌜ WholeSpace (now space) × Roomy kind (now room) ⌝ }
     ensures { λ r. ⌜ Walks kind (now (space .entry)) (now (room .entry)) r (now (room .exit)) ⌝ }
 {
     let mut log = [0u16; SHORT];
     let start = table::first(kind, space);
-    let chased = chase::chase(kind, space, &mut log, 0, start);
-    let Chased::Full(number) = chased else {
-        return answered(chased, &log, room);
-    };
-    if table::maximum(kind) <= SHORT {
-        return refused(Refusal::BrokenChain);
+    match chase::chase(kind, space, &mut log, 0, start) {
+        Chased::Ended(count) => listed(&log, count, room),
+        Chased::Stopped(count, number) => match kind {
+            Kind::Compatible => go_on(Kind::Compatible, space, &log, count, number, room),
+            _ => go_on(kind, space, &log, count, number, room),
+        },
     }
-    walk_long(kind, space, &log, number, room)
+}
+
+// The walk from where it stopped: with a long log where the short one was full and the list may be longer, and else it is broken.
+fn go_on(
+    kind: Kind,
+    space: &[u8],
+    short: &[u16; SHORT],
+    count: usize,
+    number: usize,
+    room: &mut [u16],
+) -> Walked
+    requires { ⌜ Stops kind (now space) (now short) count (4 * number) × Roomy kind (now room) ⌝ }
+    ensures { λ r. ⌜ Walks kind (now (space .entry)) (now (room .entry)) r (now (room .exit)) ⌝ }
+{
+    if count == SHORT {
+        if SHORT < table::maximum(kind) {
+            return walk_long(kind, space, short, number, room);
+        }
+    }
+    broken(kind, short, count, number)
 }
 
 // The walk from where a short log was full: to the list's maximum.
-fn walk_long(kind: Kind, space: &[u8], short: &[u16], number: u32, room: &mut [u16]) -> Walked
+fn walk_long(kind: Kind, space: &[u8], short: &[u16], number: usize, room: &mut [u16]) -> Walked
     requires { ⌜ Underway kind (now space) (now short) (length (now short)) (4 * number) × Roomy kind (now room) × (length (now short) ≡ 48) × (48 < describe kind .maximum) ⌝ }
     ensures { λ r. ⌜ Walks kind (now (space .entry)) (now (room .entry)) r (now (room .exit)) ⌝ }
 {
     let mut log = [0u16; LONG];
     let most = table::maximum(kind);
     logs::copy(short, SHORT, &mut log);
-    let chased = chase::chase(kind, space, &mut log[..most], SHORT, number);
-    answered(chased, &log[..most], room)
+    match chase::chase(kind, space, &mut log[..most], SHORT, number) {
+        Chased::Ended(count) => listed(&log[..most], count, room),
+        Chased::Stopped(count, last) => broken(kind, &log[..most], count, last),
+    }
 }
 
-// The answer of a chase that is not gone on with: the offsets of its log are listed where it ended, and it is broken otherwise.
-fn answered(chased: Chased, log: &[u16], room: &mut [u16]) -> Walked
-    requires { ⌜ Logged chased (now log) × (length (now log) ≤ length (now room)) ⌝ }
-    ensures { λ r. ⌜ Answers chased (now (log .entry)) (now (room .entry)) r (now (room .exit)) ⌝ }
+// The chain in a log is listed in the room.
+fn listed(log: &[u16], count: usize, room: &mut [u16]) -> Walked
+    requires { ⌜ (count ≤ length (now log)) × (count ≤ length (now room)) ⌝ }
+    ensures { λ r. ⌜ Lists (take count (now (log .entry))) (now (room .entry)) r (now (room .exit)) ⌝ }
 {
-    let Chased::Ended(count) = chased else {
-        return refused(Refusal::BrokenChain);
-    };
     logs::copy(log, count, room);
     Walked {
         answer: Answer::Done,
+        place: 0,
         count,
     }
+}
+
+// What broke in a list, with so many offsets passed and a pointer that it did not go on by: it is below the floor; or the list comes back, and is
+// told where it does so first.
+fn broken(kind: Kind, log: &[u16], count: usize, number: usize) -> Walked
+    requires { ⌜ (count ≤ length (now log)) × Words (take count (now log)) × Onward (4 * number) ⌝ }
+    ensures { λ r. ⌜ Told (describe kind) (now (log .entry)) count (4 * number) r ⌝ }
+{
+    if let Step::Fault = chase::step_to(kind, number) {
+        return refused(Refusal::BelowFloor, logs::last(log, count));
+    }
+    let index = marks::first_again(&log[..count]);
+    refused(Refusal::ComesBack, logs::last(log, index))
 }

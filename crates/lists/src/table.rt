@@ -5,7 +5,7 @@ ghost use Prim.Native.Nat.{_*_, _≤_, _<_};
 ghost use Rattle.lists.specs.Table.{describe, compatibleStart, extendedStart, trustedStart};
 ghost use Rattle.lists.specs.Chain.{dropped, first, follows};
 ghost use Rattle.lists.specs.Walks.{WholeSpace};
-ghost use Rattle.lists.specs.Inner.{Raw, Word, Header, pointerIn};
+ghost use Rattle.lists.specs.Inner.{Raw, Word, Header, Half, Whole, pointerIn};
 
 // The compatible list: a bit of the status byte says that there is one, and a byte points to its first header.
 const STATUS: usize = 0x06;
@@ -14,25 +14,25 @@ const CAPABILITIES: u8 = 4;
 
 const COMPATIBLE_START: usize = 0x34;
 
-const COMPATIBLE_FLOOR: u32 = 0x040;
+const COMPATIBLE_FLOOR: usize = 0x040;
 
 pub const COMPATIBLE_MAXIMUM: usize = 48;
 
 // The extended list: its first header has a fixed place, and a word of 0 there says that there is none.
 const EXTENDED_START: usize = 0x100;
 
-const EXTENDED_FLOOR: u32 = 0x100;
+const EXTENDED_FLOOR: usize = 0x100;
 
 pub const EXTENDED_MAXIMUM: usize = 960;
 
 // The trusted list: a word points to its first header.
 const TRUSTED_START: usize = 0x004;
 
-const TRUSTED_FLOOR: u32 = 0x008;
+const TRUSTED_FLOOR: usize = 0x008;
 
 pub const TRUSTED_MAXIMUM: usize = 1022;
 
-pub(crate) fn floor(kind: Kind) -> u32
+pub(crate) fn floor(kind: Kind) -> usize
     ensures { λ r. ⌜ r ≡ describe kind .floor ⌝ }
 {
     match kind {
@@ -53,7 +53,7 @@ pub(crate) fn maximum(kind: Kind) -> usize
 }
 
 // The number of the word that holds the list's first header, or 0.
-pub(crate) fn first(kind: Kind, space: &[u8]) -> u32
+pub(crate) fn first(kind: Kind, space: &[u8]) -> usize
     requires { ⌜ WholeSpace (now space) ⌝ }
     ensures { λ r. ⌜ Word (first (describe kind) (now (space .entry))) r ⌝ }
 {
@@ -61,29 +61,50 @@ pub(crate) fn first(kind: Kind, space: &[u8]) -> u32
 }
 
 // The number of the word that the header in a word points to, or 0.
-pub(crate) fn follow(kind: Kind, space: &[u8], number: u32) -> u32
+pub(crate) fn follow(kind: Kind, space: &[u8], number: usize) -> usize
     requires { ⌜ WholeSpace (now space) × (4 * number ≤ 0xffc) ⌝ }
     ensures { λ r. ⌜ Word (follows (describe kind) (now (space .entry)) (4 * number)) r ⌝ }
 {
-    let header = word_of(space, number);
+    let header = header_of(kind, space, number);
     numbered(next(kind, header))
 }
 
-// The word of the space with a number.
-fn word_of(space: &[u8], number: u32) -> u32
+// The header in a word of the space: two bytes of the compatible list, four of the others.
+fn header_of(kind: Kind, space: &[u8], number: usize) -> u32
     requires { ⌜ WholeSpace (now space) × (4 * number ≤ 0xffc) ⌝ }
-    ensures { λ r. ⌜ Header (now (space .entry)) (4 * number) r ⌝ }
+    ensures { λ r. ⌜ Header kind (now (space .entry)) (4 * number) r ⌝ }
 {
-    let at = 4 * (number as usize);
+    match kind {
+        Kind::Compatible => half_of(space, number),
+        Kind::Extended => word_of(space, number),
+        Kind::Trusted => word_of(space, number),
+    }
+}
+
+// The lower half of the word of the space with a number.
+fn half_of(space: &[u8], number: usize) -> u32
+    requires { ⌜ WholeSpace (now space) × (4 * number ≤ 0xffc) ⌝ }
+    ensures { λ r. ⌜ Half (now (space .entry)) (4 * number) r ⌝ }
+{
+    let at = 4 * number;
+    words::joined(space[at], space[at + 1], 0, 0)
+}
+
+// The word of the space with a number.
+fn word_of(space: &[u8], number: usize) -> u32
+    requires { ⌜ WholeSpace (now space) × (4 * number ≤ 0xffc) ⌝ }
+    ensures { λ r. ⌜ Whole (now (space .entry)) (4 * number) r ⌝ }
+{
+    let at = 4 * number;
     words::joined(space[at], space[at + 1], space[at + 2], space[at + 3])
 }
 
 // The word that a pointer without its bottom two bits leads to, by its number in the space.
-fn numbered(pointer: u32) -> u32
+fn numbered(pointer: u32) -> usize
     requires { ⌜ pointer < 0x1000 ⌝ }
     ensures { λ r. ⌜ Word (dropped pointer) r ⌝ }
 {
-    pointer >> 2
+    (pointer >> 2) as usize
 }
 
 fn start(kind: Kind, space: &[u8]) -> u32
@@ -129,7 +150,7 @@ fn next(kind: Kind, header: u32) -> u32
     ensures { λ r. ⌜ r ≡ pointerIn kind header ⌝ }
 {
     match kind {
-        Kind::Compatible => (header >> 8) & 0xff,
+        Kind::Compatible => header >> 8,
         Kind::Extended => header >> 20,
         Kind::Trusted => header >> 20,
     }

@@ -8,3 +8,4 @@ pub mod Unique
 pub mod Longest
 pub mod Sample
 pub mod Blanked
+pub mod Broken

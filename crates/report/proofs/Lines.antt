@@ -13,8 +13,8 @@ use Rattle.words.specs.Fields.{word}
 use Rattle.lists.specs.Table.{describe}
 use Rattle.report.specs.declared.section.Section.{Section}
 use Rattle.report.specs.declared.section.Section.the-variants.{Compatible, Extended}
-use Rattle.report.specs.Text.{ascii, digit, line, decimal, figures}
-use Rattle.report.specs.Listing.{Style, compatibleEntry, extendedEntry, heading, refused, entries}
+use Rattle.report.specs.Text.{ascii, digit, line, hex, decimal, figures}
+use Rattle.report.specs.Listing.{Style, compatibleEntry, extendedEntry, heading, refused, refusedAt, entries}
 use Rattle.report.specs.Inner.{kindOf, style, width, title}
 use Rattle.report.proofs.Numerals.{decimal-length, figures-most, figures-few}
 
@@ -50,6 +50,9 @@ pub extended-line : (s : List ℕ) (at : ℕ)
 unfolding extendedEntry
 extended-line s at = simp (div-one, low-12, low-8, low-4, low-0, one-digit)
 
+pub hex-three : (n : ℕ) → hex 3 n ≡ digit (n / 256 % 16) ∷ digit (n / 16 % 16) ∷ digit (n % 16) ∷ []
+hex-three n = simp div-one
+
 -- ---- lengths
 
 pub line-length : (section : Section) (s : List ℕ) (at : ℕ) → length (line (style section .entry s at)) ≡ width section
@@ -84,6 +87,10 @@ module _ (name : List ℕ) (n : ℕ) where
   pub refused-line : name ++ (ascii " " ++ decimal n ++ line (ascii " refused")) ≡ refused name n
   unfolding refused
   refused-line = simp append-assoc
+
+  pub refused-at-line : (fault : ℕ) → name ++ (ascii " " ++ decimal n ++ (ascii " " ++ hex 3 fault ++ line (ascii " refused"))) ≡ refusedAt name n fault
+  unfolding refusedAt
+  refused-at-line fault = simp append-assoc
 
 pub name-length : (section : Section) → length (style section .name) ≤ 10
 name-length Compatible = lit≤ tt

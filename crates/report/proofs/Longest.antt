@@ -20,7 +20,7 @@ NoneLonger = (s out : List ℕ) → Bytes s → Says s out → length out ≤ 10
 part-length : (section : Section) {s out : List ℕ} → Bytes s → Part (style section) s out → length out ≤ most section
 part-length section {s} bytes (listed chain l e) =
     omega (arith, ap length e, section-length section s chain (chain-maximum (kindOf section) s bytes chain (rw (style-list section) l)))
-part-length section bytes (broken n e) = omega (arith, ap length e, refused-length section 7)
+part-length section bytes (broken number place b e) = omega (arith, ap length e, refused-length section number place)
 
 pub none-longer : NoneLonger
 unfolding refused decimal

@@ -1,12 +1,13 @@
 -- THEOREM. A second result that meets the promise of `report::listing` is the same result: the length and the text afterwards.
--- It comes down to one listing for each input, and that to one chain for each list. Assumes nothing.
+-- It comes down to one listing for each input, and that to one chain or one fault for each list. Assumes nothing.
 use Prim.Native.Nat.{ℕ}
 use mathlib.Core.List.{List, _++_}
 use mathlib.Core.Path.{_≡_, sym, ap, ap₂, _∙_}
 use lib.ListN.{length, drop}
 use Rattle.lists.proofs.OneChain.{legal-unique}
+use Rattle.lists.proofs.Breaking.{breaks-unique, breaks-unending}
 use Rattle.report.specs.Text.{ascii, line}
-use Rattle.report.specs.Listing.{Style, heading, entries, Part, Part.listed, Part.broken, Says, Says.other, Says.parts}
+use Rattle.report.specs.Listing.{Style, heading, refusedAt, entries, Part, Part.listed, Part.broken, Says, Says.other, Says.parts}
 use Rattle.report.specs.Prints.{Prints}
 
 abbrev pub ListingUnique : Type 0
@@ -18,9 +19,11 @@ SaysUnique = (s a b : List ℕ) → Says s a → Says s b → a ≡ b
 pub part-unique : {style : Style} {s a b : List ℕ} → Part style s a → Part style s b → a ≡ b
 part-unique {style} {s} (listed chain l e) (listed same o f) =
     e ∙ ap (λ (c : List ℕ). heading (style .name) (length c) ++ entries style s c) (legal-unique l o) ∙ sym f
-part-unique (listed chain l e) (broken n f) = absurd (n chain l)
-part-unique (broken n e) (listed chain l f) = absurd (n chain l)
-part-unique (broken n e) (broken m f) = e ∙ sym f
+part-unique (listed chain l e) (broken number place b f) = absurd (breaks-unending b chain l)
+part-unique (broken number place b e) (listed chain l f) = absurd (breaks-unending b chain l)
+part-unique {style} {s} (broken m p b e) (broken n q c f) =
+    let same = breaks-unique (style .list) s m n p q b c in
+    e ∙ ap₂ (refusedAt (style .name)) (same .0) (same .1) ∙ sym f
 
 pub says-unique : SaysUnique
 says-unique s a b (other n e) (other m f) = e ∙ sym f

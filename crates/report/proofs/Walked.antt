@@ -11,24 +11,21 @@ use Rattle.answers.specs.declared.Answer.the-variants.{Done, Refused}
 use Rattle.answers.specs.Numbers.{numberOf, answerOf}
 use Rattle.answers.proofs.Unique.{number-positive}
 use Rattle.lists.specs.declared.Kind.{Kind}
-use Rattle.lists.specs.declared.Kind.the-variants as kind
 use Rattle.lists.specs.declared.Walked.{Walked}
 use Rattle.lists.specs.Table.{describe}
-use Rattle.lists.specs.Chain.{Legal, Legal.ends, Legal.goes, HasChain, NoChain}
+use Rattle.lists.specs.Chain.{Legal, Legal.ends, Legal.goes, HasChain}
+use Rattle.lists.specs.Breaks.{Breaks}
 use Rattle.lists.specs.Walks.{WholeSpace, Roomy, Walks, Walks.misdescribed, Walks.roomless, Walks.broken, Walks.listed}
-use Rattle.lists.proofs.Pointers.{Bytes, Within, span, first-within, follows-within}
+use Rattle.lists.proofs.Pointers.{Bytes, Within, first-within, follows-within}
+use Rattle.lists.proofs.Breaking.{span-most}
+use Rattle.lists.proofs.Decides.{broken-number}
 use Rattle.report.specs.declared.section.Section.{Section}
 use Rattle.report.specs.declared.section.Section.the-variants.{Compatible, Extended}
-use Rattle.report.specs.Listing.{Part, Part.listed, Part.broken, heading, refused, entries}
+use Rattle.report.specs.Listing.{Part, Part.listed, Part.broken, heading, refusedAt, entries}
 use Rattle.report.specs.Inner.{kindOf, style, most, Added, Told, Inside, Chained, Roomed}
 use Rattle.report.proofs.Writing.{section-length, refused-length}
 
 -- ---- the offsets of a chain
-
-span-most : (kind : Kind) → span kind ≤ 0x1000
-span-most kind.Compatible = lit≤ tt
-span-most kind.Extended = lit≤ tt
-span-most kind.Trusted = lit≤ tt
 
 module _ (kind : Kind) (s : List ℕ) (bytes : Bytes s) where
   legal-inside : {pointer : ℕ} {chain : List ℕ} → Within kind pointer → Legal (describe kind) s pointer chain → Inside chain
@@ -46,18 +43,20 @@ module _ {kind : Kind} {s room : List ℕ} {r : Walked} {after : List ℕ} (size
   found : Walks kind s room r after → r .answer ≡ Done → (r .count ≤ length after) × HasChain (describe kind) s (take (r .count) after)
   found (misdescribed n a) e = absurd (n size)
   found (roomless h n a) e = absurd (n roomy)
-  found (broken h k n a) e = absurd (omega (arith, a .given, ap answerOf e))
+  found (broken h k number place b a) e = absurd (broken-number b (sym (a .given) ∙ ap answerOf e))
   found (listed h k chain l a) e =
       let front : take (r .count) after ≡ chain = rw (a .listed) (take-at chain (drop (length chain) room) (r .count) (sym (a .counted))) in (
         omega (arith, a .counted, ap length (a .listed), length-append chain (drop (length chain) room)),
         subst (λ (offsets : List ℕ). HasChain (describe kind) s offsets) (sym front) l,
       )
 
-  -- it is refused: there is no chain, and the number says so
-  unfound : {refusal : Refusal} → Walks kind s room r after → r .answer ≡ Refused refusal → NoChain (describe kind) s × (numberOf refusal ≡ 7)
+  -- it is refused: the list breaks, and the number and the place say how
+  unfound : {refusal : Refusal} → Walks kind s room r after → r .answer ≡ Refused refusal → Breaks (describe kind) s (numberOf refusal) (r .place)
   unfound (misdescribed n a) e = absurd (n size)
   unfound (roomless h n a) e = absurd (n roomy)
-  unfound (broken h k n a) e = (n, sym (ap answerOf e) ∙ a .given)
+  unfound (broken h k number place b a) e =
+      subst (λ (n : ℕ). Breaks (describe kind) s n (r .place)) (sym (a .given) ∙ ap answerOf e)
+      (subst (λ (p : ℕ). Breaks (describe kind) s number p) (sym (a .told)) b)
   unfound {refusal} (listed h k chain l a) e = absurd (number-positive refusal (sym (ap answerOf e) ∙ a .given))
 
 -- ---- the part that is written of it
@@ -97,12 +96,13 @@ module _ {section : Section} {s room text : List ℕ} {place : ℕ} (ready : Roo
     }
 
   pub walked-broken : {refusal : Refusal} → r .answer ≡ Refused refusal → {q : ℕ} {next : List ℕ}
-      → Added (refused (style section .name) (numberOf refusal)) text place q next → Told (Part (style section) s) (most section) text place q next
+      → Added (refusedAt (style section .name) (numberOf refusal) (r .place)) text place q next
+      → Told (Part (style section) s) (most section) text place q next
   walked-broken {refusal} e added =
-      let none = unfound (ready .space) (omega (arith, ready .whole)) kept walks-shown e in
+      let b = unfound (ready .space) (omega (arith, ready .whole)) kept walks-shown e in
       record {
-        bytes = refused (style section .name) (numberOf refusal);
-        known = broken (rw (← style-list section) (none .0)) (ap (refused (style section .name)) (none .1));
-        short = refused-length section (numberOf refusal);
+        bytes = refusedAt (style section .name) (numberOf refusal) (r .place);
+        known = broken (numberOf refusal) (r .place) (rw (← style-list section) b) refl;
+        short = refused-length section (numberOf refusal) (r .place);
         added = added;
       }

@@ -1,6 +1,6 @@
 -- Laws of a section as it is written: its lines one after the other, and what the walk of its list answered. Assumes nothing.
 use Prim.Native.Nat.{ℕ, _+_, _*_, _≤_, _<_}
-use mathlib.Core.List.{List, [], _∷_, _++_}
+use mathlib.Core.List.{List, [], _∷_, _++_, append-assoc}
 use mathlib.Core.Path.{_≡_, ap, _∙_}
 use native.Mathlib.Nat.{le-of-lt}
 use native.Mathlib.Omega.{arith}
@@ -10,11 +10,11 @@ use lib.Seq.{length-take-le, take-length}
 use Rattle.lists.specs.Table.{describe}
 use Rattle.report.specs.declared.section.Section.{Section}
 use Rattle.report.specs.declared.section.Section.the-variants.{Compatible, Extended}
-use Rattle.report.specs.Text.{ascii, line, decimal}
-use Rattle.report.specs.Listing.{heading, refused, entries}
+use Rattle.report.specs.Text.{ascii, line, hex, decimal}
+use Rattle.report.specs.Listing.{heading, refused, refusedAt, entries}
 use Rattle.report.specs.Inner.{kindOf, style, width, title, most, Added, Fits, Ready, Chained}
 use Rattle.report.proofs.Adding.{added-length, added-then, added-as}
-use Rattle.report.proofs.Lines.{line-length, entries-length, entries-more, heading-line, refused-line, name-length, heading-length}
+use Rattle.report.proofs.Lines.{line-length, entries-length, entries-more, heading-line, refused-line, refused-at-line, name-length, heading-length}
 use Rattle.report.proofs.Numerals.{decimal-length, figures-most}
 
 -- ---- a line for each offset
@@ -73,7 +73,7 @@ lines-room : (section : Section) (n : ℕ) → n ≤ describe (kindOf section) .
 lines-room Compatible n h = omega arith
 lines-room Extended n h = omega arith
 
-pub name-room : (section : Section) → 23 ≤ most section
+pub name-room : (section : Section) → 27 ≤ most section
 name-room Compatible = lit≤ tt
 name-room Extended = lit≤ tt
 
@@ -114,26 +114,49 @@ module _ {section : Section} {s offsets text : List ℕ} {place : ℕ} (ready : 
         → Added (heading (style section .name) (length offsets) ++ entries (style section) s offsets) text place r after
     section-listed second = added-then first second (omega (arith, heading-fits, entries-length section s offsets))
 
--- ---- a name and that it is refused
+-- ---- a name, a number and how the line ends
 
-tail-length : (name : List ℕ) (n : ℕ) → length name ≤ 10 → length (name ++ (ascii " " ++ decimal n ++ line (ascii " refused"))) ≤ 23
-tail-length name n h =
+pub number-length : (n : ℕ) (end : List ℕ) → length (ascii " " ++ decimal n ++ end) ≤ 4 + length end
+number-length n end = omega (arith, length-append (decimal n) end, decimal-length n, figures-most n)
+
+-- the piece behind a name that tells a place, of its three pieces
+pub numbered-at : (n fault : ℕ) {text digits middle behind after : List ℕ} {place q t r : ℕ} → Fits 17 text place
+    → Added (ascii " " ++ decimal n ++ ascii " ") text place q middle → Added digits middle q t behind
+    → Added (line (ascii " refused")) behind t r after → digits ≡ hex 3 fault
+    → Added (ascii " " ++ decimal n ++ (ascii " " ++ hex 3 fault ++ line (ascii " refused"))) text place r after
+numbered-at n fault fits first second third same =
+    let front = number-length n (ascii " ") in
+    let both = length-append (ascii " " ++ decimal n ++ ascii " ") (hex 3 fault) in
+    added-as (simp append-assoc)
+    (added-then (added-then first (added-as same second) (omega (arith, fits, front))) third (omega (arith, fits, front, both)))
+
+module _ (name : List ℕ) (n : ℕ) (h : length name ≤ 10) where
+  tail-length : (end : List ℕ) → length (name ++ (ascii " " ++ decimal n ++ end)) ≤ 14 + length end
+  tail-length end =
+      omega (arith, length-append name (ascii " " ++ decimal n ++ end), number-length n end)
+
+  named-numbered : (end : List ℕ) {text middle after : List ℕ} {place named r : ℕ} → Fits (14 + length end) text place
+      → Added name text place named middle → Added (ascii " " ++ decimal n ++ end) middle named r after
+      → Added (name ++ (ascii " " ++ decimal n ++ end)) text place r after
+  named-numbered end fits first second =
+      added-then first second (omega (arith, fits, tail-length end, length-append name (ascii " " ++ decimal n ++ end)))
+
+  pub named-refused : {text middle after : List ℕ} {place named r : ℕ} → Fits 23 text place → Added name text place named middle
+      → Added (ascii " " ++ decimal n ++ line (ascii " refused")) middle named r after → Added (refused name n) text place r after
+  named-refused fits first second = added-as (refused-line name n) (named-numbered (line (ascii " refused")) fits first second)
+
+  pub named-refused-at : (fault : ℕ) {text middle after : List ℕ} {place named r : ℕ} → Fits 27 text place → Added name text place named middle
+      → Added (ascii " " ++ decimal n ++ (ascii " " ++ hex 3 fault ++ line (ascii " refused"))) middle named r after
+      → Added (refusedAt name n fault) text place r after
+  named-refused-at fault fits first second =
+      added-as (refused-at-line name n fault) (named-numbered (ascii " " ++ hex 3 fault ++ line (ascii " refused")) fits first second)
+
+pub refused-length : (section : Section) (n fault : ℕ) → length (refusedAt (style section .name) n fault) ≤ most section
+refused-length section n fault =
+    let name = style section .name in
     omega (
       arith,
-      length-append name (ascii " " ++ decimal n ++ line (ascii " refused")),
-      length-append (decimal n) (line (ascii " refused")),
-      decimal-length n,
-      figures-most n,
+      ap length (refused-at-line name n fault),
+      tail-length name n (name-length section) (ascii " " ++ hex 3 fault ++ line (ascii " refused")),
+      name-room section,
     )
-
-pub named-refused : (name : List ℕ) (n : ℕ) → length name ≤ 10 → {text middle after : List ℕ} {place named r : ℕ} → Fits 23 text place
-    → Added name text place named middle → Added (ascii " " ++ decimal n ++ line (ascii " refused")) middle named r after
-    → Added (refused name n) text place r after
-named-refused name n h fits first second =
-    added-as (refused-line name n)
-    (added-then first second
-    (omega (arith, fits, tail-length name n h, length-append name (ascii " " ++ decimal n ++ line (ascii " refused")))))
-
-pub refused-length : (section : Section) (n : ℕ) → length (refused (style section .name) n) ≤ most section
-refused-length section n =
-    omega (arith, ap length (refused-line (style section .name) n), tail-length (style section .name) n (name-length section), name-room section)

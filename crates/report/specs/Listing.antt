@@ -1,4 +1,4 @@
--- Document 01, "The listing program": what is written for a space. Assumes nothing.
+-- Document 01, "The listing program", with document 02, 3/13: what is written for a space. Assumes nothing.
 use Prim.Native.Nat.{ℕ}
 use mathlib.Core.List.{List, [], _∷_, _++_}
 use mathlib.Core.Path.{_≡_}
@@ -7,7 +7,8 @@ use Rattle.words.specs.Bytes.{byte}
 use Rattle.words.specs.Fields.{bits, word}
 use Rattle.lists.specs.declared.Kind.the-variants.{Compatible, Extended}
 use Rattle.lists.specs.Table.{ListRule, describe}
-use Rattle.lists.specs.Chain.{HasChain, NoChain}
+use Rattle.lists.specs.Chain.{HasChain}
+use Rattle.lists.specs.Breaks.{Breaks}
 use Rattle.lists.specs.Walks.{WholeSpace}
 use Rattle.report.specs.Text.{ascii, line, hex, decimal}
 
@@ -36,20 +37,25 @@ extended = record { list = describe Extended; name = ascii "extended"; entry = e
 unfoldable pub heading : List ℕ → ℕ → List ℕ
 heading name count = line (name ++ ascii " " ++ decimal count)
 
--- "`compatible 7 refused`", "`extended 7 refused`", "`input 1 refused`"
+-- "`input 1 refused`"
 unfoldable pub refused : List ℕ → ℕ → List ℕ
 refused name number = line (name ++ ascii " " ++ decimal number ++ ascii " refused")
+
+-- document 02, 3/13, in the place of "`compatible 7 refused`" and "`extended 7 refused`": "11 or 12 and the place in three hex digits, as
+-- `extended 12 100 refused` for P12"
+unfoldable pub refusedAt : List ℕ → ℕ → ℕ → List ℕ
+refusedAt name number place = line (name ++ ascii " " ++ decimal number ++ ascii " " ++ hex 3 place ++ ascii " refused")
 
 -- a line for each offset, in order
 abbrev pub entries : Style → List ℕ → List ℕ → List ℕ
 entries style s [] = []
 entries style s (at ∷ rest) = line (style .entry s at) ++ entries style s rest
 
--- what is written for one list: its chain, or, where none is legal, "A broken list's lines are replaced by …"
+-- what is written for one list: its chain, or, where it breaks, "A broken list's lines are replaced by …"
 pub data Part (style : Style) (s out : List ℕ) : Type 0 where
   listed : (chain : List ℕ) → HasChain (style .list) s chain → out ≡ heading (style .name) (length chain) ++ entries style s chain
       → Part style s out
-  broken : NoChain (style .list) s → out ≡ refused (style .name) 7 → Part style s out
+  broken : (number place : ℕ) → Breaks (style .list) s number place → out ≡ refusedAt (style .name) number place → Part style s out
 
 -- "Input of another size writes only `input 1 refused`"; else the compatible part, the extended part and "`end`"
 pub data Says (s out : List ℕ) : Type 0 where

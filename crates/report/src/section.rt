@@ -1,4 +1,4 @@
-// One list of a space: its name and count with a line for each header, or its name and that it is refused.
+// One list of a space: its name and count with a line for each header, or its name, and what broke and where.
 use crate::text;
 use answers::Answer;
 use answers::Refusal;
@@ -10,7 +10,7 @@ ghost use lib.ListN.{length};
 ghost use Rattle.answers.specs.Numbers.{numberOf};
 ghost use Rattle.lists.specs.Walks.{WholeSpace};
 ghost use Rattle.report.specs.Text.{line};
-ghost use Rattle.report.specs.Listing.{compatibleEntry, extendedEntry, heading, refused, entries, Part};
+ghost use Rattle.report.specs.Listing.{compatibleEntry, extendedEntry, heading, refusedAt, entries, Part};
 ghost use Rattle.report.specs.Inner.{kindOf, style, width, most, Added, Told, Fits, Ready, Chained, Roomed};
 
 // The lists that are shown.
@@ -113,12 +113,12 @@ fn listed(section: Section, space: &[u8], text: &mut [u8], place: usize, offsets
 }
 
 // A list without one.
-fn broken(section: Section, text: &mut [u8], place: usize, refusal: Refusal) -> usize
-    requires { ⌜ Fits 23 (now text) place ⌝ }
-    ensures { λ r. ⌜ Added (refused (style section .name) (numberOf refusal)) (now (text .entry)) place r (now (text .exit)) ⌝ }
+fn broken(section: Section, text: &mut [u8], place: usize, refusal: Refusal, fault: u16) -> usize
+    requires { ⌜ Fits 27 (now text) place ⌝ }
+    ensures { λ r. ⌜ Added (refusedAt (style section .name) (numberOf refusal) fault) (now (text .entry)) place r (now (text .exit)) ⌝ }
 {
     let named = name(section, text, place);
-    text::refused(text, named, refusal)
+    text::refused_at(text, named, refusal, fault as usize)
 }
 
 // The list of a space, walked in a room of its maximum.
@@ -138,5 +138,5 @@ pub(crate) fn write(
         let count = walked.count;
         return listed(section, space, text, place, &room[..count]);
     };
-    broken(section, text, place, refusal)
+    broken(section, text, place, refusal, walked.place)
 }

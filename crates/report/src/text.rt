@@ -5,7 +5,7 @@ ghost use mathlib.Core.List.{_++_};
 ghost use Prim.Native.Nat.{_+_, _%_, _<_};
 ghost use lib.ListN.{length};
 ghost use Rattle.answers.specs.Numbers.{numberOf};
-ghost use Rattle.report.specs.Text.{ascii, line, digit, decimal};
+ghost use Rattle.report.specs.Text.{ascii, line, digit, hex, decimal};
 ghost use Rattle.report.specs.Inner.{Added, Fits};
 
 pub(crate) fn append(text: &mut [u8], place: usize, bytes: &[u8]) -> usize
@@ -64,10 +64,25 @@ pub(crate) fn numbered(text: &mut [u8], place: usize, number: usize, end: &[u8])
     append(text, counted, end)
 }
 
-// What follows the name of a list or an input that is refused.
+// What follows the name of an input that is refused.
 pub(crate) fn refused(text: &mut [u8], place: usize, refusal: Refusal) -> usize
     requires { ⌜ Fits 13 (now text) place ⌝ }
     ensures { λ r. ⌜ Added (ascii " " ++ decimal (numberOf refusal) ++ line (ascii " refused")) (now (text .entry)) place r (now (text .exit)) ⌝ }
 {
     numbered(text, place, refusal.number() as usize, b" refused\n")
+}
+
+// What follows the name of a list that is refused: the number, and the place of the fault.
+pub(crate) fn refused_at(text: &mut [u8], place: usize, refusal: Refusal, fault: usize) -> usize
+    requires { ⌜ Fits 17 (now text) place ⌝ }
+    ensures { λ r. ⌜ Added (ascii " " ++ decimal (numberOf refusal) ++ (ascii " " ++ hex 3 fault ++ line (ascii " refused"))) (now (text .entry)) place r (now (text .exit)) ⌝ }
+{
+    let numbered = numbered(text, place, refusal.number() as usize, b" ");
+    let digits = [
+        hex_digit(fault >> 8),
+        hex_digit(fault >> 4),
+        hex_digit(fault),
+    ];
+    let placed = append(text, numbered, &digits);
+    append(text, placed, b" refused\n")
 }

@@ -1,4 +1,4 @@
--- Document 01, "Bench sheet": "The twelve marked P". For P1 to P11, what the written rules give and what the sheet says, as numbers: the
+-- Document 01, "Bench sheet": "The twelve marked P", with document 02, 3/13. For P1 to P11, what the written rules give and what the sheet says, as numbers: the
 -- answer and what it tells. P12 is about every walk. Assumes nothing.
 use Prim.Native.Nat.{ℕ}
 use mathlib.Core.List.{List, [], _∷_}
@@ -68,6 +68,8 @@ sheet =
     ∷ {- P11: length 10h, body 6 bytes -} (0 ∷ 0x10 ∷ 6 ∷ [])
     ∷ []
 
--- P12: with any room that is not under the maximum, a walk of that list that meets its promise is answered 7
+-- P12: with any room that is not under the maximum, a walk of that list that meets its promise is answered 12 and tells 100h. Document 02, 3/13,
+-- in the place of document 01's 7: "as `extended 12 100 refused` for P12"
 abbrev pub TwelfthHolds : Type 0
-TwelfthHolds = (room : List ℕ) (r : Walked) (after : List ℕ) → Roomy Extended room → Walks Extended circle room r after → numberGiven r ≡ 7
+TwelfthHolds = (room : List ℕ) (r : Walked) (after : List ℕ) → Roomy Extended room → Walks Extended circle room r after
+    → (numberGiven r ≡ 12) × (r .place ≡ 0x100)

@@ -40,11 +40,11 @@ HostRefusalKeeps =
     (o t after : List ℕ) → HostServes description kept ordinary ordinaryRules trusted trustedRules p reply r o t after
     → (r .number ≡ 0 → ⊥) → (r .length ≡ 0) × (r .capture ≡ kept) × (o ≡ ordinary) × (t ≡ trusted) × (after ≡ reply)
 
--- of the walks
+-- of the walks, with the place beside the number
 abbrev pub HostWalkNumber : Type 0
 HostWalkNumber =
     (kind : Kind) (s room : List ℕ) (r : HostWalked) (after : List ℕ) → HostWalks kind s room r after
-    → walks.NumberSays kind s room (r .number) × ((r .number ≡ 0 → ⊥) → (r .count ≡ 0) × (after ≡ room))
+    → walks.NumberSays kind s room (r .number) (r .place) × ((r .number ≡ 0 → ⊥) → (r .count ≡ 0) × (after ≡ room))
 
 -- of the records
 abbrev pub HostDvsecNumber : Type 0
@@ -87,7 +87,7 @@ host-refusal-keeps = refusal-keeps
 pub host-walk-number : HostWalkNumber
 host-walk-number kind s room r after w =
     let n = ap (λ (x : HostWalked). x .number) (w .told) in (
-      subst (walks.NumberSays kind s room) (sym n) (walk-number kind s room (w .answer) after (w .walks)),
+      subst (λ (x : HostWalked). walks.NumberSays kind s room (x .number) (x .place)) (sym (w .told)) (walk-number kind s room (w .answer) after (w .walks)),
       λ h.
           let k = walk-refusal-keeps kind s room (w .answer) after (w .walks) (λ z. h (n ∙ z)) in
           (ap (λ (x : HostWalked). x .count) (w .told) ∙ k .0, k .1),

@@ -9,7 +9,7 @@ use Rattle.thawribbon.specs.declared.HostWalked.{HostWalked}
 
 -- the answer of a walk, as a host is told it
 abbrev pub toldWalk : Walked → HostWalked
-toldWalk walked = record { count = walked .count; number = numberGiven walked }
+toldWalk walked = record { count = walked .count; number = numberGiven walked; place = walked .place }
 
 -- the list, the space and the room as lent, the result, and the room afterwards: what is told is an answer that `Walks` allows
 pub record HostWalks (kind : Kind) (s room : List ℕ) (r : HostWalked) (after : List ℕ) : Type 0 where

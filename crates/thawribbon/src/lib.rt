@@ -41,6 +41,7 @@ pub struct HostServed {
 pub struct HostWalked {
     pub count: usize,
     pub number: u8,
+    pub place: u16,
 }
 
 #[repr(C)]

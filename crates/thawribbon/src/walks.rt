@@ -13,6 +13,7 @@ fn told_walk(walked: Walked) -> HostWalked
     HostWalked {
         count: walked.count,
         number: answer.number(),
+        place: walked.place,
     }
 }
 

@@ -9,6 +9,7 @@ mod cursor;
 mod dual_bdf;
 mod dvsec;
 mod fault;
+mod fault_words;
 mod first_word;
 mod lengths;
 mod loops;

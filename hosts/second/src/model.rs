@@ -1,5 +1,5 @@
-//! Document 01's rules, one module for each of its sections: packets, lists and records, as request 2/13 corrects them.
-//! And request 1/13: the router.
+//! Document 01's rules, one module for each of its sections: packets, lists and records, as the requests 2/13 and 3/13
+//! change them. And request 1/13: the router.
 //!
 //! Every function answers every input. A number other than 0 leaves all that was lent as it was.
 
@@ -20,6 +20,8 @@ mod walk;
 mod backplane;
 #[cfg(test)]
 mod bench_sheet;
+#[cfg(test)]
+mod broken;
 #[cfg(all(test, debug_assertions))]
 mod checked;
 #[cfg(test)]

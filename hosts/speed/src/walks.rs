@@ -54,18 +54,15 @@ fn pass(walk: Walk, spaces: &Spaces, kind: &Kind) -> Pass {
     })
 }
 
-/// Whether the library and safe Rust give the row's answer and equal lists, the rest of the room included, and the
-/// chase counts the headers that are followed.
+/// Whether the library and safe Rust give the row's answer, tell the same place and give equal lists, the rest of the
+/// room included, and the chase counts the headers that are followed.
 fn check(kind: &Kind, space: &[u8]) -> Result<(), String> {
     let what = kind.what;
     let mut rooms = [vec![LENT; kind.room], vec![LENT; kind.room]];
     let safe_rust = sides::safe_rust(kind.list)(space, &mut rooms[0]);
     let library = sides::library(kind.list)(space, &mut rooms[1]);
-    if [safe_rust, library] != [kind.answer; 2] {
-        return Err(format!(
-            "{what}: safe Rust {safe_rust:?}, library {library:?}, not {:?}",
-            kind.answer
-        ));
+    if safe_rust != library || !kind.expects(library) {
+        return Err(format!("{what}: safe Rust {safe_rust:?}, library {library:?}"));
     }
     if rooms[0] != rooms[1] {
         return Err(format!("{what}: the library's list differs from safe Rust's"));

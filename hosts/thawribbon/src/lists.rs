@@ -3,7 +3,7 @@
 use crate::Offset;
 use crate::constants::{COMPATIBLE_MAXIMUM, EXTENDED_MAXIMUM, TRUSTED_MAXIMUM};
 use crate::raw;
-use crate::refusal::{Refusal, served};
+use crate::refusal::{Refusal, walked};
 use std::fmt;
 
 /// One of the three capability lists of a space.
@@ -103,9 +103,9 @@ impl fmt::Display for Header {
 /// let mut room = [0; List::Compatible.maximum()];
 /// assert_eq!(walk(List::Compatible, &space, &mut room)?, [0x40, 0x80]);
 ///
-/// // A pointer that leads back holds nobody all night.
+/// // A pointer that leads back holds nobody all night, and the refusal says where it stands.
 /// space[0x81] = 0x40;
-/// assert_eq!(walk(List::Compatible, &space, &mut room), Err(Refusal::BrokenChain));
+/// assert_eq!(walk(List::Compatible, &space, &mut room), Err(Refusal::ComesBack { place: 0x80 }));
 /// # Ok::<(), Refusal>(())
 /// ```
 ///
@@ -115,7 +115,8 @@ impl fmt::Display for Header {
 ///
 /// - [`Refusal::BadDescription`]: the space isn't 4,096 bytes.
 /// - [`Refusal::NoRoom`]: the room has fewer numbers than [`List::maximum`], also where the chain is shorter.
-/// - [`Refusal::BrokenChain`]: no finite legal chain leads from the start to an end.
+/// - [`Refusal::BelowFloor`] or [`Refusal::ComesBack`]: no finite legal chain leads from the start to an end. It tells the
+///   first pointer at fault on the way, and its place.
 #[inline]
 pub fn walk<'r>(list: List, space: &[u8], room: &'r mut [Offset]) -> Result<&'r [Offset], Refusal> {
     let answer = match list {
@@ -123,8 +124,8 @@ pub fn walk<'r>(list: List, space: &[u8], room: &'r mut [Offset]) -> Result<&'r 
         List::Extended => raw::walk_extended(space, room),
         List::Trusted => raw::walk_trusted(space, room),
     };
-    served(answer.number)?;
-    Ok(&room[..answer.count])
+    let count = walked(answer)?;
+    Ok(&room[..count])
 }
 
 /// The offsets of a list's legal chain, in order.
@@ -141,13 +142,13 @@ pub fn walk<'r>(list: List, space: &[u8], room: &'r mut [Offset]) -> Result<&'r 
 ///
 /// // P12: the header points to itself.
 /// space[0x103] = 0x10;
-/// assert_eq!(chain(List::Extended, &space), Err(Refusal::BrokenChain));
+/// assert_eq!(chain(List::Extended, &space), Err(Refusal::ComesBack { place: 0x100 }));
 /// # Ok::<(), Refusal>(())
 /// ```
 ///
 /// # Errors
 ///
-/// [`Refusal::BadDescription`] and [`Refusal::BrokenChain`], as [`walk`] gives them.
+/// [`Refusal::BadDescription`], [`Refusal::BelowFloor`] and [`Refusal::ComesBack`], as [`walk`] gives them.
 pub fn chain(list: List, space: &[u8]) -> Result<Vec<Offset>, Refusal> {
     let mut room = [0; TRUSTED_MAXIMUM];
     walk(list, space, &mut room).map(<[Offset]>::to_vec)
@@ -175,7 +176,7 @@ pub fn chain(list: List, space: &[u8]) -> Result<Vec<Offset>, Refusal> {
 ///
 /// # Errors
 ///
-/// [`Refusal::BadDescription`] and [`Refusal::BrokenChain`], as [`walk`] gives them.
+/// [`Refusal::BadDescription`], [`Refusal::BelowFloor`] and [`Refusal::ComesBack`], as [`walk`] gives them.
 pub fn headers(list: List, space: &[u8]) -> Result<Vec<Header>, Refusal> {
     let mut room = [0; TRUSTED_MAXIMUM];
     let offsets = walk(list, space, &mut room)?;

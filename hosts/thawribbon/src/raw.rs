@@ -48,14 +48,17 @@ pub struct Served {
     pub capture: Capture,
 }
 
-/// The answer of a walk: the number, and how many offsets are listed.
+/// The answer of a walk: the number, how many offsets are listed, and where the list broke.
 #[repr(C)]
 #[derive(Clone, Copy, Debug, Default, PartialEq, Eq)]
 pub struct Walked {
     /// How many offsets are listed: 0 where refused.
     pub count: usize,
-    /// 0, 1, 2 or 7.
+    /// 0, 1, 2, 11 or 12.
     pub number: u8,
+    /// With 11 and 12 the offset of the structure that holds the pointer at fault, or 0 where the list's start itself is at
+    /// fault; 0 with any other number.
+    pub place: u16,
 }
 
 /// The number, and the fields of a DVSEC record; they are 0 where refused.
@@ -246,7 +249,7 @@ pub fn reset(kept: Capture) -> Capture {
 ///
 /// let (mut space, mut room) = ([0; 4096], [0; 48]);
 /// (space[0x06], space[0x34]) = (0x10, 0x40);
-/// assert_eq!(walk_compatible(&space, &mut room), Walked { count: 1, number: 0 });
+/// assert_eq!(walk_compatible(&space, &mut room), Walked { count: 1, number: 0, place: 0 });
 /// assert_eq!(room[0], 0x40);
 /// ```
 #[must_use]
@@ -263,7 +266,7 @@ pub fn walk_compatible(space: &[u8], room: &mut [u16]) -> Walked {
 ///
 /// let (mut space, mut room) = ([0; 4096], [0; 960]);
 /// space[0x100..0x104].copy_from_slice(&[0x23, 0x00, 0x01, 0x10]); // P12: it points to itself
-/// assert_eq!(walk_extended(&space, &mut room), Walked { count: 0, number: 7 });
+/// assert_eq!(walk_extended(&space, &mut room), Walked { count: 0, number: 12, place: 0x100 });
 /// ```
 #[must_use]
 #[inline]
@@ -279,7 +282,7 @@ pub fn walk_extended(space: &[u8], room: &mut [u16]) -> Walked {
 ///
 /// let (mut space, mut room) = ([0; 4096], [0; 1022]);
 /// space[0x004] = 0x08;
-/// assert_eq!(walk_trusted(&space, &mut room), Walked { count: 1, number: 0 });
+/// assert_eq!(walk_trusted(&space, &mut room), Walked { count: 1, number: 0, place: 0 });
 /// assert_eq!(room[0], 0x008);
 /// ```
 #[must_use]
@@ -372,7 +375,7 @@ const _: () = {
     assert!(size_of::<Description>() == 12 && offset_of!(Description, a) == 4 && offset_of!(Description, b) == 8);
     assert!(size_of::<Capture>() == 3 && offset_of!(Capture, bus) == 1 && offset_of!(Capture, device) == 2);
     assert!(size_of::<Served>() == 16 && offset_of!(Served, number) == 8 && offset_of!(Served, capture) == 9);
-    assert!(size_of::<Walked>() == 16 && offset_of!(Walked, number) == 8);
+    assert!(size_of::<Walked>() == 16 && offset_of!(Walked, number) == 8 && offset_of!(Walked, place) == 10);
     assert!(size_of::<Dvsec>() == 8 && offset_of!(Dvsec, vendor) == 2);
     assert!(offset_of!(Dvsec, id) == 4 && offset_of!(Dvsec, length) == 6);
     assert!(size_of::<Part>() == 16 && offset_of!(Part, length) == 8);

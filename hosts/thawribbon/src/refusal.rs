@@ -1,21 +1,21 @@
-//! Why a call is refused: the answer numbers 1 to 10 of document 01, named once for Rust.
+//! Why a call is refused: the answer numbers 1 to 12 without 7, named once for Rust.
 
+use crate::{Offset, raw};
 use std::error::Error;
 use std::fmt;
 
-/// Why nothing was done. Each variant is an answer number of document 01, and says when it is given: by that document,
-/// and at a router by document 02 too.
+/// Why nothing was done. Each variant is an answer number, and says when it is given: by document 01, and by what document
+/// 02 adds and changes. No variant is 7, which is given no more.
 ///
 /// After a refusal no lent byte and no capture has changed.
 /// A later version can have more of them: document 02 of the project announces some.
-#[derive(Clone, Copy, Debug, PartialEq, Eq, Hash)]
+#[derive(Clone, Copy, PartialEq, Eq, Hash)]
 #[non_exhaustive]
-#[repr(u8)]
 pub enum Refusal {
     /// A space or rule space isn't 4,096 bytes, a captured device is over 31, a function number or A or B is outside its
     /// range, or a record is asked for where none may stand. At a router: a list has over 32 ports, a port's secondary
     /// bus is over its subordinate bus, or two ranges of buses meet. The overlap that its text names can only be in C.
-    BadDescription = 1,
+    BadDescription,
     /// The reply is under 16 bytes, the list room is under the list's maximum, or the buffer for what leaves is under 20
     /// bytes.
     NoRoom,
@@ -28,50 +28,84 @@ pub enum Refusal {
     WrongLength,
     /// A fixed header field has another value.
     WrongField,
-    /// Broken chain: no finite legal chain leads from the list's start to an end.
-    BrokenChain,
     /// Not the structure asked for.
     OtherStructure,
     /// A wrong length, or the structure runs out of its space.
     WrongExtent,
     /// A function vector without exactly one bit.
     NotOneFunction,
+    /// A list is broken: no finite legal chain leads from its start to an end. On the way the walk comes to a pointer below
+    /// the list's floor.
+    BelowFloor {
+        /// The offset of the structure that holds this pointer; `None` where it is the list's start.
+        place: Option<Offset>,
+    },
+    /// A list is broken: no finite legal chain leads from its start to an end. On the way the walk comes to a pointer that
+    /// leads to an offset already in the chain.
+    ComesBack {
+        /// The offset of the structure that holds this pointer. A list's start comes before all others, and leads back to
+        /// none.
+        place: Offset,
+    },
 }
 
 impl Refusal {
-    const ALL: [Refusal; 10] = [
-        Refusal::BadDescription,
-        Refusal::NoRoom,
-        Refusal::ShortPacket,
-        Refusal::UnknownType,
-        Refusal::WrongLength,
-        Refusal::WrongField,
-        Refusal::BrokenChain,
-        Refusal::OtherStructure,
-        Refusal::WrongExtent,
-        Refusal::NotOneFunction,
-    ];
-
-    /// The answer number of document 01: 1 to 10.
+    /// The answer number: 1 to 6, or 8 to 12.
     ///
     /// ```
     /// use thawribbon::Refusal;
     ///
     /// assert_eq!(Refusal::BadDescription.number(), 1);
-    /// assert_eq!(Refusal::NotOneFunction.number(), 10);
+    /// assert_eq!(Refusal::ComesBack { place: 0x100 }.number(), 12);
     /// ```
     #[must_use]
     pub const fn number(self) -> u8 {
-        self as u8
+        match self {
+            Refusal::BadDescription => 1,
+            Refusal::NoRoom => 2,
+            Refusal::ShortPacket => 3,
+            Refusal::UnknownType => 4,
+            Refusal::WrongLength => 5,
+            Refusal::WrongField => 6,
+            Refusal::OtherStructure => 8,
+            Refusal::WrongExtent => 9,
+            Refusal::NotOneFunction => 10,
+            Refusal::BelowFloor { .. } => 11,
+            Refusal::ComesBack { .. } => 12,
+        }
     }
 
-    /// What the number says, in the words that `thawribbon_text` of the C header has.
+    /// Where a list is broken: the offset of the structure that holds the pointer at fault. `None` where the list's start is
+    /// at fault, and for a refusal that is of no list.
+    ///
+    /// ```
+    /// use thawribbon::Refusal;
+    ///
+    /// assert_eq!(Refusal::ComesBack { place: 0x180 }.place(), Some(0x180));
+    /// assert_eq!(Refusal::BelowFloor { place: None }.place(), None);
+    /// assert_eq!(Refusal::NoRoom.place(), None);
+    /// ```
+    #[must_use]
+    pub const fn place(self) -> Option<Offset> {
+        match self {
+            Refusal::BelowFloor { place } => place,
+            Refusal::ComesBack { place } => Some(place),
+            _ => None,
+        }
+    }
+
+    /// What the number says, in the words that `thawribbon_text` of the C header has. Written out, a refusal says its number
+    /// and its place too.
     ///
     /// ```
     /// use thawribbon::Refusal;
     ///
     /// assert_eq!(Refusal::ShortPacket.text(), "the packet has fewer than 12 bytes");
     /// assert_eq!(Refusal::ShortPacket.to_string(), "refused with 3: the packet has fewer than 12 bytes");
+    /// assert_eq!(
+    ///     Refusal::BelowFloor { place: Some(0x1C0) }.to_string(),
+    ///     "refused with 11: a pointer of the list is below its floor, in the structure at 1C0h"
+    /// );
     /// ```
     #[must_use]
     pub const fn text(self) -> &'static str {
@@ -93,68 +127,181 @@ impl Refusal {
             }
             Refusal::WrongLength => "the packet's length does not fit its type and digest bit",
             Refusal::WrongField => "a fixed field of the packet's header has another value",
-            Refusal::BrokenChain => "the chain is broken: no finite legal chain leads from the list's start to an end",
             Refusal::OtherStructure => "this is not the structure asked for",
             Refusal::WrongExtent => "the structure has a wrong length, or runs out of its space",
             Refusal::NotOneFunction => "the function vector does not have exactly one bit",
+            Refusal::BelowFloor { .. } => "a pointer of the list is below its floor",
+            Refusal::ComesBack { .. } => "a pointer of the list leads to an offset that is already in the chain",
         }
     }
 }
 
 impl fmt::Display for Refusal {
     fn fmt(&self, formatter: &mut fmt::Formatter<'_>) -> fmt::Result {
-        write!(formatter, "refused with {}: {}", self.number(), self.text())
+        write!(formatter, "refused with {}: {}", self.number(), self.text())?;
+        match self {
+            Refusal::BelowFloor { place: None } => write!(formatter, ", its start"),
+            Refusal::BelowFloor { place: Some(place) } | Refusal::ComesBack { place } => {
+                write!(formatter, ", in the structure at {place:03X}h")
+            }
+            _ => Ok(()),
+        }
+    }
+}
+
+/// As it stands in a program, a place in hexadecimal: what a `main` that returns it prints.
+///
+/// ```
+/// use thawribbon::Refusal;
+///
+/// assert_eq!(format!("{:?}", Refusal::ComesBack { place: 0x1C0 }), "ComesBack { place: 0x1C0 }");
+/// ```
+impl fmt::Debug for Refusal {
+    fn fmt(&self, formatter: &mut fmt::Formatter<'_>) -> fmt::Result {
+        formatter.write_str(match self {
+            Refusal::BadDescription => "BadDescription",
+            Refusal::NoRoom => "NoRoom",
+            Refusal::ShortPacket => "ShortPacket",
+            Refusal::UnknownType => "UnknownType",
+            Refusal::WrongLength => "WrongLength",
+            Refusal::WrongField => "WrongField",
+            Refusal::OtherStructure => "OtherStructure",
+            Refusal::WrongExtent => "WrongExtent",
+            Refusal::NotOneFunction => "NotOneFunction",
+            Refusal::BelowFloor { place: None } => "BelowFloor { place: None }",
+            Refusal::BelowFloor { place: Some(place) } => {
+                return write!(formatter, "BelowFloor {{ place: Some({place:#05X}) }}");
+            }
+            Refusal::ComesBack { place } => return write!(formatter, "ComesBack {{ place: {place:#05X} }}"),
+        })
     }
 }
 
 impl Error for Refusal {}
 
+/// The refusal with this number, and this place of a list; none where the number is 0, 7 or over 12.
+#[inline]
+const fn refusal(number: u8, place: Offset) -> Option<Refusal> {
+    Some(match number {
+        1 => Refusal::BadDescription,
+        2 => Refusal::NoRoom,
+        3 => Refusal::ShortPacket,
+        4 => Refusal::UnknownType,
+        5 => Refusal::WrongLength,
+        6 => Refusal::WrongField,
+        8 => Refusal::OtherStructure,
+        9 => Refusal::WrongExtent,
+        10 => Refusal::NotOneFunction,
+        11 if place == 0 => Refusal::BelowFloor { place: None },
+        11 => Refusal::BelowFloor { place: Some(place) },
+        12 => Refusal::ComesBack { place },
+        _ => return None,
+    })
+}
+
 /// An answer number taken apart: 0 is no refusal.
 ///
 /// # Panics
 ///
-/// Where the number is over 10. The library of this crate gives none; only another archive under the same name could.
+/// Where it is no answer number. The library of this crate gives none; only another archive under the same name could.
 #[inline]
 pub(crate) fn served(number: u8) -> Result<(), Refusal> {
-    match usize::from(number) {
-        0 => Ok(()),
-        given => match Refusal::ALL.get(given - 1) {
-            Some(&refusal) => Err(refusal),
-            None => panic!("libthawribbon.a answered {number}, a number that document 01 does not have"),
-        },
+    told(number, 0)
+}
+
+/// The answer of a walk taken apart: how many offsets are listed, or what broke and where.
+///
+/// # Panics
+///
+/// As [`served`] does.
+#[inline]
+pub(crate) fn walked(answer: raw::Walked) -> Result<usize, Refusal> {
+    told(answer.number, answer.place).map(|()| answer.count)
+}
+
+#[inline]
+fn told(number: u8, place: Offset) -> Result<(), Refusal> {
+    if number == 0 {
+        return Ok(());
+    }
+    match refusal(number, place) {
+        Some(refusal) => Err(refusal),
+        None => panic!("libthawribbon.a answered {number}, which is no answer number"),
     }
 }
 
 #[cfg(test)]
 mod tests {
-    use super::{Refusal, served};
+    use super::{Refusal, refusal, served, walked};
+    use crate::raw::Walked;
+
+    const NUMBERS: [u8; 11] = [1, 2, 3, 4, 5, 6, 8, 9, 10, 11, 12];
 
     #[test]
     fn each_number_has_its_refusal() {
         assert_eq!(served(0), Ok(()));
-        for number in 1..=10 {
+        for number in NUMBERS {
             assert_eq!(served(number).map_err(Refusal::number), Err(number));
+        }
+        for number in (0..=u8::MAX).filter(|number| !NUMBERS.contains(number)) {
+            assert_eq!(refusal(number, 0), None);
         }
     }
 
     #[test]
-    #[should_panic(expected = "answered 11")]
-    fn a_number_that_document_01_does_not_have_is_no_refusal() {
-        let _ = served(11);
+    #[should_panic(expected = "answered 13")]
+    fn a_number_that_is_no_answer_is_no_refusal() {
+        let _ = served(13);
+    }
+
+    #[test]
+    #[should_panic(expected = "answered 7")]
+    fn seven_is_given_no_more() {
+        let _ = served(7);
+    }
+
+    #[test]
+    fn a_walk_tells_its_count_or_its_place() {
+        let answer = |number, count, place| walked(Walked { count, number, place });
+        assert_eq!(answer(0, 3, 0), Ok(3));
+        assert_eq!(answer(2, 0, 0), Err(Refusal::NoRoom));
+        assert_eq!(answer(11, 0, 0), Err(Refusal::BelowFloor { place: None }));
+        assert_eq!(answer(11, 0, 0x1C0), Err(Refusal::BelowFloor { place: Some(0x1C0) }));
+        assert_eq!(answer(12, 0, 0x1C0), Err(Refusal::ComesBack { place: 0x1C0 }));
     }
 
     #[test]
     fn each_refusal_says_its_number_and_why() {
         let mut said = Vec::new();
-        for refusal in Refusal::ALL {
-            let text = refusal.to_string();
-            assert!(
-                text.starts_with(&format!("refused with {}: ", refusal.number())),
-                "{text}"
-            );
-            assert!(!said.contains(&text), "{text}");
-            said.push(text);
+        for number in NUMBERS {
+            for place in [0, 0x008, 0x1C0] {
+                let refusal = refusal(number, place).expect("a refusal");
+                let text = refusal.to_string();
+                assert!(text.starts_with(&format!("refused with {number}: ")), "{text}");
+                assert_eq!(said.contains(&text), number < 11 && place != 0, "{text}");
+                said.push(text);
+            }
         }
+    }
+
+    #[test]
+    fn a_broken_list_says_where() {
+        let says = |refusal: Refusal| refusal.to_string();
+        assert!(says(Refusal::BelowFloor { place: None }).ends_with(" below its floor, its start"));
+        assert!(says(Refusal::BelowFloor { place: Some(0x008) }).ends_with(", in the structure at 008h"));
+        assert!(says(Refusal::ComesBack { place: 0xFFC }).ends_with(" in the chain, in the structure at FFCh"));
+    }
+
+    #[test]
+    fn a_refusal_is_written_as_it_stands_in_a_program() {
+        let says = |refusal: Refusal| format!("{refusal:?}");
+        assert_eq!(says(Refusal::NotOneFunction), "NotOneFunction");
+        assert_eq!(says(Refusal::BelowFloor { place: None }), "BelowFloor { place: None }");
+        assert_eq!(
+            says(Refusal::BelowFloor { place: Some(0x008) }),
+            "BelowFloor { place: Some(0x008) }"
+        );
+        assert_eq!(says(Refusal::ComesBack { place: 0xFFC }), "ComesBack { place: 0xFFC }");
     }
 
     #[test]

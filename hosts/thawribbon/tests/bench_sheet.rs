@@ -3,7 +3,9 @@
 
 mod common;
 
-use common::{Bench, DUAL_BDF, DVSEC, LISTS, SPACE, TRUSTED_READ, WRITE, WRITTEN, chained, floor, start, walked};
+use common::{
+    Bench, DUAL_BDF, DVSEC, LISTS, SPACE, TRUSTED_READ, WRITE, WRITTEN, broken, chained, floor, start, walked,
+};
 use thawribbon::{Alternate, Capture, Dvsec, List, Refusal, chain, dual_bdf, dvsec, dvsec_body, raw};
 
 const FIVE_THREE: Option<Capture> = Some(Capture { bus: 0x05, device: 3 });
@@ -122,24 +124,20 @@ fn p11_dvsec() {
 #[test]
 fn p12_header_that_points_to_itself() {
     let space = space_with(0x100, &[0x23, 0x00, 0x01, 0x10]);
-    assert_eq!(walked(List::Extended, &space, 960, &[]), 7);
-    assert_eq!(chain(List::Extended, &space), Err(Refusal::BrokenChain));
+    assert_eq!(broken(List::Extended, &space), (12, 0x100));
+    assert_eq!(chain(List::Extended, &space), Err(Refusal::ComesBack { place: 0x100 }));
 }
 
 #[test]
 fn a_pointer_4_below_each_floor() {
     for list in LISTS {
         let space = chained(list, &[floor(list)], floor(list) - 4);
-        assert_eq!(
-            walked(list, &space, list.maximum(), &[]),
-            7,
-            "the first pointer of {list:?}"
-        );
+        assert_eq!(broken(list, &space), (11, floor(list)), "the first pointer of {list:?}");
     }
     for list in [List::Compatible, List::Trusted] {
         let mut space = vec![0; SPACE];
         start(&mut space, list, floor(list) - 4);
-        assert_eq!(walked(list, &space, list.maximum(), &[]), 7, "the start of {list:?}");
+        assert_eq!(broken(list, &space), (11, 0), "the start of {list:?}");
         let down = [floor(list) + 4, floor(list)];
         assert_eq!(
             walked(list, &chained(list, &down, 0), list.maximum(), &down),

@@ -7,17 +7,18 @@ use thawribbon::{List, NotRouted, Refusal};
 const HEADER: &str = include_str!("../../include/thawribbon.h");
 
 /// The refusals of the crate, under the names that the header has for them.
-const REFUSALS: [(&str, Refusal); 10] = [
+const REFUSALS: [(&str, Refusal); 11] = [
     ("THAWRIBBON_BAD_DESCRIPTION", Refusal::BadDescription),
     ("THAWRIBBON_NO_ROOM", Refusal::NoRoom),
     ("THAWRIBBON_SHORT_PACKET", Refusal::ShortPacket),
     ("THAWRIBBON_UNKNOWN_TYPE", Refusal::UnknownType),
     ("THAWRIBBON_WRONG_LENGTH", Refusal::WrongLength),
     ("THAWRIBBON_WRONG_FIELD", Refusal::WrongField),
-    ("THAWRIBBON_BROKEN_CHAIN", Refusal::BrokenChain),
     ("THAWRIBBON_OTHER_STRUCTURE", Refusal::OtherStructure),
     ("THAWRIBBON_WRONG_EXTENT", Refusal::WrongExtent),
     ("THAWRIBBON_NOT_ONE_FUNCTION", Refusal::NotOneFunction),
+    ("THAWRIBBON_BELOW_FLOOR", Refusal::BelowFloor { place: None }),
+    ("THAWRIBBON_COMES_BACK", Refusal::ComesBack { place: 0x100 }),
 ];
 
 /// What is fixed is there when a program is compiled.

@@ -5,7 +5,7 @@
 mod common;
 
 use common::{Bench, DUAL_BDF, DVSEC, LISTS, Lent, SPACE, TRUSTED_READ, WRITE, WRITTEN};
-use common::{chained, floor, lengths, lent, resized, walked};
+use common::{chained, floor, lengths, lent, resized, told, walked};
 use thawribbon::{Alternate, Capture, Dvsec, Refusal, dual_bdf, dvsec, dvsec_body, raw};
 
 const FIVE_THREE: Option<Capture> = Some(Capture { bus: 0x05, device: 3 });
@@ -162,8 +162,22 @@ fn nothing_but_empty_slices() {
     };
     assert_eq!(served, refused);
     for walk in [raw::walk_compatible, raw::walk_extended, raw::walk_trusted] {
-        assert_eq!(walk(&[], &mut []), raw::Walked { count: 0, number: 1 });
-        assert_eq!(walk(&[0; SPACE], &mut []), raw::Walked { count: 0, number: 2 });
+        assert_eq!(
+            walk(&[], &mut []),
+            raw::Walked {
+                count: 0,
+                number: 1,
+                place: 0
+            }
+        );
+        assert_eq!(
+            walk(&[0; SPACE], &mut []),
+            raw::Walked {
+                count: 0,
+                number: 2,
+                place: 0
+            }
+        );
     }
     tells_nothing_but_1(&[]);
 }
@@ -224,7 +238,8 @@ fn room_of_each_walk() {
                 "{list:?}, room for {length}"
             );
             // The room's size counts before the chain.
-            assert_eq!(walked(list, &broken, length, &[]), if number == 0 { 7 } else { 2 });
+            let expected = if number == 0 { (12, offsets[1]) } else { (2, 0) };
+            assert_eq!(told(list, &broken, length), expected);
         }
     }
 }

@@ -61,7 +61,8 @@ fn the_offsets_are_those_of_the_chain() {
 fn a_broken_list_and_another_size_are_refused_as_a_walk_is() {
     for list in LISTS {
         let broken = chained(list, &[floor(list)], floor(list));
-        assert_eq!(headers(list, &broken), Err(Refusal::BrokenChain));
+        let place = floor(list) as Offset;
+        assert_eq!(headers(list, &broken), Err(Refusal::ComesBack { place }));
         for length in [0, 1, SPACE - 1, SPACE + 1] {
             assert_eq!(headers(list, &vec![0; length]), Err(Refusal::BadDescription));
         }

@@ -3,8 +3,8 @@
 
 mod common;
 
-use common::{LISTS, SPACE, chained, floor, header, start, walked};
-use thawribbon::{List, Refusal, chain};
+use common::{LISTS, SPACE, broken, chained, floor, header, start, walked};
+use thawribbon::{List, Offset, Refusal, chain};
 
 /// The end of the part of a space that a list can reach.
 fn end(list: List) -> usize {
@@ -65,11 +65,7 @@ fn the_longest_chain_led_back_to_any_of_its_own() {
         let offsets = every(list);
         for &back in &offsets {
             let space = chained(list, &offsets, back);
-            assert_eq!(
-                walked(list, &space, list.maximum(), &[]),
-                7,
-                "{list:?}, back to {back:X}h"
-            );
+            assert_eq!(broken(list, &space), (12, end(list) - 4), "{list:?}, back to {back:X}h");
         }
     }
 }
@@ -77,7 +73,49 @@ fn the_longest_chain_led_back_to_any_of_its_own() {
 #[test]
 fn a_loop_that_never_comes_back_to_the_start() {
     let space = chained(List::Extended, &[0x100, 0x140, 0x180], 0x140);
-    assert_eq!(walked(List::Extended, &space, 960, &[]), 7);
+    assert_eq!(broken(List::Extended, &space), (12, 0x180));
+}
+
+/// A chain of every length, in both directions, with a last pointer below the floor.
+#[test]
+fn the_last_pointer_below_the_floor() {
+    for list in LISTS {
+        for offsets in [every(list), downwards(list)] {
+            for count in 1..=offsets.len() {
+                let space = chained(list, &offsets[..count], floor(list) - 4);
+                assert_eq!(broken(list, &space), (11, offsets[count - 1]), "{list:?}, {count}");
+            }
+        }
+    }
+}
+
+#[test]
+fn a_start_below_the_floor_is_held_by_no_structure() {
+    for list in [List::Compatible, List::Trusted] {
+        for pointer in 4..floor(list) {
+            let mut space = chained(list, &[floor(list)], floor(list));
+            start(&mut space, list, pointer);
+            assert_eq!(broken(list, &space), (11, 0), "{list:?} from {pointer:X}h");
+            assert_eq!(chain(list, &space), Err(Refusal::BelowFloor { place: None }));
+        }
+    }
+}
+
+#[test]
+fn a_fault_that_nothing_leads_to_is_none() {
+    for list in LISTS {
+        let offsets = [floor(list), floor(list) + 4];
+        let fault = |space: &mut [u8], pointer| header(space, list, floor(list) + 8, pointer);
+        let mut space = chained(list, &offsets, offsets[0]);
+        fault(&mut space, floor(list) - 4);
+        assert_eq!(broken(list, &space), (12, offsets[1]), "{list:?}");
+        let mut space = chained(list, &offsets, floor(list) - 4);
+        fault(&mut space, floor(list) + 8);
+        assert_eq!(broken(list, &space), (11, offsets[1]), "{list:?}");
+        let mut space = chained(list, &offsets, 0);
+        fault(&mut space, floor(list) + 8);
+        assert_eq!(walked(list, &space, list.maximum(), &offsets), 0, "{list:?}");
+    }
 }
 
 #[test]
@@ -93,7 +131,7 @@ fn lists_without_an_entry() {
     space[0x100..0x104].fill(0);
     assert_eq!(walked(List::Compatible, &space, 48, &[]), 0);
     assert_eq!(walked(List::Extended, &space, 960, &[]), 0);
-    assert_eq!(walked(List::Trusted, &space, 1022, &[]), 7);
+    assert_eq!(broken(List::Trusted, &space), (12, 0xFFC));
 }
 
 /// A word that is not zero at 100h is a header, with ID 0000h where only its version or its pointer is there.
@@ -103,12 +141,12 @@ fn any_bit_at_100h_starts_a_chain() {
         let mut space = vec![0; SPACE];
         space[0x100..0x104].copy_from_slice(&(1u32 << bit).to_le_bytes());
         let next = (1usize << bit) >> 20 & 0xFFC;
-        let (number, offsets) = match next {
-            0 => (0, vec![0x100]),
-            1..=0x100 => (7, vec![]),
-            _ => (0, vec![0x100, next]),
-        };
-        assert_eq!(walked(List::Extended, &space, 960, &offsets), number, "bit {bit}");
+        match next {
+            0 => assert_eq!(walked(List::Extended, &space, 960, &[0x100]), 0, "bit {bit}"),
+            1..0x100 => assert_eq!(broken(List::Extended, &space), (11, 0x100), "bit {bit}"),
+            0x100 => assert_eq!(broken(List::Extended, &space), (12, 0x100), "bit {bit}"),
+            _ => assert_eq!(walked(List::Extended, &space, 960, &[0x100, next]), 0, "bit {bit}"),
+        }
     }
 }
 
@@ -144,7 +182,10 @@ fn the_bottom_two_bits_of_every_pointer_are_dropped() {
 fn the_convenient_form_is_refused_alike() {
     for list in LISTS {
         assert_eq!(chain(list, &[0; SPACE - 1]), Err(Refusal::BadDescription));
+        let (at, low) = (floor(list) as Offset, floor(list) - 4);
         let space = chained(list, &[floor(list)], floor(list));
-        assert_eq!(chain(list, &space), Err(Refusal::BrokenChain));
+        assert_eq!(chain(list, &space), Err(Refusal::ComesBack { place: at }));
+        let space = chained(list, &[floor(list)], low);
+        assert_eq!(chain(list, &space), Err(Refusal::BelowFloor { place: Some(at) }));
     }
 }

@@ -29,17 +29,8 @@ enum-told c = search needs
 walk-short-requires : tie.Need-walk-short-requires
 walk-short-requires c κs = (search needs, subst (λ (k : Kind). Roomy k (c .before .before .before .before .before .before .before .before .args .room .now)) (c .before .enum-told .given .1) (search needs))
 
-enum-told-2 : tie.Need-enum-told-2
-enum-told-2 c = search needs
-
 walk-short-requires-2 : tie.Need-walk-short-requires-2
-walk-short-requires-2 c κs = (search needs, subst (λ (k : Kind). Roomy k (c .before .before .before .before .before .before .before .before .args .room .now)) (c .before .enum-told2 .given .1) (search needs))
-
-enum-told-3 : tie.Need-enum-told-3
-enum-told-3 c = search needs
-
-walk-short-requires-3 : tie.Need-walk-short-requires-3
-walk-short-requires-3 c κs = (search needs, subst (λ (k : Kind). Roomy k (c .before .before .before .before .before .before .before .before .args .room .now)) (c .before .enum-told3 .given .1) (search needs))
+walk-short-requires-2 c κs = search needs
 
 same-length : tie.Need-same-length
 same-length c = search needs
@@ -51,13 +42,7 @@ same-length-2 : tie.Need-same-length-2
 same-length-2 c = search needs
 
 returns-4 : tie.Need-returns-4
-returns-4 c = rw (c .before .before .before .before .enum-told2 .given .1) (c .before .before .walk-short2 .ensures)
-
-same-length-3 : tie.Need-same-length-3
-same-length-3 c = search needs
-
-returns-5 : tie.Need-returns-5
-returns-5 c = rw (c .before .before .before .before .enum-told3 .given .1) (c .before .before .walk-short3 .ensures)
+returns-4 c = c .before .before .walk-short2 .ensures
 
 pub walk-spec : {M : Type 1} → statement M
 walk-spec =
@@ -70,13 +55,8 @@ walk-spec =
     returns-2
     enum-told
     walk-short-requires
-    enum-told-2
     walk-short-requires-2
-    enum-told-3
-    walk-short-requires-3
     same-length
     returns-3
     same-length-2
-    returns-4
-    same-length-3
-    returns-5)
+    returns-4)

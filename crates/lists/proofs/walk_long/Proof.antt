@@ -1,10 +1,13 @@
--- `lists::walk_long` meets its contract: the chase goes on in a log of the list's maximum. Assumes nothing.
+-- `lists::walk_long` meets its contract: the chase goes on in a log of the list's maximum, and ends there or is broken. Assumes nothing.
 use borrow.Author.Needs.{needs}
 use mathlib.Core.Path.{_≡_, sym, _∙_}
 use native.Mathlib.Omega.{arith}
 use lib.ListN.{length, length-append}
 use lib.Seq.{length-take-le, take-at}
-use Rattle.lists.proofs.Walking.{maximum-bounds, chases-logged, underway-longer, walks-answered}
+use Rattle.lists.specs.declared.chase.Chased.the-variants.{Ended, Stopped}
+use Rattle.lists.specs.Walks.{Walks.listed}
+use Rattle.lists.specs.Inner.{Chases}
+use Rattle.lists.proofs.Walking.{maximum-bounds, chases-as, underway-longer, followed-words, walks-told}
 use Rattle.lists.proofs.walk_long.Statement.{statement}
 use Rattle.lists.proofs.walk_long.Tie as tie
 
@@ -36,32 +39,76 @@ chase-requires c κs =
 came-back : (c : tie.After-chase) → length (c .chase .last .1 .1 .0) ≡ c .before .before .before .before .before .maximum .result
 came-back c = c .chase .kept .1 .1 .0 ∙ sym (slice-aggregate-chase (c .before))
 
+enum-known-count : tie.Need-enum-known-count
+enum-known-count c = search needs
+
 array-share-prefix-log : tie.Need-array-share-prefix-log
-array-share-prefix-log c = simp length-append (omega (arith, came-back (c .before)))
+array-share-prefix-log c = simp length-append (omega (arith, came-back (c .before .before .before .before)))
 
-slice-aggregate-answered : tie.Need-slice-aggregate-answered
-slice-aggregate-answered c = rw (take-at _ _ _ (came-back (c .before .before))) (sym (came-back (c .before .before)))
+slice-aggregate-listed : tie.Need-slice-aggregate-listed
+slice-aggregate-listed c = rw (take-at _ _ _ (came-back (c .before .before .before .before .before))) (sym (came-back (c .before .before .before .before .before)))
 
-answered-requires : tie.Need-answered-requires
-answered-requires c κs =
-    let a = c .before .before .before .before .before .before .before .before .before .before .before .before in
-    let chase = c .before .before .before .chase in
-    let size = came-back (c .before .before .before) in
-    rw (take-at _ _ _ size)
-    (chases-logged (a .args .kind) (a .args .space .now) (chase .last .1 .1 .0) (chase .result) (chase .ensures), omega (arith, size, a .pre .1))
+-- the chase ended
+ended : (c : tie.After-known-told)
+    → Chases (c .before .before .before .before .before .before .before .before .before .before .before .before .before .args .kind)
+    (c .before .before .before .before .before .before .before .before .before .before .before .before .before .args .space .now)
+    (Ended (c .before .count .given .0 .0)) (c .before .before .before .before .chase .last .1 .1 .0)
+ended c =
+    let a = c .before .before .before .before .before .before .before .before .before .before .before .before .before .args in
+    chases-as (a .kind) (a .space .now) (c .before .before .before .before .chase .last .1 .1 .0) (c .before .count .given .1) (c .before .before .before .before .chase .ensures)
+
+listed-requires : tie.Need-listed-requires
+listed-requires c κs =
+    let a = c .before .before .before .before .before .before .before .before .before .before .before .before .before .before .before in
+    let size = came-back (c .before .before .before .before .before .before) in
+    rw (take-at _ _ _ size) (ended (c .before .before) .0, omega (arith, ended (c .before .before) .0, size, a .pre .1))
+
+enum-known-count-2 : tie.Need-enum-known-count-2
+enum-known-count-2 c = search needs
+
+array-share-prefix-log-2 : tie.Need-array-share-prefix-log-2
+array-share-prefix-log-2 c = simp length-append (omega (arith, came-back (c .before .before .before .before)))
+
+slice-aggregate-broken : tie.Need-slice-aggregate-broken
+slice-aggregate-broken c = rw (take-at _ _ _ (came-back (c .before .before .before .before .before))) (sym (came-back (c .before .before .before .before .before)))
+
+-- the chase stopped
+stopped : (c : tie.After-known-told2)
+    → Chases (c .before .before .before .before .before .before .before .before .before .before .before .before .before .args .kind)
+    (c .before .before .before .before .before .before .before .before .before .before .before .before .before .args .space .now)
+    (Stopped (c .before .count2 .given .0 .0) (c .before .count2 .given .0 .1 .0)) (c .before .before .before .before .chase .last .1 .1 .0)
+stopped c =
+    let a = c .before .before .before .before .before .before .before .before .before .before .before .before .before .args in
+    chases-as (a .kind) (a .space .now) (c .before .before .before .before .chase .last .1 .1 .0) (c .before .count2 .given .1) (c .before .before .before .before .chase .ensures)
+
+broken-requires : tie.Need-broken-requires
+broken-requires c κs =
+    let a = c .before .before .before .before .before .before .before .before .before .before .before .before .before .before in
+    let t = stopped (c .before) in
+    rw (take-at _ _ _ (came-back (c .before .before .before .before .before))) (
+      t .underway .followed .fits,
+      followed-words (a .args .kind) (a .args .space .now) _
+          (λ at. omega (arith, c .before .before .before .before .before .before .before .before .before .before .before .before .before .shared-slice-known .given at)) (t .underway .followed),
+      record { notEnd = t .onward; inside = t .underway .inside },
+    )
 
 same-length : tie.Need-same-length
 same-length c = search needs
 
 returns : tie.Need-returns
 returns c =
+    let a = c .before .before .before .before .before .before .before .before .before .before .before .before .before .before .before .before .before .before in
+    let chained = ended (c .before .before .before .before .before) in
+    listed (a .pre .0 .space) (a .pre .1) _ (chained .1)
+    (rw (take-at _ _ _ (came-back (c .before .before .before .before .before .before .before .before .before))) at (c .before .before .listed .ensures))
+
+returns-2 : tie.Need-returns-2
+returns-2 c =
     let a = c .before .before .before .before .before .before .before .before .before .before .before .before .before .before .before in
-    let chase = c .before .before .before .before .before .before .chase in
     let size = came-back (c .before .before .before .before .before .before) in
-    walks-answered (a .args .kind) (a .args .space .now) (chase .last .1 .1 .0)
-    (λ at. omega (arith, c .before .before .before .before .before .before .before .before .before .before .before .before .before .before .shared-slice-known .given at)) (a .pre .0 .space) (a .pre .1) (chase .result) (chase .ensures)
-    (λ pointer e. omega (arith, size))
-    (rw (take-at _ _ _ size) at (c .before .before .answered .ensures))
+    walks-told (a .args .kind) (a .args .space .now) (c .before .before .before .before .before .before .chase .last .1 .1 .0)
+    (λ at. omega (arith, c .before .before .before .before .before .before .before .before .before .before .before .before .before .before .shared-slice-known .given at))
+    (stopped (c .before .before)) (λ full. omega (arith, size)) (a .pre .1) (rw (take-at _ _ _ size) at (c .broken .ensures))
 
 pub walk-long-spec : {M : Type 1} → statement M
 walk-long-spec =
@@ -73,8 +120,14 @@ walk-long-spec =
     array-borrow-prefix-log
     slice-aggregate-chase
     chase-requires
+    enum-known-count
     array-share-prefix-log
-    slice-aggregate-answered
-    answered-requires
+    slice-aggregate-listed
+    listed-requires
+    enum-known-count-2
+    array-share-prefix-log-2
+    slice-aggregate-broken
+    broken-requires
     same-length
-    returns)
+    returns
+    returns-2)

@@ -4,7 +4,7 @@
 //! the one that waits, there is a loop (Brent). The one that waits is moved up to the runner after 1, 2, 4, 8 .. steps,
 //! so that it stands in the loop at last, and stays for long enough. There are no marks, and there is no bound.
 
-use super::header::Header;
+use super::header::{Header, pointer};
 use crate::generate::Shape;
 use crate::model::List;
 
@@ -31,7 +31,7 @@ pub struct Chain {
 }
 
 /// The offset that a pointer leads to.
-const fn offset(pointer: usize) -> usize {
+pub const fn offset(pointer: usize) -> usize {
     pointer / 4 * 4
 }
 
@@ -65,10 +65,22 @@ impl<'lent> Pointers<'lent> {
         Header::read(self.list, self.space, at)
     }
 
-    /// The headers from the start on, to an end or below the floor, and round a loop for ever.
+    /// The offsets of the headers from the start on, to an end or below the floor, and round a loop for ever.
+    pub fn offsets(self) -> impl Iterator<Item = usize> {
+        let met = move |pointer| Some(offset(pointer)).filter(|&at| at >= self.floor);
+        std::iter::successors(met(self.start()), move |&at| met(self.next(at)))
+    }
+
+    /// The headers at these offsets.
     pub fn headers(self) -> impl Iterator<Item = Header> {
-        let header = move |pointer| (offset(pointer) >= self.floor).then(|| self.header(offset(pointer)));
-        std::iter::successors(header(self.start()), move |last| header(last.pointer))
+        self.offsets().map(move |at| self.header(at))
+    }
+
+    /// The structure that holds the pointer after so many headers: the last of them. The start is the pointer before
+    /// all headers; no structure holds it, and 0 stands for that.
+    pub fn holder(self, headers: usize) -> usize {
+        let last = headers.checked_sub(1).map(|before| self.offsets().nth(before));
+        last.map_or(0, |offset| offset.expect("so many headers are met"))
     }
 
     /// The first pointers as they lie in the space, up to so many.
@@ -87,8 +99,8 @@ impl<'lent> Pointers<'lent> {
     }
 
     /// The pointer of the header at an offset.
-    fn next(self, at: usize) -> usize {
-        self.header(at).pointer
+    pub fn next(self, at: usize) -> usize {
+        pointer(self.list, self.space, at)
     }
 
     /// Follows the pointers to an end, below the floor, or round a loop.
@@ -147,8 +159,9 @@ mod tests {
     use super::{Ending, Pointers};
     use crate::generate::SHAPES;
 
-    /// A trusted list in the order of memory from 008h on, of so many headers, the last with this pointer.
-    fn ending(headers: usize, last: usize) -> (Ending, usize) {
+    /// Where a trusted list in the order of memory from 008h on leads, of so many headers, the last with this pointer:
+    /// the ending, the last pointer, and the structure that holds it.
+    fn ending(headers: usize, last: usize) -> (Ending, usize, usize) {
         let mut space = [0; 4096];
         space[0x004] = 0x08;
         for header in 1..=headers {
@@ -156,24 +169,35 @@ mod tests {
             let pointer = if header == headers { last } else { at + 4 };
             space[at + 2..at + 4].copy_from_slice(&(pointer as u16 * 16).to_le_bytes());
         }
-        let chain = Pointers::new(SHAPES[2], &space).expect("a whole space").follow();
-        (chain.ending, chain.last)
+        let pointers = Pointers::new(SHAPES[2], &space).expect("a whole space");
+        let chain = pointers.follow();
+        (chain.ending, chain.last, pointers.holder(headers))
     }
 
     #[test]
     fn ends_loops_and_floors_are_told_apart() {
         for headers in (1..200).chain([511, 512, 513, 1021, 1022]) {
-            assert_eq!(ending(headers, 3), (Ending::End { count: headers }, 3));
+            let holder = 4 + 4 * headers;
+            assert_eq!(ending(headers, 3), (Ending::End { count: headers }, 3, holder));
             let below = Ending::Below {
                 steps: headers,
                 offset: 4,
             };
-            assert_eq!(ending(headers, 6), (below, 6));
+            assert_eq!(ending(headers, 6), (below, 6, holder));
             for tail in 0..headers {
                 let length = headers - tail;
                 let back = 8 + 4 * tail + headers % 4;
-                assert_eq!(ending(headers, back), (Ending::Loop { tail, length }, back));
+                assert_eq!(ending(headers, back), (Ending::Loop { tail, length }, back, holder));
             }
         }
+    }
+
+    #[test]
+    fn no_structure_holds_the_start() {
+        let mut space = [0; 4096];
+        space[0x004] = 0x07;
+        let pointers = Pointers::new(SHAPES[2], &space).expect("a whole space");
+        let below = Ending::Below { steps: 0, offset: 4 };
+        assert_eq!((pointers.follow().ending, pointers.holder(0)), (below, 0));
     }
 }

@@ -18,12 +18,12 @@ impl Header {
             List::Compatible => Self {
                 id: byte(0),
                 version: 0,
-                pointer: byte(1),
+                pointer: pointer(list, space, at),
             },
             List::Extended | List::Trusted => Self {
                 id: byte(0) + 0x100 * byte(1),
                 version: byte(2) % 16,
-                pointer: byte(2) / 16 + 16 * byte(3),
+                pointer: pointer(list, space, at),
             },
         }
     }
@@ -31,6 +31,15 @@ impl Header {
     /// Whether there is nothing in it: no ID, no version and no pointer.
     pub const fn is_zero(self) -> bool {
         self.id == 0 && self.version == 0 && self.pointer == 0
+    }
+}
+
+/// The pointer of a header, without the rest of it.
+pub fn pointer(list: List, space: &[u8], at: usize) -> usize {
+    let byte = |place| usize::from(space[at + place]);
+    match list {
+        List::Compatible => byte(1),
+        List::Extended | List::Trusted => byte(2) / 16 + 16 * byte(3),
     }
 }
 

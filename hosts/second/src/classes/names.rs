@@ -171,11 +171,18 @@ pub const BOTTOM_BITS: &[&str] = &[
     "compatible, pointer that closes a loop",
     "extended, pointer that closes a loop",
     "trusted, pointer that closes a loop",
+    "compatible, next pointer below the floor",
+    "extended, next pointer below the floor",
+    "trusted, next pointer below the floor",
+    "compatible, start pointer below the floor",
+    "trusted, start pointer below the floor",
 ];
 
 pub const DECLARED_EMPTY: &[&str] = &[
     "compatible, its pointers hold a legal chain",
-    "compatible, its pointers hold a broken chain",
+    "compatible, its pointers go round a loop",
+    "compatible, its start leads below the floor",
+    "compatible, a pointer of its headers leads below the floor",
     "extended, the zero word at 100h, and something at 104h",
     "extended, the zero word at 100h and at 104h",
 ];

@@ -1,5 +1,6 @@
 //! The classes of calls that a run must reach, in groups, each with its least count for a million calls.
 
+use super::fault_names::{ELSEWHERE, END_PLACES, LOOP_PLACES, WALK_TOGETHER};
 use super::group::{Classes, Group, Line};
 use super::names::{
     BOTTOM_BITS, CAPTURES, CORRELATION, DECLARED_EMPTY, DUAL_CAUSES, DUAL_IGNORED, DUAL_ORDER, DVSEC_BODIES,
@@ -27,7 +28,7 @@ const fn named(group: Group, title: &'static str, names: &'static [&'static str]
 }
 
 /// All groups. "Alone" means that the call has no other cause for a refusal, or for Unsupported Request.
-pub const TABLE: [Line; 87] = [
+pub const TABLE: [Line; 95] = [
     numbered(Group::ServeAnswers, "serve: answers 0 to 6", 7, 1000),
     named(
         Group::ServeCauses,
@@ -127,11 +128,16 @@ pub const TABLE: [Line; 87] = [
     ),
     numbered(
         Group::WalkAnswers,
-        "walks: answers 0, 1, 2 and 7 of each list",
-        12,
+        "walks: answers 0, 1, 2, 11 and 12 of each list",
+        15,
         1000,
     ),
-    numbered(Group::WalkTogether, "walks: 1 with 2, and 2 with 7, each list", 6, 10),
+    named(
+        Group::WalkTogether,
+        "walks: 1 with 2, and both with 11 and 12",
+        WALK_TOGETHER,
+        10,
+    ),
     numbered(Group::Rooms, "walks: rooms of 0, max - 1, max, max + 1, more", 15, 100),
     numbered(Group::CompatibleChains, "walks: compatible chains of 0 to 48", 49, 50),
     numbered(Group::ExtendedChains, "walks: extended chains of 0 to 960", 961, 5),
@@ -171,6 +177,44 @@ pub const TABLE: [Line; 87] = [
         Group::TrustedFloor,
         "walks: trusted, below the floor after 0 to 10 steps",
         4,
+        100,
+    ),
+    numbered(
+        Group::StartsBelow,
+        "walks: 11 for a start at every offset below the floor",
+        16,
+        10,
+    ),
+    numbered(Group::BelowPlaces, "walks: 11 told at every offset, each list", 2030, 2),
+    numbered(
+        Group::BelowOffsets,
+        "walks: 11 for a pointer to every offset below the floor",
+        79,
+        10,
+    ),
+    numbered(Group::AgainPlaces, "walks: 12 told at every offset, each list", 2030, 2),
+    numbered(
+        Group::AgainOffsets,
+        "walks: 12 for a pointer to every offset, each list",
+        2030,
+        2,
+    ),
+    named(
+        Group::EndPlaces,
+        "walks: 11 and 12 at the lowest and highest offset",
+        END_PLACES,
+        50,
+    ),
+    named(
+        Group::LoopPlaces,
+        "walks: 12, where its place lies in the loop",
+        LOOP_PLACES,
+        100,
+    ),
+    named(
+        Group::Elsewhere,
+        "walks: faults of headers that are not met",
+        ELSEWHERE,
         100,
     ),
     named(Group::BottomBits, "walks: bottom bits of pointers", BOTTOM_BITS, 10),

@@ -4,55 +4,81 @@
 use thawribbon::raw::Walked;
 
 use super::chain::{Chain, Ending, Pointers};
+use super::fault::{self, Fault};
 use super::group::Group;
 use super::tally::Tally;
 use super::turn::turn_place;
-use super::{first_word, nulls};
+use super::{elsewhere, first_word, nulls};
 use crate::generate::{NAMED_LENGTHS, Shape, named_length_place};
 use crate::model::List;
 
-/// The answers that refuse a walk.
-const REFUSED_1: Walked = Walked { number: 1, count: 0 };
-const REFUSED_2: Walked = Walked { number: 2, count: 0 };
-const REFUSED_7: Walked = Walked { number: 7, count: 0 };
-
 /// Counts a walk in all its classes.
 pub fn count(shape: Shape, space: &[u8], room_length: usize, walked: Walked, tally: &mut Tally) {
-    let place = shape.place();
     count_sizes(shape, space.len(), room_length, tally);
     let small_room = room_length < shape.maximum;
     let Some(pointers) = Pointers::new(shape, space) else {
-        tally.add_if(small_room, Group::WalkTogether, 2 * place);
-        return count_answer(shape, REFUSED_1, walked, tally);
+        let fault = Fault::if_whole(shape, space);
+        tally.add_if(small_room, Group::WalkTogether, 5 * shape.place());
+        count_together(shape, 1, fault, tally);
+        return count_answer(shape, refused(1, 0), walked, tally);
     };
     let chain = pointers.follow();
-    let empty = pointers.are_declared_empty();
-    let due = match chain.ending {
-        _ if empty => Walked { number: 0, count: 0 },
-        Ending::End { count } => Walked { number: 0, count },
-        _ => REFUSED_7,
-    };
+    let fault = Fault::of(pointers, &chain);
     if small_room {
-        tally.add_if(due == REFUSED_7, Group::WalkTogether, 2 * place + 1);
-        return count_answer(shape, REFUSED_2, walked, tally);
+        count_together(shape, 3, fault, tally);
+        return count_answer(shape, refused(2, 0), walked, tally);
     }
+    let empty = pointers.are_declared_empty();
+    let due = match (fault, chain.ending) {
+        (Some(fault), _) => refused(fault.number, fault.place),
+        (None, Ending::End { count }) if !empty => served(count),
+        (None, _) => served(0),
+    };
     count_answer(shape, due, walked, tally);
     if empty {
-        count_empty(shape, pointers, &chain, tally);
-    } else {
-        count_ending(shape, &chain, tally);
-        count_headers(shape, pointers, chain.ending, tally);
+        return count_empty(shape, pointers, &chain, tally);
+    }
+    count_ending(shape, &chain, tally);
+    count_headers(shape, pointers, chain.ending, tally);
+    if let Some(fault) = fault {
+        fault::count(shape, fault, chain.ending, tally);
     }
 }
 
-/// Counts a walk by its number. Its answer must be the one that is due.
+const fn served(count: usize) -> Walked {
+    Walked {
+        count,
+        number: 0,
+        place: 0,
+    }
+}
+
+/// A refusal; only 11 and 12 tell a place other than 0.
+const fn refused(number: u8, place: usize) -> Walked {
+    Walked {
+        count: 0,
+        number,
+        place: place as u16,
+    }
+}
+
+/// Counts a walk that is refused with 1 or 2 where its list has a fault too. With 11 is the class given, with 12 the
+/// next one.
+fn count_together(shape: Shape, class: usize, fault: Option<Fault>, tally: &mut Tally) {
+    if let Some(fault) = fault {
+        let other = usize::from(fault.number == 12);
+        tally.add(Group::WalkTogether, 5 * shape.place() + class + other);
+    }
+}
+
+/// Counts a walk by its number. Its answer must be the one that is due, with its place.
 fn count_answer(shape: Shape, due: Walked, walked: Walked, tally: &mut Tally) {
     let list = shape.list;
     assert_eq!(due, walked, "the model and the pointers disagree on a {list:?} list");
-    let answer = [0, 1, 2, 7].iter().position(|&number| number == due.number);
+    let answer = [0, 1, 2, 11, 12].iter().position(|&number| number == due.number);
     tally.add(
         Group::WalkAnswers,
-        4 * shape.place() + answer.expect("a walk answers 0, 1, 2 or 7"),
+        5 * shape.place() + answer.expect("a walk answers 0, 1, 2, 11 or 12"),
     );
 }
 
@@ -76,11 +102,17 @@ fn count_empty(shape: Shape, pointers: Pointers<'_>, chain: &Chain, tally: &mut 
     count_chain(shape, 0, tally);
     if shape.list == List::Extended {
         let nothing_behind = pointers.header(0x104).is_zero();
-        tally.add(Group::DeclaredEmpty, 2 + usize::from(nothing_behind));
-    } else {
-        let broken = !matches!(chain.ending, Ending::End { .. });
-        tally.add_if(chain.start > 3, Group::DeclaredEmpty, usize::from(broken));
+        tally.add(Group::DeclaredEmpty, 4 + usize::from(nothing_behind));
+        return;
     }
+    let class = match chain.ending {
+        Ending::End { .. } if chain.start < 4 => return,
+        Ending::End { .. } => 0,
+        Ending::Loop { .. } => 1,
+        Ending::Below { steps: 0, .. } => 2,
+        Ending::Below { .. } => 3,
+    };
+    tally.add(Group::DeclaredEmpty, class);
 }
 
 fn count_ending(shape: Shape, chain: &Chain, tally: &mut Tally) {
@@ -94,7 +126,12 @@ fn count_ending(shape: Shape, chain: &Chain, tally: &mut Tally) {
             count_loop(shape, tail, length, tally);
             tally.add_if(chain.last % 4 != 0, Group::BottomBits, 16 + shape.place());
         }
-        Ending::Below { steps, offset } => count_below(shape, steps, offset, tally),
+        Ending::Below { steps, offset } => {
+            count_below(shape, steps, offset, tally);
+            let start = if shape.list == List::Compatible { 22 } else { 23 };
+            let class = if steps == 0 { start } else { 19 + shape.place() };
+            tally.add_if(chain.last % 4 != 0, Group::BottomBits, class);
+        }
     }
 }
 
@@ -104,6 +141,7 @@ fn count_headers(shape: Shape, pointers: Pointers<'_>, ending: Ending, tally: &m
         first_word::count(pointers.header(0x100), ending, shape.maximum, tally);
     }
     nulls::count(shape, pointers, ending, tally);
+    elsewhere::count(shape, pointers, ending, tally);
 }
 
 /// Counts where the last header points.
@@ -169,5 +207,36 @@ fn count_bottom_bits(shape: Shape, chain: &Chain, count: usize, tally: &mut Tall
     if shape.list != List::Extended {
         tally.add_if(count > 0 && chain.start % 4 != 0, Group::BottomBits, first + 4);
         tally.add_if(count == 0 && chain.start != 0, Group::BottomBits, first + 5);
+    }
+}
+
+#[cfg(test)]
+mod tests {
+    use super::{Tally, count, refused};
+    use crate::generate::SHAPES;
+
+    /// Counts a walk of an extended list in which the header at 100h points to that at 140h, and that to itself.
+    fn count_loop_at_140h(number: u8, place: usize) {
+        let mut space = [0; 4096];
+        space[0x102..0x104].copy_from_slice(&[0x00, 0x14]);
+        space[0x142..0x144].copy_from_slice(&[0x00, 0x14]);
+        count(SHAPES[1], &space, 960, refused(number, place), &mut Tally::new());
+    }
+
+    #[test]
+    fn the_number_and_the_place_that_the_pointers_call_for_are_counted() {
+        count_loop_at_140h(12, 0x140);
+    }
+
+    #[test]
+    #[should_panic(expected = "the model and the pointers disagree")]
+    fn another_number_stops_the_run() {
+        count_loop_at_140h(11, 0x140);
+    }
+
+    #[test]
+    #[should_panic(expected = "the model and the pointers disagree")]
+    fn another_place_stops_the_run() {
+        count_loop_at_140h(12, 0x100);
     }
 }

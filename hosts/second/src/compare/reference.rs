@@ -40,6 +40,7 @@ fn walk(list: List, space: &[u8], room: &mut [u16]) -> Walked {
     Walked {
         count: walked.count,
         number: walked.number,
+        place: walked.place,
     }
 }
 

@@ -12,7 +12,7 @@ use crate::classes::Tally;
 use crate::generate::{Random, SHAPES};
 
 /// How often each entry is called: serve, reset, the three walks, dvsec, dvsec_body, dual_bdf, route.
-const WEIGHTS: [usize; 9] = [70, 3, 4, 6, 6, 4, 3, 4, 25];
+const WEIGHTS: [usize; 9] = [70, 3, 5, 6, 6, 4, 3, 4, 25];
 
 /// Where a run met a difference.
 #[derive(Debug)]

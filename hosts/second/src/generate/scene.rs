@@ -1,13 +1,14 @@
 //! Spaces for walks: one long random chain, and for each call a few edits that are undone after it.
 
+mod broken;
 mod nothing;
 
 use std::ops::Range;
 
 use super::board::{LONGEST_SPACE, SPACE_BYTES};
 use super::cursor::Cursor;
+use super::fault_words::FaultWords;
 use super::first_word::FirstWords;
-use super::loops::draw_loop;
 use super::random::Random;
 use super::shape::Shape;
 use crate::model::List;
@@ -27,6 +28,7 @@ pub struct Scene {
     edits: Vec<(usize, u32)>,
     chain_lengths: Cursor,
     first_words: FirstWords,
+    fault_words: FaultWords,
     calls_left: usize,
 }
 
@@ -44,12 +46,13 @@ impl Scene {
             edits: Vec::new(),
             chain_lengths: Cursor::new(shape.maximum + 1),
             first_words: FirstWords::new(),
+            fault_words: FaultWords::new(shape.maximum),
             calls_left: 0,
         }
     }
 
-    /// Makes the space of one call. Where its sizes are right, the lengths of chains and the words at 100h have their
-    /// turn.
+    /// Makes the space of one call. Where its sizes are right, the lengths of chains, the words at 100h and the words
+    /// where a list breaks have their turn.
     pub fn prepare(&mut self, in_turn: bool, random: &mut Random) {
         self.space.lend(SPACE_BYTES);
         if self.calls_left == 0 {
@@ -59,14 +62,17 @@ impl Scene {
         if self.noise {
             return;
         }
-        let headers = match random.weighted(&[45, 27, 20, 8]) {
+        let headers = match random.weighted(&[35, 35, 22, 8]) {
             0 => self.chain_of_some_length(in_turn, random),
-            1 => self.make_loop(random),
-            2 => self.go_below(random),
+            1 => self.make_loop(in_turn, random),
+            2 => self.go_below(in_turn, random),
             _ => return self.come_near_to_nothing(in_turn, random),
         };
         if random.percent(45) {
             self.blank(&headers, random);
+        }
+        if random.percent(25) {
+            self.break_elsewhere(&headers, random);
         }
     }
 
@@ -115,7 +121,7 @@ impl Scene {
 
     /// A legal chain: its length is the next in turn, a short one, or one of the edges.
     ///
-    /// This and the three below answer the places of the headers that a walk meets.
+    /// This and the others that make a list answer the places of the headers that a walk meets.
     fn chain_of_some_length(&mut self, in_turn: bool, random: &mut Random) -> Range<usize> {
         let maximum = self.shape.maximum;
         let length = match random.weighted(&[60, 28, 12]) {
@@ -143,48 +149,17 @@ impl Scene {
         first..end
     }
 
-    /// A chain that comes back to itself: after a tail, so many offsets over and over.
-    fn make_loop(&mut self, random: &mut Random) -> Range<usize> {
-        let (tail, length) = draw_loop(self.shape.maximum, random);
-        let first = self.begin(tail + length, random);
-        let end = first + tail + length;
-        self.point(end - 1, self.order[first + tail], random);
-        first..end
-    }
-
-    /// A chain that leads below the floor, at once or after some steps.
-    fn go_below(&mut self, random: &mut Random) -> Range<usize> {
-        let (floor, maximum) = (self.shape.floor, self.shape.maximum);
-        let below = if random.percent(50) {
-            floor - 4
-        } else {
-            4 * random.within(1, floor / 4 - 1)
-        } as u16;
-        let steps = match random.below(8) {
-            0 => 0,
-            1 => 1,
-            2 | 3 => random.within(2, 9),
-            4 => random.within(10, 40),
-            5 => random.within(1, maximum),
-            6 => maximum - 1,
-            _ => maximum,
-        };
-        if steps == 0 && self.shape.list != List::Extended {
-            self.point_start(below, random);
-            return 0..0;
-        }
-        let first = self.begin(steps.max(1), random);
-        let end = first + steps.max(1);
-        self.point(end - 1, below, random);
-        first..end
-    }
-
     /// Starts the list at a place of the order from which so many offsets follow, and answers that place.
     fn begin(&mut self, needed: usize, random: &mut Random) -> usize {
+        self.begin_up_to(self.order.len() - needed, random)
+    }
+
+    /// Starts the list at a place of the order up to a last one, and answers it. The extended list starts with the first.
+    fn begin_up_to(&mut self, last: usize, random: &mut Random) -> usize {
         if self.shape.list == List::Extended {
             return 0;
         }
-        let first = random.within(0, self.order.len() - needed);
+        let first = random.within(0, last);
         self.point_start(self.order[first], random);
         first
     }

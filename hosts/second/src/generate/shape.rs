@@ -17,6 +17,11 @@ impl Shape {
     pub const fn place(self) -> usize {
         self.list as usize
     }
+
+    /// The highest offset of a header.
+    pub const fn highest(self) -> usize {
+        self.floor + 4 * (self.maximum - 1)
+    }
 }
 
 /// The lines in the order of the table.

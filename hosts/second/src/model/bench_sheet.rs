@@ -193,11 +193,21 @@ fn p11_dvsec_and_its_body() {
     );
 }
 
+/// The answer of a walk that is refused.
+pub(super) const fn refused(number: u8, place: u16) -> Walked {
+    Walked {
+        number,
+        count: 0,
+        place,
+    }
+}
+
+/// As request 3/13 has it: "`extended 12 100 refused` for P12".
 #[test]
 fn p12_header_that_points_to_itself() {
     let space = space_with(0x100, &[0x23, 0, 1, 0x10]);
     let mut room = [0xAAAA; 960];
-    assert_eq!(walk(List::Extended, &space, &mut room), Walked { number: 7, count: 0 });
+    assert_eq!(walk(List::Extended, &space, &mut room), refused(12, 0x100));
     assert_eq!(room, [0xAAAA; 960]);
 }
 
@@ -235,16 +245,14 @@ fn each_maximum_and_a_room_too_small_by_one() {
             set_next(list, &mut space, usize::from(pair[0]), pair[1]);
         }
         let mut room = vec![0xAAAA; maximum + 1];
-        assert_eq!(
-            walk(list, &space, &mut room[..maximum - 1]),
-            Walked { number: 2, count: 0 }
-        );
+        assert_eq!(walk(list, &space, &mut room[..maximum - 1]), refused(2, 0));
         assert!(room.iter().all(|&offset| offset == 0xAAAA));
         assert_eq!(
             walk(list, &space, &mut room),
             Walked {
                 number: 0,
-                count: maximum
+                count: maximum,
+                place: 0
             }
         );
         assert_eq!((&room[..maximum], room[maximum]), (&offsets[..], 0xAAAA));
@@ -258,7 +266,7 @@ fn a_pointer_four_below_each_floor() {
         set_start(list, &mut space, floor);
         set_next(list, &mut space, usize::from(floor), floor - 4);
         let mut room = vec![0xAAAA; maximum];
-        assert_eq!(walk(list, &space, &mut room), Walked { number: 7, count: 0 });
+        assert_eq!(walk(list, &space, &mut room), refused(11, floor));
         assert!(room.iter().all(|&offset| offset == 0xAAAA));
     }
 }
@@ -269,10 +277,7 @@ fn a_loop_that_never_comes_back_to_the_start() {
     for (at, next) in [(0x100, 0x140), (0x140, 0x180), (0x180, 0x140)] {
         set_next(List::Extended, &mut space, at, next);
     }
-    assert_eq!(
-        walk(List::Extended, &space, &mut [0; 960]),
-        Walked { number: 7, count: 0 }
-    );
+    assert_eq!(walk(List::Extended, &space, &mut [0; 960]), refused(12, 0x180));
 }
 
 #[test]

@@ -5,23 +5,33 @@ use super::{List, Walked, walk};
 /// What the room is filled with before it is lent.
 const LENT: u16 = 0xAAAA;
 
-/// Walks a list of a space that is 0 but for some words. Answers the number with what was listed; the rest of the room
-/// has to stay.
-fn walked(list: List, words: &[(usize, u32)]) -> (u8, Vec<u16>) {
+/// Walks a list of a space that is 0 but for some words. Answers the number and the place with what was listed; the rest
+/// of the room has to stay.
+fn walked(list: List, words: &[(usize, u32)]) -> (u8, u16, Vec<u16>) {
     let mut space = [0; 4096];
     for &(at, word) in words {
         space[at..at + 4].copy_from_slice(&word.to_le_bytes());
     }
     let mut room = vec![LENT; 1023];
-    let Walked { number, count } = walk(list, &space, &mut room);
+    let Walked { number, count, place } = walk(list, &space, &mut room);
     assert!(room[count..].iter().all(|&cell| cell == LENT));
     room.truncate(count);
-    (number, room)
+    (number, place, room)
+}
+
+/// What a walk answers that lists these offsets.
+fn lists(offsets: impl Into<Vec<u16>>) -> (u8, u16, Vec<u16>) {
+    (0, 0, offsets.into())
+}
+
+/// What a walk answers that is refused.
+fn breaks(number: u8, place: u16) -> (u8, u16, Vec<u16>) {
+    (number, place, Vec::new())
 }
 
 #[test]
 fn empty_only_if_the_whole_word_at_100h_is_zero() {
-    let empty = (0, Vec::new());
+    let empty = lists([]);
     assert_eq!(walked(List::Extended, &[]), empty);
     let behind = [(0x0FC, u32::MAX), (0x104, 0x1081_0023), (0x108, 0x0001_000C)];
     assert_eq!(walked(List::Extended, &behind), empty);
@@ -32,9 +42,10 @@ fn each_bit_of_the_word_at_100h_alone() {
     for bit in 0..32 {
         let word = 1_u32 << bit;
         let expected = match (word >> 22) * 4 {
-            0 => (0, vec![0x100]),
-            0x004..=0x100 => (7, Vec::new()),
-            pointer => (0, vec![0x100, pointer as u16]),
+            0 => lists([0x100]),
+            0x100 => breaks(12, 0x100),
+            0x004..0x100 => breaks(11, 0x100),
+            pointer => lists([0x100, pointer as u16]),
         };
         assert_eq!(walked(List::Extended, &[(0x100, word)]), expected, "{word:#010x}");
     }
@@ -44,11 +55,7 @@ fn each_bit_of_the_word_at_100h_alone() {
 fn every_version_with_a_pointer_of_0_to_3() {
     for fields in 1..64 {
         let word = fields << 16;
-        assert_eq!(
-            walked(List::Extended, &[(0x100, word)]),
-            (0, vec![0x100]),
-            "{word:#010x}"
-        );
+        assert_eq!(walked(List::Extended, &[(0x100, word)]), lists([0x100]), "{word:#010x}");
     }
 }
 
@@ -63,7 +70,7 @@ fn every_record_behind_a_blanked_one_is_listed() {
                 let id = if blanked >> place & 1 == 1 { 0xFFFF } else { 0 };
                 (at, word & !id | version << 16)
             });
-            assert_eq!(walked(List::Extended, &words), (0, vec![0x100, 0x140, 0x180]));
+            assert_eq!(walked(List::Extended, &words), lists([0x100, 0x140, 0x180]));
         }
     }
 }
@@ -75,35 +82,34 @@ fn the_longest_chain_with_every_id_0() {
         .windows(2)
         .map(|pair| (pair[0].into(), u32::from(pair[1]) << 20))
         .collect();
-    assert_eq!(walked(List::Extended, &words), (0, offsets));
+    assert_eq!(walked(List::Extended, &words), lists(offsets));
     words.push((0xFFC, 0x8000_0000));
-    assert_eq!(walked(List::Extended, &words), (7, Vec::new()));
+    assert_eq!(walked(List::Extended, &words), breaks(12, 0xFFC));
 }
 
 #[test]
 fn a_broken_chain_from_a_null_capability_on() {
-    let broken: [&[(usize, u32)]; 5] = [
-        &[(0x100, 0x1000_0000)],
-        &[(0x100, 0x0FC0_0000)],
-        &[(0x100, 0x1400_0000), (0x140, 0x1000_0000)],
-        &[(0x100, 0x1400_0000), (0x140, 0x0040_0000)],
-        &[(0x100, 0x1400_0000), (0x140, 0x1800_0000), (0x180, 0x1400_0000)],
-    ];
-    for version in 0..16 {
-        for words in broken {
+    let sees = |words: &[(usize, u32)], number, place| {
+        for version in 0..16 {
             let words: Vec<_> = words.iter().map(|&(at, word)| (at, word | version << 16)).collect();
-            assert_eq!(walked(List::Extended, &words), (7, Vec::new()), "{words:x?}");
+            assert_eq!(walked(List::Extended, &words), breaks(number, place), "{words:x?}");
         }
-    }
+    };
+    sees(&[(0x100, 0x1000_0000)], 12, 0x100);
+    sees(&[(0x100, 0x0FC0_0000)], 11, 0x100);
+    sees(&[(0x100, 0x1400_0000), (0x140, 0x1000_0000)], 12, 0x140);
+    sees(&[(0x100, 0x1400_0000), (0x140, 0x0040_0000)], 11, 0x140);
+    let behind = [(0x100, 0x1400_0000), (0x140, 0x1800_0000), (0x180, 0x1400_0000)];
+    sees(&behind, 12, 0x180);
 }
 
 /// "the extended list is empty only if": of the other two lists the request says nothing.
 #[test]
 fn the_other_lists_take_a_header_of_zero() {
     let compatible = [(0x004, 1 << 20), (0x034, 0x040), (0x040, 0x8000)];
-    assert_eq!(walked(List::Compatible, &compatible), (0, vec![0x040, 0x080]));
-    assert_eq!(walked(List::Compatible, &compatible[..2]), (0, vec![0x040]));
+    assert_eq!(walked(List::Compatible, &compatible), lists([0x040, 0x080]));
+    assert_eq!(walked(List::Compatible, &compatible[..2]), lists([0x040]));
     let trusted = [(0x004, 0x100), (0x100, 0x2000_0000)];
-    assert_eq!(walked(List::Trusted, &trusted), (0, vec![0x100, 0x200]));
-    assert_eq!(walked(List::Trusted, &trusted[..1]), (0, vec![0x100]));
+    assert_eq!(walked(List::Trusted, &trusted), lists([0x100, 0x200]));
+    assert_eq!(walked(List::Trusted, &trusted[..1]), lists([0x100]));
 }

@@ -1,5 +1,6 @@
-//! The answer numbers 1 to 10, each with document 01's cause, and the causes that request 1/13 adds. Number 0 is the
-//! absence of a refusal.
+//! The answer numbers 1 to 12, each with the documents' cause: document 01's 1 to 10, with the causes that request 1/13
+//! adds, and the 11 and 12 into which request 3/13 splits 7. Number 0 is the absence of a refusal, and "7 is no longer
+//! given".
 
 /// Why a call is refused. The lowest number that applies is given.
 #[derive(Clone, Copy, Debug, PartialEq, Eq)]
@@ -21,18 +22,20 @@ pub(super) enum Refusal {
     PacketLength = 5,
     /// "a fixed header field has another value"
     FixedField = 6,
-    /// "broken chain"
-    Broken = 7,
     /// "not the structure asked for"
     Structure = 8,
     /// "a wrong length, or the structure runs out of its space"
     StructureLength = 9,
     /// "function vector without exactly one bit"
     Vector = 10,
+    /// Document 02, 3/13: "11 for a pointer below the floor"
+    Below = 11,
+    /// Document 02, 3/13: "12 for a pointer to an offset already in the chain"
+    Again = 12,
 }
 
 impl Refusal {
-    /// The number that document 01 fixes for this cause.
+    /// The number that the documents fix for this cause.
     pub(super) const fn number(self) -> u8 {
         self as u8
     }

@@ -38,13 +38,13 @@ impl Laid {
         set_next(self.list, &mut self.space, self.order[place].into(), pointer);
     }
 
-    /// Walks the list, and answers the number with what was listed. The rest of the room has to stay.
-    fn walk(&self) -> (u8, Vec<u16>) {
+    /// Walks the list, and answers the number and the place with what was listed. The rest of the room has to stay.
+    fn walk(&self) -> (u8, u16, Vec<u16>) {
         let mut room = vec![LENT; self.order.len() + 1];
-        let Walked { number, count } = walk(self.list, &self.space, &mut room);
+        let Walked { number, count, place } = walk(self.list, &self.space, &mut room);
         assert!(room[count..].iter().all(|&cell| cell == LENT));
         room.truncate(count);
-        (number, room)
+        (number, place, room)
     }
 }
 
@@ -61,19 +61,24 @@ fn the_last_header_to_the_end_to_every_header_and_below_the_floor() {
     for (list, floor, maximum) in LISTS {
         for headers in numbers_of_headers(maximum) {
             let mut laid = Laid::new(list, floor, maximum);
+            let last = laid.order[headers - 1];
             laid.point(headers - 1, 0);
-            assert_eq!(laid.walk(), (0, laid.order[..headers].to_vec()));
+            assert_eq!(laid.walk(), (0, 0, laid.order[..headers].to_vec()));
             for back in 0..headers {
                 laid.point(headers - 1, laid.order[back]);
                 assert_eq!(
                     laid.walk(),
-                    (7, Vec::new()),
+                    (12, last, Vec::new()),
                     "{list:?}, header {headers} to header {back}"
                 );
             }
             for below in (4..floor).step_by(4) {
                 laid.point(headers - 1, below);
-                assert_eq!(laid.walk(), (7, Vec::new()), "{list:?}, header {headers} to {below:#x}");
+                assert_eq!(
+                    laid.walk(),
+                    (11, last, Vec::new()),
+                    "{list:?}, header {headers} to {below:#x}"
+                );
             }
         }
     }
@@ -90,9 +95,9 @@ fn every_start() {
             };
             set_start(list, &mut laid.space, pointer);
             let expected = match pointer {
-                0..4 => (0, Vec::new()),
-                _ if pointer < floor => (7, Vec::new()),
-                _ => (0, vec![pointer / 4 * 4]),
+                0..4 => (0, 0, Vec::new()),
+                _ if pointer < floor => (11, 0, Vec::new()),
+                _ => (0, 0, vec![pointer / 4 * 4]),
             };
             assert_eq!(laid.walk(), expected, "{list:?}, start {pointer:#x}");
         }

@@ -1,4 +1,4 @@
-//! The three capability lists: the offsets of the one legal chain, or number 7 where there is none.
+//! The three capability lists: the offsets of the one legal chain, or what broke and where.
 
 use super::refusal::Refusal;
 use super::space::{SPACE_BYTES, Space, is_word_offset, whole, word};
@@ -11,11 +11,24 @@ pub enum List {
     Trusted,
 }
 
-/// The answer of a walk: its number, and the length of the chain.
+/// The answer of a walk: its number, the length of the chain, and where the list broke.
 #[derive(Clone, Copy, Debug, PartialEq, Eq)]
 pub struct Walked {
     pub number: u8,
     pub count: usize,
+    /// With 11 and 12 "the offset of the structure holding that pointer, or 0 where the start itself is at fault"; 0 with
+    /// every other number.
+    pub place: u16,
+}
+
+impl Walked {
+    const fn refused(refusal: Refusal, place: u16) -> Self {
+        Self {
+            number: refusal.number(),
+            count: 0,
+            place,
+        }
+    }
 }
 
 /// "The bottom two bits of every pointer are dropped first."
@@ -26,18 +39,18 @@ const WORDS: usize = SPACE_BYTES / 4;
 /// Writes the offsets of a list's legal chain to the start of the room. "If one exists, the answer is 0, its offsets in
 /// order are in a lent list of 16-bit numbers, the rest of the list stays, and the count of headers read is the chain's
 /// length, at most the maximum. If none exists, 7."
+///
+/// The 7 is replaced by document 02, 3/13: "Split it: 11 for a pointer below the floor, 12 for a pointer to an offset
+/// already in the chain."
 pub fn walk(list: List, space: &[u8], room: &mut [u16]) -> Walked {
-    let walked = whole(space).and_then(|space| match list {
+    let space = match whole(space) {
+        Ok(space) => space,
+        Err(refusal) => return Walked::refused(refusal, 0),
+    };
+    match list {
         List::Compatible => follow::<0x040, 48>(compatible_start(space), |at| compatible_next(space, at), room),
         List::Extended => follow::<0x100, 960>(extended_start(space), |at| extended_next(space, at), room),
         List::Trusted => follow::<0x008, 1022>(trusted_start(space), |at| extended_next(space, at), room),
-    });
-    match walked {
-        Ok(count) => Walked { number: 0, count },
-        Err(refusal) => Walked {
-            number: refusal.number(),
-            count: 0,
-        },
     }
 }
 
@@ -45,16 +58,17 @@ pub fn walk(list: List, space: &[u8], room: &mut [u16]) -> Walked {
 /// one its predecessor points to, none below the floor, the last pointing to 0."
 ///
 /// So the pointers leave no choice, and no legal chain exists exactly where they lead below the floor, or to an offset
-/// a second time: from there they go round, and no end comes. Every word that was met has a mark. No count decides.
+/// a second time: from there they go round, and no end comes. Document 02, 3/13: "The walk keeps a mark for each of the
+/// 1,024 words, so that the first fault is the one told." No count decides.
 ///
 /// The offsets are kept aside until the end is reached: a broken chain leaves the room as it was.
 fn follow<const FLOOR: usize, const MAXIMUM: usize>(
     start: usize,
     next: impl Fn(usize) -> usize,
     room: &mut [u16],
-) -> Result<usize, Refusal> {
+) -> Walked {
     if room.len() < MAXIMUM {
-        return Err(Refusal::Room);
+        return Walked::refused(Refusal::Room, 0);
     }
     let mut met = [false; WORDS];
     let mut chain = [0; WORDS];
@@ -62,7 +76,10 @@ fn follow<const FLOOR: usize, const MAXIMUM: usize>(
     let mut at = start & POINTER_BITS;
     while at != 0 {
         if at < FLOOR || met[at / 4] {
-            return Err(Refusal::Broken);
+            debug_assert!(could_be_legal(&chain[..count], FLOOR, MAXIMUM));
+            debug_assert!(chain[..count].contains(&(at as u16)) == (at >= FLOOR));
+            let refusal = if at < FLOOR { Refusal::Below } else { Refusal::Again };
+            return broken(refusal, &chain[..count]);
         }
         debug_assert!(count < MAXIMUM, "more words were met than lie from the floor on");
         met[at / 4] = true;
@@ -72,11 +89,24 @@ fn follow<const FLOOR: usize, const MAXIMUM: usize>(
     }
     debug_assert!(could_be_legal(&chain[..count], FLOOR, MAXIMUM));
     room[..count].copy_from_slice(&chain[..count]);
-    Ok(count)
+    Walked {
+        number: 0,
+        count,
+        place: 0,
+    }
 }
 
-/// What holds of every legal chain: it is not longer than the maximum, its offsets are words of the space from the
-/// floor on, and no two are the same. Only stated: no answer rests on it.
+/// A chain that breaks after these offsets. "Each tells the offset of the structure holding that pointer, or 0 where the
+/// start itself is at fault": the last of them holds it, and before the first there is only the start.
+///
+/// Not inlined, so that all which a legal chain does for a header is to mark it and to add its offset.
+#[inline(never)]
+fn broken(refusal: Refusal, chain: &[u16]) -> Walked {
+    Walked::refused(refusal, chain.last().copied().unwrap_or(0))
+}
+
+/// What holds of every legal chain, and of what is met before a fault: it is not longer than the maximum, its offsets
+/// are words of the space from the floor on, and no two are the same. Only stated: no answer rests on it.
 fn could_be_legal(chain: &[u16], floor: usize, maximum: usize) -> bool {
     let mut sorted = [0; WORDS];
     let Some(sorted) = sorted.get_mut(..chain.len()) else {

@@ -1,9 +1,11 @@
 //! Wrong ways to take a null capability, one whose ID is 0: at 100h, and further on.
 
 use crate::harness::{Wrong, expect_caught, right_walk};
-use crate::walker::{BROKEN, EXTENDED, Habits, LISTS, Memory, Verdict, is_null, is_zero, listed, one_walked_by, right};
+use crate::walker::{
+    EXTENDED, Habits, LISTS, Memory, Verdict, holder, is_null, is_zero, listed, one_walked_by, refused, right,
+};
 
-/// A list whose chain is changed before it is listed, or refused with 7.
+/// A list whose chain is changed before it is listed, or refused as broken at its last structure.
 fn relisted(place: usize, change: impl Fn(&[u8], Vec<u16>) -> Option<Vec<u16>> + 'static) -> Wrong {
     one_walked_by(place, move |list, space, room| {
         let mut chain = room.to_vec();
@@ -12,7 +14,8 @@ fn relisted(place: usize, change: impl Fn(&[u8], Vec<u16>) -> Option<Vec<u16>> +
             return walked;
         }
         chain.truncate(walked.count);
-        change(space, chain).map_or(BROKEN, |changed| listed(&changed, room))
+        let last = holder(&chain);
+        change(space, chain).map_or(refused(11, last), |changed| listed(&changed, room))
     })
 }
 

@@ -3,28 +3,14 @@
 
 use std::collections::HashSet;
 
-use second::model::List;
 use thawribbon::raw::Walked;
 
+use crate::broken::{Broken, Shape, first, step};
 use crate::harness::{expect_caught, expect_not_caught, right_walk};
 use crate::walker::{
-    BROKEN, Habits, LISTS, Memory, Verdict, all_walked_by, expect_each_caught, expect_none_caught, listed, next,
-    one_walked_by, start,
+    ALL, Habits, LISTS, Memory, Verdict, all_walked_by, expect_each_caught, expect_none_caught, holder, listed, next,
+    one_walked_by, refused,
 };
-
-const ALL: &[usize] = &[0, 1, 2];
-
-/// The offset that a list starts with; 0 where it is empty.
-fn first(list: List, space: &[u8]) -> usize {
-    let (pointer, empty) = start(list, space);
-    if empty { 0 } else { pointer & 0xFFC }
-}
-
-/// The offset after one. Below the floor, and at an end, a walker stays where it is.
-fn step(place: usize, space: &[u8], at: usize) -> usize {
-    let (list, _, floor, _) = LISTS[place];
-    if at < floor { at } else { next(list, space, at) & 0xFFC }
-}
 
 /// The offsets from a start on, up to an end or to the maximum.
 fn offsets_from(place: usize, space: &[u8], start: usize) -> Vec<u16> {
@@ -55,23 +41,52 @@ fn all_offsets_remembered_are_not_caught() {
     });
 }
 
-/// A tortoise makes one step where a hare makes two: they meet in a loop, at an end, or below the floor (Floyd).
+/// Where a tortoise and a hare meet, which makes two steps where it makes one: in a loop, at an end, or below the floor
+/// (Floyd).
+fn meeting(place: usize, space: &[u8]) -> usize {
+    let start = first(LISTS[place].0, space);
+    let (mut tortoise, mut hare) = (start, start);
+    loop {
+        tortoise = step(place, space, tortoise);
+        hare = step(place, space, step(place, space, hare));
+        if tortoise == hare {
+            return tortoise;
+        }
+    }
+}
+
+/// The header from one on whose pointer leads to an offset.
+fn leading_to(place: usize, space: &[u8], from: usize, to: usize) -> u16 {
+    let mut at = from;
+    while step(place, space, at) != to {
+        at = step(place, space, at);
+    }
+    at as u16
+}
+
+/// From the start and from where they met, two more walkers come to the loop's first header at once. The header that
+/// leads to it from inside is told.
 #[test]
 fn a_tortoise_and_a_hare_are_not_caught() {
     expect_not_caught(all_walked_by(|place, space, room| {
-        let start = first(LISTS[place].0, space);
-        let (mut tortoise, mut hare) = (start, start);
-        loop {
-            tortoise = step(place, space, tortoise);
-            hare = step(place, space, step(place, space, hare));
-            if tortoise == hare {
-                break;
-            }
+        let (list, _, floor, _) = LISTS[place];
+        let (start, met) = (first(list, space), meeting(place, space));
+        if met == 0 {
+            return listed(&offsets_from(place, space, start), room);
         }
-        if tortoise != 0 {
-            return BROKEN;
+        if met < floor {
+            let holder = if start == met {
+                0
+            } else {
+                leading_to(place, space, start, met)
+            };
+            return refused(11, holder);
         }
-        listed(&offsets_from(place, space, start), room)
+        let (mut behind, mut ahead) = (start, met);
+        while behind != ahead {
+            (behind, ahead) = (step(place, space, behind), step(place, space, ahead));
+        }
+        refused(12, leading_to(place, space, behind, behind))
     }));
 }
 
@@ -94,7 +109,7 @@ fn a_hare_that_looks_at_every_other_offset() {
                 }
             }
             if hare != 0 {
-                return BROKEN;
+                return Broken::find(place, space).map_or(refused(12, start as u16), |broken| broken.right());
             }
             listed(&offsets_from(place, space, start), room)
         });
@@ -211,8 +226,9 @@ fn refusing(place: usize, is_back: impl Fn(&[u16]) -> bool + 'static) {
         let before = room.to_vec();
         let walked = right_walk(list, space, room);
         if walked.number == 0 && is_back(&room[..walked.count]) {
+            let last = holder(&room[..walked.count]);
             room.copy_from_slice(&before);
-            return BROKEN;
+            return refused(12, last);
         }
         walked
     });
@@ -243,31 +259,11 @@ fn two_words_with_one_mark() {
     }
 }
 
-/// How many different headers a broken chain meets, and how far back the last of them points: 1 is to itself, and 0
-/// stands for below the floor.
-type Shape = (usize, usize);
-
-/// The different headers of a broken chain, and its shape; none where there is an end.
-fn shape(place: usize, space: &[u8]) -> Option<(Vec<u16>, Shape)> {
-    let (list, _, floor, _) = LISTS[place];
-    let (mut at, mut chain) = (first(list, space), Vec::new());
-    while at >= floor {
-        if let Some(met) = chain.iter().position(|&met| met == at as u16) {
-            let headers = chain.len();
-            return Some((chain, (headers, headers - met)));
-        }
-        chain.push(at as u16);
-        at = step(place, space, at);
-    }
-    let headers = chain.len();
-    (at != 0).then_some((chain, (headers, 0)))
-}
-
 /// Sees that a walk is caught which lists a broken chain of one sort, and is right otherwise.
 fn listing(place: usize, is_taken: impl Fn(Shape) -> bool + 'static) {
     let subject = one_walked_by(place, move |list, space, room| -> Walked {
-        match shape(place, space) {
-            Some((chain, shape)) if is_taken(shape) => listed(&chain, room),
+        match Broken::find(place, space) {
+            Some(broken) if is_taken(broken.shape()) => listed(&broken.chain, room),
             _ => right_walk(list, space, room),
         }
     });

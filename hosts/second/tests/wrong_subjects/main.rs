@@ -5,18 +5,24 @@
 mod accessing;
 mod answering;
 mod blanking;
+mod broken;
 mod capturing;
 mod emptying;
+mod exceeding;
+mod finding;
 mod harness;
 mod judging;
 mod leaving;
 mod looping;
+mod marking;
 mod ordering;
+mod placing;
 mod reading;
 mod refusing;
 mod router;
 mod routing;
 mod serving;
+mod telling;
 mod walker;
 mod walking;
 
@@ -61,5 +67,20 @@ fn a_difference_at_the_router_is_told_in_full() {
     expect_told(
         &failure,
         &["entry: route", "ports:", "packet", "buffer as lent", "buffer, place 2"],
+    );
+}
+
+#[test]
+fn a_difference_of_a_walk_is_told_in_full() {
+    let failure = expect_caught(placing::without_a_place(), "walk_extended");
+    expect_told(
+        &failure,
+        &[
+            "entry: walk_extended",
+            "pointers from the start on",
+            "length of the room",
+            "number: ",
+            "place: 0",
+        ],
     );
 }

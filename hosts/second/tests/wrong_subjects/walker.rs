@@ -1,5 +1,7 @@
 //! A walk that may be wrong in some particulars: what the wrong ways to walk are made of.
 
+use std::collections::HashSet;
+
 use second::model::List;
 use thawribbon::raw::Walked;
 
@@ -15,7 +17,30 @@ pub const LISTS: [(List, &str, usize, usize); 3] = [
 /// The extended list's place among them.
 pub const EXTENDED: usize = 1;
 
-pub const BROKEN: Walked = Walked { count: 0, number: 7 };
+/// All of them, and those that have a pointer to their start.
+pub const ALL: &[usize] = &[0, 1, 2];
+pub const STARTED: &[usize] = &[0, 2];
+
+/// A broken list's answer: 11 or 12, and the place.
+pub const fn refused(number: u8, place: u16) -> Walked {
+    Walked {
+        count: 0,
+        number,
+        place,
+    }
+}
+
+/// The structure that holds the pointer after these offsets; 0 stands for the start, which none holds.
+pub fn holder(chain: &[u16]) -> u16 {
+    chain.last().copied().unwrap_or(0)
+}
+
+/// The structure that holds the first pointer back, of offsets that were met; none where none comes again.
+pub fn first_back(offsets: &[u16]) -> Option<u16> {
+    let mut met = HashSet::new();
+    let again = offsets.iter().position(|at| !met.insert(at))?;
+    Some(offsets[again - 1])
+}
 
 /// Which of the offsets met are remembered, to notice one that comes again.
 #[derive(Clone, Copy)]
@@ -29,7 +54,7 @@ pub enum Memory {
 /// What a walk makes of something.
 #[derive(Clone, Copy)]
 pub enum Verdict {
-    /// It is refused with 7.
+    /// It is refused, and told as what it is.
     Broken,
     /// It is taken for an end: what was met is listed.
     End,
@@ -47,6 +72,8 @@ pub struct Habits {
     /// The longest chain that is followed, and what a longer one is taken for.
     pub most: usize,
     pub longer: Verdict,
+    /// Whether the first pointer back is looked for where a chain is longer; else the last one followed is told.
+    pub looks_back: bool,
     /// Which offsets are remembered, and what one of them that comes again is taken for.
     pub memory: Memory,
     pub again: Verdict,
@@ -58,7 +85,8 @@ pub struct Habits {
     pub writes_at_once: bool,
 }
 
-/// The right habits of a list: nothing is remembered, and the count tells a loop.
+/// The right habits of a list: nothing is remembered, and the count tells a loop, in which the first pointer back is
+/// looked for.
 pub fn right(place: usize) -> Habits {
     let (_, _, floor, most) = LISTS[place];
     Habits {
@@ -67,6 +95,7 @@ pub fn right(place: usize) -> Habits {
         tests_start: true,
         most,
         longer: Verdict::Broken,
+        looks_back: true,
         memory: Memory::First(0),
         again: Verdict::Broken,
         drops_bits: true,
@@ -110,26 +139,33 @@ pub fn listed(chain: &[u16], room: &mut [u16]) -> Walked {
     Walked {
         count: chain.len(),
         number: 0,
+        place: 0,
     }
 }
 
 impl Habits {
-    /// What the walk makes of the next offset, if it does not go on with it.
-    fn verdict(&self, at: usize, chain: &[u16]) -> Option<Verdict> {
+    /// What the walk makes of the next offset, if it does not go on with it, and its answer where that is broken.
+    fn verdict(&self, at: usize, chain: &[u16]) -> Option<(Verdict, Walked)> {
         let remembered = match self.memory {
             Memory::First(most) => &chain[..most.min(chain.len())],
             Memory::Last(most) => &chain[chain.len().saturating_sub(most)..],
         };
         let tested = self.tests_start || !chain.is_empty();
         if at == 0 {
-            Some(Verdict::End)
+            Some((Verdict::End, refused(0, 0)))
         } else if tested && at < self.floor {
-            Some(self.below)
+            Some((self.below, refused(11, holder(chain))))
         } else if remembered.contains(&(at as u16)) {
-            Some(self.again)
+            Some((self.again, refused(12, holder(chain))))
         } else {
-            (chain.len() == self.most).then_some(self.longer)
+            (chain.len() == self.most).then(|| (self.longer, self.too_long(at, chain)))
         }
+    }
+
+    /// The answer to a chain that goes on with an offset where it should have ended.
+    fn too_long(&self, at: usize, chain: &[u16]) -> Walked {
+        let looked_for = first_back(&[chain, &[at as u16]].concat()).filter(|_| self.looks_back);
+        refused(12, looked_for.unwrap_or(holder(chain)))
     }
 
     /// Walks a list of a whole space with room enough.
@@ -140,8 +176,8 @@ impl Habits {
         let mut chain = Vec::new();
         loop {
             match self.verdict(at, &chain) {
-                Some(Verdict::Broken) => return BROKEN,
-                Some(Verdict::End) => return listed(&chain, room),
+                Some((Verdict::Broken, answer)) => return answer,
+                Some((Verdict::End, _)) => return listed(&chain, room),
                 None => chain.push(at as u16),
             }
             if self.writes_at_once {

@@ -1,4 +1,4 @@
-//! Spaces with a list of a given length, in memory order or in random order, legal or going round for ever.
+//! Spaces with a list of a given length, in memory order or in random order, legal or broken.
 
 use crate::random::Random;
 
@@ -41,10 +41,17 @@ pub fn legal(list: List, count: usize, order: Order, random: &mut Random) -> Vec
     space(list, &offsets, 0, random)
 }
 
-/// A space whose extended list goes through a tail of so many headers and then round a loop of so many.
-pub fn looping(tail: usize, round: usize, order: Order, random: &mut Random) -> Vec<u8> {
-    let offsets = offsets(List::Extended, tail + round, order, random);
-    space(List::Extended, &offsets, offsets[tail], random)
+/// A space whose list goes through a tail of so many headers and then round a loop of so many.
+pub fn looping(list: List, tail: usize, round: usize, order: Order, random: &mut Random) -> Vec<u8> {
+    let offsets = offsets(list, tail + round, order, random);
+    space(list, &offsets, offsets[tail], random)
+}
+
+/// A space whose list goes through so many headers and then below its floor.
+pub fn falling(list: List, count: usize, order: Order, random: &mut Random) -> Vec<u8> {
+    let (floor, _) = list.bounds();
+    let offsets = offsets(list, count, order, random);
+    space(list, &offsets, floor - 4, random)
 }
 
 /// The offsets of a chain. The extended list starts with its floor.

@@ -7,11 +7,12 @@ use crate::raw;
 use second::model;
 use std::hint::black_box;
 
-/// The number, and how many headers are listed (for the chase: how many are read).
+/// The number, how many headers are listed (for the chase: how many are read), and where the list broke.
 #[derive(Clone, Copy, Debug, PartialEq, Eq)]
 pub struct Answer {
     pub number: u8,
     pub count: usize,
+    pub place: u16,
 }
 
 /// Walks the list in a space, with room for its offsets.
@@ -44,51 +45,51 @@ pub fn chase(list: List) -> Walk {
 
 #[inline(never)]
 fn library_compatible(space: &[u8], room: &mut [u16]) -> Answer {
-    let raw::Walked { number, count } = black_box(raw::walk_compatible(space, room));
-    Answer { number, count }
+    let raw::Walked { number, count, place } = black_box(raw::walk_compatible(space, room));
+    Answer { number, count, place }
 }
 
 #[inline(never)]
 fn library_extended(space: &[u8], room: &mut [u16]) -> Answer {
-    let raw::Walked { number, count } = black_box(raw::walk_extended(space, room));
-    Answer { number, count }
+    let raw::Walked { number, count, place } = black_box(raw::walk_extended(space, room));
+    Answer { number, count, place }
 }
 
 #[inline(never)]
 fn library_trusted(space: &[u8], room: &mut [u16]) -> Answer {
-    let raw::Walked { number, count } = black_box(raw::walk_trusted(space, room));
-    Answer { number, count }
+    let raw::Walked { number, count, place } = black_box(raw::walk_trusted(space, room));
+    Answer { number, count, place }
 }
 
 #[inline(never)]
 fn safe_rust_compatible(space: &[u8], room: &mut [u16]) -> Answer {
-    let model::Walked { number, count } = black_box(model::walk(model::List::Compatible, space, room));
-    Answer { number, count }
+    let model::Walked { number, count, place } = black_box(model::walk(model::List::Compatible, space, room));
+    Answer { number, count, place }
 }
 
 #[inline(never)]
 fn safe_rust_extended(space: &[u8], room: &mut [u16]) -> Answer {
-    let model::Walked { number, count } = black_box(model::walk(model::List::Extended, space, room));
-    Answer { number, count }
+    let model::Walked { number, count, place } = black_box(model::walk(model::List::Extended, space, room));
+    Answer { number, count, place }
 }
 
 #[inline(never)]
 fn safe_rust_trusted(space: &[u8], room: &mut [u16]) -> Answer {
-    let model::Walked { number, count } = black_box(model::walk(model::List::Trusted, space, room));
-    Answer { number, count }
+    let model::Walked { number, count, place } = black_box(model::walk(model::List::Trusted, space, room));
+    Answer { number, count, place }
 }
 
 #[inline(never)]
 fn chase_compatible(space: &[u8], _: &mut [u16]) -> Answer {
     let space = whole(space);
     let count = black_box(chase::bytes(space, space[0x34].into(), 48));
-    Answer { number: 0, count }
+    read(count)
 }
 
 #[inline(never)]
 fn chase_extended(space: &[u8], _: &mut [u16]) -> Answer {
     let count = black_box(chase::words(whole(space), 0x100, 960));
-    Answer { number: 0, count }
+    read(count)
 }
 
 #[inline(never)]
@@ -96,7 +97,16 @@ fn chase_trusted(space: &[u8], _: &mut [u16]) -> Answer {
     let space = whole(space);
     let start = u16::from_le_bytes([space[4], space[5]]);
     let count = black_box(chase::words(space, start.into(), 1022));
-    Answer { number: 0, count }
+    read(count)
+}
+
+/// The chase's answer: how many headers it read.
+const fn read(count: usize) -> Answer {
+    Answer {
+        number: 0,
+        count,
+        place: 0,
+    }
 }
 
 fn whole(space: &[u8]) -> &[u8; 4096] {

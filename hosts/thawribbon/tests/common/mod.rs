@@ -7,7 +7,7 @@ pub mod switch;
 
 use std::fmt::Debug;
 use std::hint::black_box;
-use thawribbon::{Board, Capture, Completion, Description, List, NotDone, Offset, Refusal, Space, Status, raw, walk};
+use thawribbon::{Board, Capture, Completion, Description, List, NotDone, Offset, Space, Status, raw, walk};
 
 pub use thawribbon::SPACE;
 
@@ -317,8 +317,8 @@ pub fn chained(list: List, offsets: &[usize], last: usize) -> Vec<u8> {
 }
 
 /// Walks by `raw`, and from the same state by `walk`: both must agree. The room is then as it should be: the offsets,
-/// if any, and the rest as lent. Gives the number.
-pub fn walked(list: List, space: &[u8], room_length: usize, offsets: &[usize]) -> u8 {
+/// if any, and the rest as lent.
+fn asked(list: List, space: &[u8], room_length: usize, offsets: &[usize]) -> raw::Walked {
     let space = lent(space);
     let mut room = room(room_length);
     let mut other = room.clone();
@@ -330,13 +330,13 @@ pub fn walked(list: List, space: &[u8], room_length: usize, offsets: &[usize]) -
     };
     let safe = walk(list, space.part(), other.part_mut())
         .map(<[Offset]>::to_vec)
-        .map_err(Refusal::number);
+        .map_err(|refusal| (refusal.number(), refusal.place().unwrap_or(0)));
     assert_eq!(
         safe,
         if answer.number == 0 {
             Ok(numbers.clone())
         } else {
-            Err(answer.number)
+            Err((answer.number, answer.place))
         }
     );
     assert_eq!(answer.count, numbers.len());
@@ -345,5 +345,23 @@ pub fn walked(list: List, space: &[u8], room_length: usize, offsets: &[usize]) -
         lent_room.check("the room");
     }
     space.check("the space");
-    answer.number
+    answer
+}
+
+/// Gives the number of a walk that has no place to tell.
+pub fn walked(list: List, space: &[u8], room_length: usize, offsets: &[usize]) -> u8 {
+    let raw::Walked { number, place, .. } = asked(list, space, room_length, offsets);
+    assert_eq!(place, 0);
+    number
+}
+
+/// Gives the number and the place of a walk that lists nothing.
+pub fn told(list: List, space: &[u8], room_length: usize) -> (u8, usize) {
+    let raw::Walked { number, place, .. } = asked(list, space, room_length, &[]);
+    (number, place.into())
+}
+
+/// The same, in a room of the list's maximum.
+pub fn broken(list: List, space: &[u8]) -> (u8, usize) {
+    told(list, space, list.maximum())
 }

@@ -29,6 +29,7 @@ pub fn drop_parts(completion: &Completion, not_done: &NotDone, refusal: Refusal)
     not_done.completion(); // dropped
     refusal.number(); // dropped
     refusal.text(); // dropped
+    refusal.place(); // dropped
     List::Extended.maximum(); // dropped
 }
 

@@ -8,7 +8,7 @@ fn main() {}
 pub fn is_of_a_packet(refusal: Refusal) -> bool {
     match refusal {
         Refusal::ShortPacket | Refusal::UnknownType | Refusal::WrongLength | Refusal::WrongField => true,
-        Refusal::BadDescription | Refusal::NoRoom | Refusal::BrokenChain => false,
+        Refusal::BadDescription | Refusal::NoRoom | Refusal::BelowFloor { .. } | Refusal::ComesBack { .. } => false,
         Refusal::OtherStructure | Refusal::WrongExtent | Refusal::NotOneFunction => false,
     }
 }

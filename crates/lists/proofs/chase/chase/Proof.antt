@@ -1,7 +1,8 @@
--- `lists::chase::chase` meets its contract. The loop's invariant: the chase is underway, with `count` offsets in the log and the word `number` reached.
--- Assumes nothing.
+-- `lists::chase::chase` meets its contract. The loop's invariant: the chase is underway, with `count` offsets in the log and the word `number` reached,
+-- and the word that waits was passed. Assumes nothing.
 use Prim.Native.Nat.{_*_, _-_}
 use mathlib.Core.List.{[], _∷_}
+use mathlib.Core.Logic._⊎_.{inl}
 use mathlib.Core.Path.{_≡_, refl, subst}
 use native.Mathlib.Omega.{arith}
 use borrow.Author.Needs.{needs}
@@ -11,9 +12,9 @@ use denote.Enum.Declared.{tagOf}
 use Rattle.lists.specs.declared.chase.Step.{Step}
 use Rattle.lists.specs.declared.chase.Step.the-variants.{Next, End, Fault}
 use Rattle.lists.specs.Table.{describe}
-use Rattle.lists.specs.Inner.{Underway, Leads}
+use Rattle.lists.specs.Inner.{Underway, Waits, Leads}
 use Rattle.lists.proofs.chase.Step.{the-type}
-use Rattle.lists.proofs.Reaching.{chase-ends, chase-breaks, next-inside, chase-full, chase-goes}
+use Rattle.lists.proofs.Following.{chase-ends, chase-falls, chase-returns, next-inside, chase-full, chase-goes, waits-on}
 use Rattle.lists.proofs.chase.chase.Statement.{statement}
 use Rattle.lists.proofs.chase.chase.Tie as tie
 
@@ -24,10 +25,11 @@ fault-only End p q = absurd (miss (0 ∷ 2 ∷ []) 1 tt p)
 fault-only Fault p q = refl
 
 abbrev Inv-loop : tie.InvT-loop
-Inv-loop kind space log₀ passed from count₀ number₀ log count number = Underway kind space log count (4 * number) × (length log ≡ length log₀)
+Inv-loop kind space log₀ passed from count₀ number₀ waiting₀ log count number waiting =
+    Underway kind space log count (4 * number) × (length log ≡ length log₀) × Waits (describe kind) space count waiting
 
 abbrev μ-loop : tie.MeasureT-loop
-μ-loop kind space log₀ passed from count₀ number₀ log count number = length log - count
+μ-loop kind space log₀ passed from count₀ number₀ waiting₀ log count number waiting = length log - count
 
 -- the step that led to an offset
 leads-next : (c : tie.After-known-told Inv-loop μ-loop)
@@ -36,7 +38,7 @@ leads-next : (c : tie.After-known-told Inv-loop μ-loop)
 leads-next c = subst (Leads _ _) (c .before .taken .given .1) (c .before .before .before .step-to .ensures)
 
 loop-holds : tie.Need-loop-holds Inv-loop μ-loop
-loop-holds c = (c .before .before .pre, refl)
+loop-holds c = (c .before .before .pre, refl, inl refl)
 
 step-to-requires : tie.Need-step-to-requires Inv-loop μ-loop
 step-to-requires c κs = c .loop .inv .0 .inside
@@ -52,47 +54,67 @@ same-length c = search needs
 
 returns : tie.Need-returns Inv-loop μ-loop
 returns c =
-    chase-ends (c .before .before .before .before .loop .inv .0) (subst (Leads _ _) (c .enum-told .given .1) (c .before .before .before .step-to .ensures))
+    let l = c .before .before .before .before .loop in
+    chase-ends (l .number) (l .inv .0) (subst (Leads _ _) (c .enum-told .given .1) (c .before .before .before .step-to .ensures))
 
 same-length-2 : tie.Need-same-length-2 Inv-loop μ-loop
 same-length-2 c = search needs
 
 returns-2 : tie.Need-returns-2 Inv-loop μ-loop
 returns-2 c =
+    let l = c .before .before .before .loop in
     let r = c .before .before .step-to in
-    chase-breaks (c .before .before .before .loop .inv .0) (subst (Leads _ _) (fault-only (r .result) (c .match2 .keys2) (c .before .match .keys2)) (r .ensures))
+    chase-falls (l .number) (l .inv .0) (subst (Leads _ _) (fault-only (r .result) (c .match2 .keys2) (c .before .match .keys2)) (r .ensures))
 
 same-length-3 : tie.Need-same-length-3 Inv-loop μ-loop
 same-length-3 c = search needs
 
 returns-3 : tie.Need-returns-3 Inv-loop μ-loop
 returns-3 c =
-    chase-full (c .before .before .before .before .before .loop .inv .0) (leads-next (c .before)) (c .before .before .before .before .before .loop .number) refl (c .if1 .taken)
+    let l = c .before .before .before .before .before .loop in
+    chase-returns (l .number) (l .inv .0) (leads-next (c .before)) (l .inv .2) (c .if1 .taken)
+
+same-length-4 : tie.Need-same-length-4 Inv-loop μ-loop
+same-length-4 c = search needs
+
+returns-4 : tie.Need-returns-4 Inv-loop μ-loop
+returns-4 c =
+    let l = c .before .before .before .before .before .before .loop in
+    chase-full (l .number) (l .inv .0) (leads-next (c .before .before)) (c .if2 .taken)
 
 cast-log : tie.Need-cast-log Inv-loop μ-loop
-cast-log c = omega (arith, next-inside (c .before .before .before .before .before .loop .inv .0) (leads-next (c .before)))
+cast-log c =
+    let l = c .before .before .before .before .before .before .loop in
+    omega (arith, next-inside (l .number) (l .inv .0) (leads-next (c .before .before)))
 
 mul-log : tie.Need-mul-log Inv-loop μ-loop
 mul-log c = search needs
 
 slice-write-log : tie.Need-slice-write-log Inv-loop μ-loop
-slice-write-log c = search needs
+slice-write-log c = omega (arith, c .before .before .before .before .before .before .loop .inv .0 .followed .fits)
 
 add-count : tie.Need-add-count Inv-loop μ-loop
-add-count c = search needs
+add-count c = omega (arith, c .before .before .before .before .before .before .loop .inv .0 .followed .fits)
+
+moved-up-requires : tie.Need-moved-up-requires Inv-loop μ-loop
+moved-up-requires c κs = search needs
 
 follow-requires : tie.Need-follow-requires Inv-loop μ-loop
 follow-requires c κs =
-    let u = c .before .before .before .before .before .loop .inv .0 in
+    let u = c .before .before .before .before .before .before .before .loop .inv .0 in
     (u .space, u .inside)
 
 loop-less : tie.Need-loop-less Inv-loop μ-loop
-loop-less c = simp length-set (omega arith)
+loop-less c = simp length-set (omega (arith, c .before .before .before .before .before .before .before .before .loop .inv .0 .followed .fits))
 
 loop-again : tie.Need-loop-again Inv-loop μ-loop
 loop-again c =
-    let i = c .before .before .before .before .before .before .loop .inv in
-    (chase-goes (i .0) (leads-next (c .before .before)) (c .before .if1 .left) (c .follow .ensures), simp length-set (i .1))
+    let l = c .before .before .before .before .before .before .before .before .loop in
+    let next = leads-next (c .before .before .before .before) in (
+      chase-goes (l .number) (l .inv .0) next (c .before .before .if2 .left) (c .follow .ensures),
+      simp length-set (l .inv .1),
+      waits-on (l .number) (l .inv .0) next (l .inv .2) (c .before .moved-up .ensures),
+    )
 
 pub chase-spec : {M : Type 1} → statement M
 chase-spec =
@@ -110,10 +132,13 @@ chase-spec =
     returns-2
     same-length-3
     returns-3
+    same-length-4
+    returns-4
     cast-log
     mul-log
     slice-write-log
     add-count
+    moved-up-requires
     follow-requires
     loop-less
     loop-again)

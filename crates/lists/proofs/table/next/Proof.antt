@@ -1,7 +1,5 @@
 -- `lists::table::next` meets its contract: by the kind of the list. Assumes nothing.
 use borrow.Author.Needs.{needs}
-use Prim.Native.Nat.{_/_}
-use lib.Bits.{and-mask}
 use Rattle.lists.proofs.table.next.Statement.{statement}
 use Rattle.lists.proofs.table.next.Tie as tie
 
@@ -15,7 +13,7 @@ enum-told-3 : tie.Need-enum-told-3
 enum-told-3 c = search needs
 
 returns : tie.Need-returns
-returns c = rw (c .enum-told .given .1) (and-mask (c .before .before .args .header / 256) 8)
+returns c = rw (c .enum-told .given .1)
 
 returns-2 : tie.Need-returns-2
 returns-2 c = rw (c .enum-told2 .given .1)

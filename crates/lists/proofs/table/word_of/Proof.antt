@@ -6,13 +6,13 @@ use mathlib.Core.Path.{_≡_}
 use native.Mathlib.Omega.{arith}
 use Rattle.words.specs.Bytes.{byte}
 use Rattle.words.specs.Fields.{word}
-use Rattle.lists.specs.Inner.{Header}
+use Rattle.lists.specs.Inner.{Whole}
 use Rattle.lists.proofs.table.word_of.Statement.{statement}
 use Rattle.lists.proofs.table.word_of.Tie as tie
 
-header-there : (s : List ℕ) (at r : ℕ) → r ≡ word s at → byte s at < 256 → byte s (at + 1) < 256 → byte s (at + 2) < 256 → byte s (at + 3) < 256
-    → Header s at r
-header-there s at r e a b c d = record { is = e; second = omega arith; small = omega arith }
+word-there : (s : List ℕ) (at r : ℕ) → r ≡ word s at → byte s at < 256 → byte s (at + 1) < 256 → byte s (at + 2) < 256 → byte s (at + 3) < 256
+    → Whole s at r
+word-there s at r e a b c d = record { is = e; small = omega arith }
 
 mul-at : tie.Need-mul-at
 mul-at c = search needs
@@ -45,7 +45,7 @@ returns : tie.Need-returns
 returns c =
     let a = c .before .before .before .before .before .before .args in
     let bytes = c .before .before .before .before .before .shared-slice-known .given in
-    header-there (a .space .now) (4 * a .number) (c .joined .result) (c .joined .ensures) (omega (arith, bytes (4 * a .number)))
+    word-there (a .space .now) (4 * a .number) (c .joined .result) (c .joined .ensures) (omega (arith, bytes (4 * a .number)))
     (omega (arith, bytes (4 * a .number + 1))) (omega (arith, bytes (4 * a .number + 2))) (omega (arith, bytes (4 * a .number + 3)))
 
 pub word-of-spec : {M : Type 1} → statement M

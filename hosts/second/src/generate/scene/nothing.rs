@@ -17,13 +17,14 @@ impl Scene {
         }
     }
 
-    /// A compatible list that the table calls empty while its pointers hold a chain or a loop.
+    /// A compatible list that the table calls empty while its pointers hold a chain, or a broken one.
     fn declare_empty(&mut self, random: &mut Random) {
-        if random.percent(50) {
-            self.make_loop(random);
-        } else {
-            self.chain(random.within(2, 40), random);
-        }
+        match random.below(4) {
+            0 => self.chain(random.within(2, 40), random),
+            1 => self.make_loop(false, random),
+            2 => self.go_below(false, random),
+            _ => self.start_below(random),
+        };
         self.edit(0x004, 1 << 20, 0);
     }
 

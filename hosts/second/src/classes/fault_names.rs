@@ -1,0 +1,73 @@
+//! The names of classes of broken lists, by group.
+
+pub const WALK_TOGETHER: &[&str] = &[
+    "compatible, 1 with 2",
+    "compatible, 1 with 11",
+    "compatible, 1 with 12",
+    "compatible, 2 with 11",
+    "compatible, 2 with 12",
+    "extended, 1 with 2",
+    "extended, 1 with 11",
+    "extended, 1 with 12",
+    "extended, 2 with 11",
+    "extended, 2 with 12",
+    "trusted, 1 with 2",
+    "trusted, 1 with 11",
+    "trusted, 1 with 12",
+    "trusted, 2 with 11",
+    "trusted, 2 with 12",
+];
+
+pub const END_PLACES: &[&str] = &[
+    "compatible, 11 told at 040h",
+    "compatible, 11 told at 0FCh",
+    "compatible, 12 told at 040h",
+    "compatible, 12 told at 0FCh",
+    "extended, 11 told at 100h",
+    "extended, 11 told at FFCh",
+    "extended, 12 told at 100h",
+    "extended, 12 told at FFCh",
+    "trusted, 11 told at 008h",
+    "trusted, 11 told at FFCh",
+    "trusted, 12 told at 008h",
+    "trusted, 12 told at FFCh",
+];
+
+pub const LOOP_PLACES: &[&str] = &[
+    "compatible, told above where its pointer leads",
+    "compatible, told where its pointer leads: to itself",
+    "compatible, told below where its pointer leads",
+    "compatible, told at the last of a loop through the start",
+    "compatible, told at the last of a loop after a tail",
+    "extended, told above where its pointer leads",
+    "extended, told where its pointer leads: to itself",
+    "extended, told below where its pointer leads",
+    "extended, told at the last of a loop through the start",
+    "extended, told at the last of a loop after a tail",
+    "trusted, told above where its pointer leads",
+    "trusted, told where its pointer leads: to itself",
+    "trusted, told below where its pointer leads",
+    "trusted, told at the last of a loop through the start",
+    "trusted, told at the last of a loop after a tail",
+];
+
+pub const ELSEWHERE: &[&str] = &[
+    "compatible, served, below the floor elsewhere",
+    "compatible, served, a loop elsewhere",
+    "compatible, 11, below the floor elsewhere too",
+    "compatible, 11, a loop elsewhere",
+    "compatible, 12, below the floor elsewhere",
+    "compatible, 12, a loop elsewhere too",
+    "extended, served, below the floor elsewhere",
+    "extended, served, a loop elsewhere",
+    "extended, 11, below the floor elsewhere too",
+    "extended, 11, a loop elsewhere",
+    "extended, 12, below the floor elsewhere",
+    "extended, 12, a loop elsewhere too",
+    "trusted, served, below the floor elsewhere",
+    "trusted, served, a loop elsewhere",
+    "trusted, 11, below the floor elsewhere too",
+    "trusted, 11, a loop elsewhere",
+    "trusted, 12, below the floor elsewhere",
+    "trusted, 12, a loop elsewhere too",
+];
