@@ -44,7 +44,7 @@ steps (turns n r b e f) = n
 pub record Structure (kind : Kind) (at : ℕ) : Type 0 where
   pub above : describe kind .floor ≤ at
   pub aligned : at % 4 ≡ 0
-  pub inside : at ≤ 0xffc
+  pub inside : at < span kind
 
 -- how soon a list breaks and where: behind the maximum of pointers at the latest; at its start, which is place 0, or at a structure
 pub record Where (kind : Kind) (place passed : ℕ) : Type 0 where
@@ -181,7 +181,7 @@ breaks-iff-none kind s bytes = (
 passed-place : (kind : Kind) (s : List ℕ) → Bytes s → (n : ℕ) → Passed (describe kind) s n → Structure kind (met (describe kind) s n)
 passed-place kind s bytes n p =
     let w = met-within kind s bytes n in
-    record { above = p .above; aligned = omega (arith, w .aligned); inside = omega (arith, w .aligned, w .below, span-most kind) }
+    record { above = p .above; aligned = omega (arith, w .aligned); inside = w .below }
 
 place-zero : (kind : Kind) (s : List ℕ) (n : ℕ) → Reached (describe kind) s n → (holder (describe kind) s n ≡ 0) ↔ (n ≡ 0)
 unfolding holder

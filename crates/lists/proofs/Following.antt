@@ -1,9 +1,9 @@
 -- Laws of a chase: of the pointers that it has followed, and of what it may find at the next. Assumes nothing.
-use Prim.Native.Nat.{ℕ, _+_, _*_, _≤_, _<_}
+use Prim.Native.Nat.{ℕ, _+_, _≤_, _<_}
 use mathlib.Core.List.{List}
 use mathlib.Core.Logic.{_⊎_, ⊎-elim}
 use mathlib.Core.Logic._⊎_.{inl, inr}
-use mathlib.Core.Path.{_≡_, sym, ap, subst, _∙_}
+use mathlib.Core.Path.{_≡_, refl, sym, ap, subst, _∙_}
 use native.Mathlib.Numerals.{add-one}
 use native.Mathlib.Omega.{arith}
 use borrow.Author.Count.{below-more}
@@ -13,16 +13,23 @@ use Rattle.lists.specs.Table.{describe}
 use Rattle.lists.specs.Chain.{HasChain, first, follows}
 use Rattle.lists.specs.Breaks.{met}
 use Rattle.lists.specs.declared.Kind.{Kind}
+use Rattle.lists.specs.declared.Kind.the-variants.{Compatible, Extended, Trusted}
 use Rattle.lists.specs.declared.chase.Step.the-variants.{Next, End, Fault}
 use Rattle.lists.specs.declared.chase.Chased.the-variants.{Ended, Stopped}
 use Rattle.lists.specs.Walks.{WholeSpace}
-use Rattle.lists.specs.Inner.{Underway, Waits, Leads, Chases, Word}
+use Rattle.lists.specs.Inner.{offsetOf, Underway, Waits, Leads, Chases, Counted}
 use Rattle.lists.proofs.Course.{leading-none, leading-more, chain-of, logged-trail}
+
+-- position 0 is that of the end
+offset-zero : (kind : Kind) → offsetOf kind 0 ≡ 0
+offset-zero Compatible = refl
+offset-zero Extended = refl
+offset-zero Trusted = refl
 
 -- ---- the start
 
-pub underway-start : {kind : Kind} {s log : List ℕ} {start : ℕ} → WholeSpace s → Word (first (describe kind) s) start
-    → Underway kind s log 0 (4 * start)
+pub underway-start : {kind : Kind} {s log : List ℕ} {start : ℕ} → WholeSpace s → Counted kind (first (describe kind) s) start
+    → Underway kind s log 0 (offsetOf kind start)
 unfolding met
 underway-start size o =
     record {
@@ -34,8 +41,8 @@ underway-start size o =
 
 -- ---- the end, or one pointer more
 
-module _ {kind : Kind} {s log : List ℕ} {count : ℕ} (number : ℕ) (u : Underway kind s log count (4 * number)) where
-  pub chase-ends : Leads (describe kind) (4 * number) End → Chases kind s (Ended count) log
+module _ {kind : Kind} {s log : List ℕ} {count : ℕ} (position : ℕ) (u : Underway kind s log count (offsetOf kind position)) where
+  pub chase-ends : Leads (describe kind) (offsetOf kind position) End → Chases kind s (Ended count) log
   chase-ends z =
       let f = u .followed in (
         f .fits,
@@ -43,29 +50,29 @@ module _ {kind : Kind} {s log : List ℕ} {count : ℕ} (number : ℕ) (u : Unde
             (chain-of count (f .leading) (sym (u .here) ∙ z)),
       )
 
-  pub chase-falls : Leads (describe kind) (4 * number) Fault → Chases kind s (Stopped count number) log
+  pub chase-falls : Leads (describe kind) (offsetOf kind position) Fault → Chases kind s (Stopped count position) log
   chase-falls l = record { underway = u; onward = l .0; why = inl (l .1) }
 
-  module _ {at : ℕ} (l : Leads (describe kind) (4 * number) (Next at)) where
+  module _ {at : ℕ} (l : Leads (describe kind) (offsetOf kind position) (Next at)) where
     pub next-inside : at ≤ 0xffc
     next-inside = omega (arith, u .inside, l .0)
 
-    pub chase-full : count ≡ length log → Chases kind s (Stopped count number) log
+    pub chase-full : count ≡ length log → Chases kind s (Stopped count position) log
     chase-full e = record { underway = u; onward = l .1; why = inr (inr e) }
 
-    -- the word that waits is one that was passed
-    pub chase-returns : {waiting : ℕ} → Waits (describe kind) s count waiting → number ≡ waiting → Chases kind s (Stopped count number) log
+    -- the position that waits is one that was passed
+    pub chase-returns : {waiting : ℕ} → Waits kind s count waiting → position ≡ waiting → Chases kind s (Stopped count position) log
     chase-returns {waiting} w e =
         record {
           underway = u;
           onward = l .1;
           why =
-              ⊎-elim (λ z. absurd (l .1 (omega arith)))
-              (λ t. inr (inl (record { earlier = t .0; before = t .1; same = sym (u .here) ∙ ap (λ (n : ℕ). 4 * n) e ∙ t .2 }))) w;
+              ⊎-elim (λ z. absurd (l .1 (ap (offsetOf kind) (e ∙ z) ∙ offset-zero kind)))
+              (λ t. inr (inl (record { earlier = t .0; before = t .1; same = sym (u .here) ∙ ap (offsetOf kind) e ∙ t .2 }))) w;
         }
 
-    pub chase-goes : (count ≡ length log → ⊥) → {next : ℕ} → Word (follows (describe kind) s (4 * number)) next
-        → Underway kind s (set log count at) (count + 1) (4 * next)
+    pub chase-goes : (count ≡ length log → ⊥) → {next : ℕ} → Counted kind (follows (describe kind) s (offsetOf kind position)) next
+        → Underway kind s (set log count at) (count + 1) (offsetOf kind next)
     unfolding met
     chase-goes short o =
         let f = u .followed in
@@ -86,9 +93,9 @@ module _ {kind : Kind} {s log : List ℕ} {count : ℕ} (number : ℕ) (u : Unde
           inside = o .inside;
         }
 
-    pub waits-on : {waiting next : ℕ} → Waits (describe kind) s count waiting → (next ≡ waiting) ⊎ (next ≡ number)
-        → Waits (describe kind) s (count + 1) next
+    pub waits-on : {waiting next : ℕ} → Waits kind s count waiting → (next ≡ waiting) ⊎ (next ≡ position)
+        → Waits kind s (count + 1) next
     waits-on {waiting} w m =
         ⊎-elim
-        (λ e. ⊎-elim (λ z. inl (e ∙ z)) (λ t. inr (t .0, omega (arith, t .1), ap (λ (n : ℕ). 4 * n) e ∙ t .2)) w)
-        (λ e. inr (count, omega arith, ap (λ (n : ℕ). 4 * n) e ∙ u .here)) m
+        (λ e. ⊎-elim (λ z. inl (e ∙ z)) (λ t. inr (t .0, omega (arith, t .1), ap (offsetOf kind) e ∙ t .2)) w)
+        (λ e. inr (count, omega arith, ap (offsetOf kind) e ∙ u .here)) m

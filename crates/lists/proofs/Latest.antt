@@ -1,5 +1,5 @@
--- THEOREM. A list can break as late as its maximum allows, in both ways: of each list there is a space of bytes in which it goes through the maximum of
--- structures, and the pointer of the last comes back to the first, or goes to 4 below the floor. Assumes nothing.
+-- THEOREM. A list can break as late as its maximum allows, in both ways: of each list there are spaces of bytes in which it goes through the maximum of
+-- structures, and the pointer of the last is below the floor, or comes back. Assumes nothing.
 use Prim.Native.Nat.{ℕ, suc, _+_, _*_, _-_, _<_}
 use mathlib.Core.List.{List}
 use mathlib.Core.Path.{_≡_, refl}

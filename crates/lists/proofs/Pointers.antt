@@ -1,9 +1,9 @@
 -- Laws of the pointers of the three lists: every pointer that is followed is a multiple of 4 below the span of its list, which a byte or
 -- twelve bits reach. Assumes nothing.
-use Prim.Native.Nat.{ℕ, _+_, _*_, _/_, _<_}
+use Prim.Native.Nat.{ℕ, _+_, _*_, _/_, _≤_, _<_}
 use mathlib.Core.Bool.{Bool, true, false}
 use mathlib.Core.List.{List}
-use mathlib.Core.Path.{_≡_, ap}
+use mathlib.Core.Path.{_≡_, ap, subst}
 use native.Mathlib.Nat.{mod-lt}
 use native.Mathlib.Omega.{arith}
 use lib.Dec.{eqb, lit<}
@@ -12,9 +12,9 @@ use Rattle.words.specs.Bytes.{byte}
 use Rattle.words.specs.Fields.{bit, bits, word}
 use Rattle.lists.specs.declared.Kind.{Kind}
 use Rattle.lists.specs.declared.Kind.the-variants.{Compatible, Extended, Trusted}
-use Rattle.lists.specs.Table.{ListRule, describe, compatibleStart, extendedStart, trustedStart, compatibleNext, extendedNext, unlessEmpty}
+use Rattle.lists.specs.Table.{describe, compatibleStart, extendedStart, trustedStart, compatibleNext, extendedNext, unlessEmpty}
 use Rattle.lists.specs.Chain.{dropped, first, follows}
-use Rattle.lists.specs.Inner.{Raw, Word, Header, Half, Whole, pointerIn}
+use Rattle.lists.specs.Inner.{Raw, Counted, Whole, offsetOf}
 
 -- every element of a lent space is a byte
 abbrev pub Bytes : List ℕ → Type 0
@@ -67,24 +67,18 @@ pub follows-within : (kind : Kind) (s : List ℕ) (at : ℕ) → Bytes s → Wit
 unfolding follows
 follows-within kind s at b = dropped-within kind (describe kind .next s at) (next-below kind s at b)
 
+-- a position within the space is, for the list that it is of
+pub inside-for : {kind known : Kind} (position : ℕ) → kind ≡ known → offsetOf kind position ≤ 0xffc → offsetOf known position ≤ 0xffc
+inside-for position e h = subst (λ (k : Kind). offsetOf k position ≤ 0xffc) e h
+
 -- the code's pointer, its bottom two bits dropped, is the one that the definitions drop them from
-pub first-word : (d : ListRule) (s : List ℕ) {raw number : ℕ} → Raw (d .start s) raw → Word (dropped raw) number → Word (first d s) number
-unfolding first
-first-word d s p o = record { is = rw (← p .is) (o .is); inside = o .inside }
+pub counted-from : {kind : Kind} {pointer raw position : ℕ} → Raw pointer raw → Counted kind (dropped raw) position → Counted kind (dropped pointer) position
+counted-from p o = record { is = rw (← p .is) (o .is); inside = o .inside }
 
 top-bits : (w header : ℕ) → header ≡ w → header < 4294967296 → header / 1048576 ≡ bits 31 20 w
 top-bits w header e h = omega arith
 
--- the pointer that the code takes from a header is the one that the table says
-pub half-header : (s : List ℕ) (at : ℕ) {header : ℕ} → Half s at header → Header Compatible s at header
-unfolding compatibleNext
-half-header s at h = record { is = h .is; small = omega (arith, h .small) }
-
-pub whole-header : (s : List ℕ) (at : ℕ) {header : ℕ} → Whole s at header → Raw (extendedNext s at) (header / 1048576)
+-- the pointer that the code takes from a header of four bytes is the one that the table says
+pub whole-pointer : (s : List ℕ) (at : ℕ) {header : ℕ} → Whole s at header → Raw (extendedNext s at) (header / 1048576)
 unfolding extendedNext
-whole-header s at {header} h = record { is = top-bits (word s at) header (h .is) (h .small); small = omega (arith, h .small) }
-
-pub follows-word : (kind : Kind) (s : List ℕ) (at header : ℕ) {pointer number : ℕ} → Header kind s at header → pointer ≡ pointerIn kind header
-    → Word (dropped pointer) number → Word (follows (describe kind) s at) number
-unfolding follows
-follows-word kind s at header h p o = record { is = rw (← h .is, ← p) (o .is); inside = o .inside }
+whole-pointer s at {header} h = record { is = top-bits (word s at) header (h .is) (h .small); small = omega (arith, h .small) }

@@ -1,16 +1,16 @@
 -- THEOREMS. What any walk tells of a list that breaks, with a space and a room of their sizes, as request 3/13 of document 02 has it: of a start below the
 -- floor, of a structure that points below the floor, and of one that points back, to itself, to the start or anywhere between; and that only the
 -- pointers on the way there matter, whatever stands elsewhere. No walk that tells another number or another place meets the promise. Assumes nothing.
-use Prim.Native.Nat.{ℕ, suc, _≤_, _<_}
+use Prim.Native.Nat.{ℕ, zero, suc, _≤_, _<_}
 use mathlib.Core.List.{List}
-use mathlib.Core.Path.{_≡_, refl, _∙_}
+use mathlib.Core.Path.{_≡_, refl, ap, _∙_}
 use native.Mathlib.Omega.{arith}
 use Rattle.words.specs.Fields.{bits, word}
 use Rattle.lists.specs.declared.Kind.{Kind}
 use Rattle.lists.specs.declared.Kind.the-variants.{Trusted}
 use Rattle.lists.specs.declared.Walked.{Walked}
 use Rattle.lists.specs.Table.{ListRule, describe, trustedStart}
-use Rattle.lists.specs.Chain.{first}
+use Rattle.lists.specs.Chain.{first, follows}
 use Rattle.lists.specs.Breaks.{met, holder, Below, Reached, Breaks, Breaks.falls, Breaks.turns}
 use Rattle.lists.specs.Walks.{WholeSpace, Roomy, numberGiven, Walks, Walks.misdescribed, Walks.roomless, Walks.broken, Walks.listed}
 use Rattle.lists.proofs.Breaking.{steps, SameWay, breaks-unique, breaks-unending, breaks-carried}
@@ -43,10 +43,11 @@ abbrev pub PointsBack : Type 0
 PointsBack = (kind : Kind) (s : List ℕ) (n k : ℕ) → Reached (describe kind) s (suc n) → k ≤ n
     → met (describe kind) s (suc n) ≡ met (describe kind) s k → Tells kind s 12 (met (describe kind) s n)
 
--- "the first fault is the one told": in a space where the same pointers are met on the way, the list breaks alike, whatever stands elsewhere
+-- "the first fault is the one told": in a space with the same start, and the same pointer in each structure on the way, the list breaks alike, whatever
+-- stands elsewhere
 abbrev pub OnlyTheWay : Type 0
-OnlyTheWay = (list : ListRule) (s t : List ℕ) (number place : ℕ) (b : Breaks list s number place)
-    → SameWay list s list t (steps b) → Breaks list t number place
+OnlyTheWay = (list : ListRule) (s t : List ℕ) (number place : ℕ) (b : Breaks list s number place) → first list s ≡ first list t
+    → ((k : ℕ) → k < steps b → follows list s (met list s k) ≡ follows list t (met list s k)) → Breaks list t number place
 
 -- a walk that tells another number or another place
 abbrev pub OtherTold : Type 0
@@ -83,8 +84,14 @@ unfolding holder
 points-back kind s n k r less same =
     told-as-broken kind s 12 (met (describe kind) s n) (turns (suc n) r (record { earlier = k; before = omega arith; same = same }) refl refl)
 
+same-way : (list : ListRule) (s t : List ℕ) {n : ℕ} → first list s ≡ first list t
+    → ((k : ℕ) → k < n → follows list s (met list s k) ≡ follows list t (met list s k)) → SameWay list s list t n
+unfolding met
+same-way list s t start pointers zero h = start
+same-way list s t start pointers (suc k) h = pointers k h ∙ ap (follows list t) (same-way list s t start pointers k (omega arith))
+
 pub only-the-way : OnlyTheWay
-only-the-way list s t number place b same = breaks-carried list list s t refl b same
+only-the-way list s t number place b start pointers = breaks-carried list list s t refl b (same-way list s t start pointers)
 
 pub other-told : OtherTold
 other-told kind s room number place r after whole roomy b other w = other (told-as-broken kind s number place b room r after whole roomy w)

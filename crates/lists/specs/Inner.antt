@@ -1,11 +1,10 @@
 -- What the private functions of this crate tell each other while a chain is followed. No promise of a public entry cites this file.
 -- Assumes nothing.
-use Prim.Native.Nat.{ℕ, zero, suc, _+_, _*_, _/_, _≤_, _<_}
+use Prim.Native.Nat.{ℕ, zero, suc, _*_, _/_, _≤_, _<_}
 use mathlib.Core.List.{List}
 use mathlib.Core.Logic.{_⊎_}
 use mathlib.Core.Path.{_≡_}
 use lib.ListN.{length, take, getD}
-use Rattle.words.specs.Bytes.{byte}
 use Rattle.words.specs.Fields.{word}
 use Rattle.answers.specs.declared.Refusal.{Refusal}
 use Rattle.answers.specs.declared.Refusal.the-variants.{BelowFloor, ComesBack}
@@ -27,29 +26,21 @@ pub record Raw (pointer r : ℕ) : Type 0 where
   pub is : r ≡ pointer
   pub small : r < 0x1000
 
--- a word of the space, of bytes, and the lower half of one
+-- a word of the space, of bytes
 pub record Whole (s : List ℕ) (at r : ℕ) : Type 0 where
   pub is : r ≡ word s at
   pub small : r < 4294967296
 
-pub record Half (s : List ℕ) (at r : ℕ) : Type 0 where
-  pub is : r / 256 ≡ byte s (at + 1)
-  pub small : r < 65536
+-- the offset of a position, which counts words, and bytes in the compatible list
+abbrev pub offsetOf : Kind → ℕ → ℕ
+offsetOf Compatible position = position
+offsetOf Extended position = 4 * position
+offsetOf Trusted position = 4 * position
 
--- the pointer in a header, as the code takes it
-abbrev pub pointerIn : Kind → ℕ → ℕ
-pointerIn Compatible header = header / 256
-pointerIn Extended header = header / 1048576
-pointerIn Trusted header = header / 1048576
-
--- a header of a list: its pointer is the one that the table says
-abbrev pub Header : Kind → List ℕ → ℕ → ℕ → Type 0
-Header kind s at header = Raw (describe kind .next s at) (pointerIn kind header)
-
--- a pointer with its bottom two bits dropped, by the number of the word of the space that it leads to
-pub record Word (pointer number : ℕ) : Type 0 where
-  pub is : 4 * number ≡ pointer
-  pub inside : 4 * number ≤ 0xffc
+-- a pointer with its bottom two bits dropped, by the position that it leads to
+pub record Counted (kind : Kind) (pointer position : ℕ) : Type 0 where
+  pub is : offsetOf kind position ≡ pointer
+  pub inside : offsetOf kind position ≤ 0xffc
 
 -- a pointer to a word of the space, and not the end
 pub record Onward (pointer : ℕ) : Type 0 where
@@ -80,9 +71,9 @@ pub record Underway (kind : Kind) (s log : List ℕ) (count pointer : ℕ) : Typ
   pub here : pointer ≡ met (describe kind) s count
   pub inside : pointer ≤ 0xffc
 
--- the word that waits for the chase to come by again: none, or one that was passed
-abbrev pub Waits : ListRule → List ℕ → ℕ → ℕ → Type 0
-Waits list s count waiting = (waiting ≡ 0) ⊎ ((j : ℕ) × (j < count) × (4 * waiting ≡ met list s j))
+-- the position that waits for the chase to come by again: none, or one that was passed
+abbrev pub Waits : Kind → List ℕ → ℕ → ℕ → Type 0
+Waits kind s count waiting = (waiting ≡ 0) ⊎ ((j : ℕ) × (j < count) × (offsetOf kind waiting ≡ met (describe kind) s j))
 
 -- a chase has stopped at a pointer: below the floor, back at an offset that was passed, or with the log full
 pub record Stops (kind : Kind) (s log : List ℕ) (count pointer : ℕ) : Type 0 where
@@ -93,7 +84,7 @@ pub record Stops (kind : Kind) (s log : List ℕ) (count pointer : ℕ) : Type 0
 -- how a chase ended, with its log
 abbrev pub Chases : Kind → List ℕ → Chased → List ℕ → Type 0
 Chases kind s (Ended count) log = (count ≤ length log) × HasChain (describe kind) s (take count log)
-Chases kind s (Stopped count number) log = Stops kind s log count (4 * number)
+Chases kind s (Stopped count position) log = Stops kind s log count (offsetOf kind position)
 
 -- the offset that was passed last of the first so many of a log, or 0 where none was
 abbrev pub lastOf : List ℕ → ℕ → ℕ

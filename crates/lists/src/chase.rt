@@ -3,9 +3,9 @@ use crate::Kind;
 use crate::table;
 ghost use mathlib.Core.Path.{_≡_};
 ghost use mathlib.Core.Logic.{_⊎_};
-ghost use Prim.Native.Nat.{_*_, _≤_, _<_};
+ghost use Prim.Native.Nat.{_≤_, _<_};
 ghost use Rattle.lists.specs.Table.{describe};
-ghost use Rattle.lists.specs.Inner.{Leads, Underway, Chases};
+ghost use Rattle.lists.specs.Inner.{offsetOf, Leads, Underway, Chases};
 
 // Where a pointer leads: "the next offset, the end, or a fault".
 pub(crate) enum Step {
@@ -14,18 +14,18 @@ pub(crate) enum Step {
     Fault,
 }
 
-// How a chase comes out, with so many offsets logged: at the chain's end; or it stopped at a word, which is below the floor or was passed before, or
-// for which the log has no room.
+// How a chase comes out, with so many offsets logged: at the chain's end; or it stopped at a position, which is below the floor or was passed before,
+// or for which the log has no room.
 pub(crate) enum Chased {
     Ended(usize),
     Stopped(usize, usize),
 }
 
-pub(crate) fn step_to(kind: Kind, number: usize) -> Step
-    requires { ⌜ 4 * number ≤ 0xffc ⌝ }
-    ensures { λ r. ⌜ Leads (describe kind) (4 * number) r ⌝ }
+pub(crate) fn step_to(kind: Kind, position: usize) -> Step
+    requires { ⌜ offsetOf kind position ≤ 0xffc ⌝ }
+    ensures { λ r. ⌜ Leads (describe kind) (offsetOf kind position) r ⌝ }
 {
-    let pointer = 4 * number;
+    let pointer = table::offset(kind, position);
     if pointer == 0 {
         return Step::End;
     }
@@ -35,7 +35,7 @@ pub(crate) fn step_to(kind: Kind, number: usize) -> Step
     Step::Next(pointer)
 }
 
-// Which word waits for the chase to come by again: the one that was passed last, after 1, 2, 4, 8 .. of them, and else the one that waits.
+// Which position waits for the chase to come by again: the one that was passed last, after 1, 2, 4, 8 .. of them, and else the one that waits.
 fn moved_up(waiting: usize, last: usize, count: usize) -> usize
     requires { ⌜ 0 < count ⌝ }
     ensures { λ r. ⌜ (r ≡ waiting) ⊎ (r ≡ last) ⌝ }
@@ -46,33 +46,33 @@ fn moved_up(waiting: usize, last: usize, count: usize) -> usize
     waiting
 }
 
-// Goes on from a word with `passed` offsets in the log. A word is carried by its number, and not by its offset: the next header is then
-// loaded from there without another step between. A list that goes round comes by the word that waits, so that it is noticed early; a chain
-// that ends pays a comparison for it, and no mark.
+// Goes on from a position with `passed` offsets in the log. A position, and not an offset, is carried: the next pointer is then loaded from there
+// without another step between. A list that goes round comes by the position that waits, so that a short round is noticed early; a chain that ends pays
+// two comparisons a header for it, and no mark.
 pub(crate) fn chase(kind: Kind, space: &[u8], log: &mut [u16], passed: usize, from: usize) -> Chased
-    requires { ⌜ Underway kind (now space) (now log) passed (4 * from) ⌝ }
+    requires { ⌜ Underway kind (now space) (now log) passed (offsetOf kind from) ⌝ }
     ensures { λ r. ⌜ Chases kind (now (space .entry)) r (now (log .exit)) ⌝ }
 {
     let mut count = passed;
-    let mut number = from;
+    let mut position = from;
     let mut waiting = 0;
     loop {
-        let taken = step_to(kind, number);
+        let taken = step_to(kind, position);
         let Step::Next(at) = taken else {
             if let Step::End = taken {
                 return Chased::Ended(count);
             }
-            return Chased::Stopped(count, number);
+            return Chased::Stopped(count, position);
         };
-        if number == waiting {
-            return Chased::Stopped(count, number);
+        if position == waiting {
+            return Chased::Stopped(count, position);
         }
         if count == log.len() {
-            return Chased::Stopped(count, number);
+            return Chased::Stopped(count, position);
         }
         log[count] = at as u16;
         count += 1;
-        waiting = moved_up(waiting, number, count);
-        number = table::follow(kind, space, number);
+        waiting = moved_up(waiting, position, count);
+        position = table::follow(kind, space, position);
     }
 }

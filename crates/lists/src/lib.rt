@@ -9,11 +9,11 @@ pub use table::COMPATIBLE_MAXIMUM;
 pub use table::EXTENDED_MAXIMUM;
 pub use table::TRUSTED_MAXIMUM;
 ghost use mathlib.Core.Path.{_≡_};
-ghost use Prim.Native.Nat.{_*_, _≤_, _<_};
+ghost use Prim.Native.Nat.{_≤_, _<_};
 ghost use lib.ListN.{length, take};
 ghost use Rattle.lists.specs.Table.{describe};
 ghost use Rattle.lists.specs.Walks.{Walks, WholeSpace, Roomy, Lists};
-ghost use Rattle.lists.specs.Inner.{Underway, Stops, Words, Onward, RefusedAt, Told};
+ghost use Rattle.lists.specs.Inner.{offsetOf, Underway, Stops, Words, Onward, RefusedAt, Told};
 
 mod chase; // chase.rt: a chain is followed, a step at a time
 mod logs; // logs.rt: lists of offsets
@@ -77,9 +77,9 @@ fn walk_short(kind: Kind, space: &[u8], room: &mut [u16]) -> Walked
     let start = table::first(kind, space);
     match chase::chase(kind, space, &mut log, 0, start) {
         Chased::Ended(count) => listed(&log, count, room),
-        Chased::Stopped(count, number) => match kind {
-            Kind::Compatible => go_on(Kind::Compatible, space, &log, count, number, room),
-            _ => go_on(kind, space, &log, count, number, room),
+        Chased::Stopped(count, position) => match kind {
+            Kind::Compatible => go_on(Kind::Compatible, space, &log, count, position, room),
+            _ => go_on(kind, space, &log, count, position, room),
         },
     }
 }
@@ -90,29 +90,29 @@ fn go_on(
     space: &[u8],
     short: &[u16; SHORT],
     count: usize,
-    number: usize,
+    position: usize,
     room: &mut [u16],
 ) -> Walked
-    requires { ⌜ Stops kind (now space) (now short) count (4 * number) × Roomy kind (now room) ⌝ }
+    requires { ⌜ Stops kind (now space) (now short) count (offsetOf kind position) × Roomy kind (now room) ⌝ }
     ensures { λ r. ⌜ Walks kind (now (space .entry)) (now (room .entry)) r (now (room .exit)) ⌝ }
 {
     if count == SHORT {
         if SHORT < table::maximum(kind) {
-            return walk_long(kind, space, short, number, room);
+            return walk_long(kind, space, short, position, room);
         }
     }
-    broken(kind, short, count, number)
+    broken(kind, short, count, position)
 }
 
 // The walk from where a short log was full: to the list's maximum.
-fn walk_long(kind: Kind, space: &[u8], short: &[u16], number: usize, room: &mut [u16]) -> Walked
-    requires { ⌜ Underway kind (now space) (now short) (length (now short)) (4 * number) × Roomy kind (now room) × (length (now short) ≡ 48) × (48 < describe kind .maximum) ⌝ }
+fn walk_long(kind: Kind, space: &[u8], short: &[u16], position: usize, room: &mut [u16]) -> Walked
+    requires { ⌜ Underway kind (now space) (now short) (length (now short)) (offsetOf kind position) × Roomy kind (now room) × (length (now short) ≡ 48) × (48 < describe kind .maximum) ⌝ }
     ensures { λ r. ⌜ Walks kind (now (space .entry)) (now (room .entry)) r (now (room .exit)) ⌝ }
 {
     let mut log = [0u16; LONG];
     let most = table::maximum(kind);
     logs::copy(short, SHORT, &mut log);
-    match chase::chase(kind, space, &mut log[..most], SHORT, number) {
+    match chase::chase(kind, space, &mut log[..most], SHORT, position) {
         Chased::Ended(count) => listed(&log[..most], count, room),
         Chased::Stopped(count, last) => broken(kind, &log[..most], count, last),
     }
@@ -133,11 +133,11 @@ fn listed(log: &[u16], count: usize, room: &mut [u16]) -> Walked
 
 // What broke in a list, with so many offsets passed and a pointer that it did not go on by: it is below the floor; or the list comes back, and is
 // told where it does so first.
-fn broken(kind: Kind, log: &[u16], count: usize, number: usize) -> Walked
-    requires { ⌜ (count ≤ length (now log)) × Words (take count (now log)) × Onward (4 * number) ⌝ }
-    ensures { λ r. ⌜ Told (describe kind) (now (log .entry)) count (4 * number) r ⌝ }
+fn broken(kind: Kind, log: &[u16], count: usize, position: usize) -> Walked
+    requires { ⌜ (count ≤ length (now log)) × Words (take count (now log)) × Onward (offsetOf kind position) ⌝ }
+    ensures { λ r. ⌜ Told (describe kind) (now (log .entry)) count (offsetOf kind position) r ⌝ }
 {
-    if let Step::Fault = chase::step_to(kind, number) {
+    if let Step::Fault = chase::step_to(kind, position) {
         return refused(Refusal::BelowFloor, logs::last(log, count));
     }
     let index = marks::first_again(&log[..count]);

@@ -2,10 +2,10 @@
 use crate::Kind;
 ghost use mathlib.Core.Path.{_≡_};
 ghost use Prim.Native.Nat.{_*_, _≤_, _<_};
-ghost use Rattle.lists.specs.Table.{describe, compatibleStart, extendedStart, trustedStart};
+ghost use Rattle.lists.specs.Table.{describe, compatibleStart, extendedStart, trustedStart, compatibleNext, extendedNext};
 ghost use Rattle.lists.specs.Chain.{dropped, first, follows};
 ghost use Rattle.lists.specs.Walks.{WholeSpace};
-ghost use Rattle.lists.specs.Inner.{Raw, Word, Header, Half, Whole, pointerIn};
+ghost use Rattle.lists.specs.Inner.{offsetOf, Raw, Counted, Whole};
 
 // The compatible list: a bit of the status byte says that there is one, and a byte points to its first header.
 const STATUS: usize = 0x06;
@@ -18,7 +18,7 @@ const COMPATIBLE_FLOOR: usize = 0x040;
 
 pub const COMPATIBLE_MAXIMUM: usize = 48;
 
-// The extended list: its first header has a fixed place, and a word of 0 there says that there is none.
+// The extended list: its first header has a fixed position, and a word of 0 there says that there is none.
 const EXTENDED_START: usize = 0x100;
 
 const EXTENDED_FLOOR: usize = 0x100;
@@ -52,59 +52,45 @@ pub(crate) fn maximum(kind: Kind) -> usize
     }
 }
 
-// The number of the word that holds the list's first header, or 0.
-pub(crate) fn first(kind: Kind, space: &[u8]) -> usize
-    requires { ⌜ WholeSpace (now space) ⌝ }
-    ensures { λ r. ⌜ Word (first (describe kind) (now (space .entry))) r ⌝ }
-{
-    numbered(start(kind, space))
-}
-
-// The number of the word that the header in a word points to, or 0.
-pub(crate) fn follow(kind: Kind, space: &[u8], number: usize) -> usize
-    requires { ⌜ WholeSpace (now space) × (4 * number ≤ 0xffc) ⌝ }
-    ensures { λ r. ⌜ Word (follows (describe kind) (now (space .entry)) (4 * number)) r ⌝ }
-{
-    let header = header_of(kind, space, number);
-    numbered(next(kind, header))
-}
-
-// The header in a word of the space: two bytes of the compatible list, four of the others.
-fn header_of(kind: Kind, space: &[u8], number: usize) -> u32
-    requires { ⌜ WholeSpace (now space) × (4 * number ≤ 0xffc) ⌝ }
-    ensures { λ r. ⌜ Header kind (now (space .entry)) (4 * number) r ⌝ }
+// The offset of a position: a position counts words, and bytes in the compatible list, whose pointer is a byte.
+pub(crate) fn offset(kind: Kind, position: usize) -> usize
+    requires { ⌜ offsetOf kind position ≤ 0xffc ⌝ }
+    ensures { λ r. ⌜ r ≡ offsetOf kind position ⌝ }
 {
     match kind {
-        Kind::Compatible => half_of(space, number),
-        Kind::Extended => word_of(space, number),
-        Kind::Trusted => word_of(space, number),
+        Kind::Compatible => position,
+        Kind::Extended => 4 * position,
+        Kind::Trusted => 4 * position,
     }
 }
 
-// The lower half of the word of the space with a number.
-fn half_of(space: &[u8], number: usize) -> u32
-    requires { ⌜ WholeSpace (now space) × (4 * number ≤ 0xffc) ⌝ }
-    ensures { λ r. ⌜ Half (now (space .entry)) (4 * number) r ⌝ }
+// The position of the list's first header, or 0.
+pub(crate) fn first(kind: Kind, space: &[u8]) -> usize
+    requires { ⌜ WholeSpace (now space) ⌝ }
+    ensures { λ r. ⌜ Counted kind (first (describe kind) (now (space .entry))) r ⌝ }
 {
-    let at = 4 * number;
-    words::joined(space[at], space[at + 1], 0, 0)
+    counted(kind, start(kind, space) as usize)
 }
 
-// The word of the space with a number.
-fn word_of(space: &[u8], number: usize) -> u32
-    requires { ⌜ WholeSpace (now space) × (4 * number ≤ 0xffc) ⌝ }
-    ensures { λ r. ⌜ Whole (now (space .entry)) (4 * number) r ⌝ }
+// The position that the header at a position points to, or 0.
+pub(crate) fn follow(kind: Kind, space: &[u8], position: usize) -> usize
+    requires { ⌜ WholeSpace (now space) × (offsetOf kind position ≤ 0xffc) ⌝ }
+    ensures { λ r. ⌜ Counted kind (follows (describe kind) (now (space .entry)) (offsetOf kind position)) r ⌝ }
 {
-    let at = 4 * number;
-    words::joined(space[at], space[at + 1], space[at + 2], space[at + 3])
+    counted(kind, next(kind, space, position))
 }
 
-// The word that a pointer without its bottom two bits leads to, by its number in the space.
-fn numbered(pointer: u32) -> usize
+// The position that a pointer leads to, without its bottom two bits.
+fn counted(kind: Kind, pointer: usize) -> usize
     requires { ⌜ pointer < 0x1000 ⌝ }
-    ensures { λ r. ⌜ Word (dropped pointer) r ⌝ }
+    ensures { λ r. ⌜ Counted kind (dropped pointer) r ⌝ }
 {
-    (pointer >> 2) as usize
+    let word = pointer >> 2;
+    match kind {
+        Kind::Compatible => 4 * word,
+        Kind::Extended => word,
+        Kind::Trusted => word,
+    }
 }
 
 fn start(kind: Kind, space: &[u8]) -> u32
@@ -125,7 +111,8 @@ fn compatible_start(space: &[u8]) -> u32
     if (space[STATUS] >> CAPABILITIES) & 1 == 0 {
         return 0;
     }
-    space[COMPATIBLE_START] as u32
+    // Taken out of its word: from a byte, the compiler would carry a byte through the chase, and widen it at every step.
+    words::word(space, COMPATIBLE_START) & 0xff
 }
 
 fn extended_start(space: &[u8]) -> u32
@@ -145,13 +132,37 @@ fn trusted_start(space: &[u8]) -> u32
     words::word(space, TRUSTED_START) & 0xfff
 }
 
-// The pointer in a header.
-fn next(kind: Kind, header: u32) -> u32
-    ensures { λ r. ⌜ r ≡ pointerIn kind header ⌝ }
+// The pointer in the header at a position.
+fn next(kind: Kind, space: &[u8], position: usize) -> usize
+    requires { ⌜ WholeSpace (now space) × (offsetOf kind position ≤ 0xffc) ⌝ }
+    ensures { λ r. ⌜ Raw (describe kind .next (now (space .entry)) (offsetOf kind position)) r ⌝ }
 {
     match kind {
-        Kind::Compatible => header >> 8,
-        Kind::Extended => header >> 20,
-        Kind::Trusted => header >> 20,
+        Kind::Compatible => compatible_next(space, position),
+        Kind::Extended => extended_next(space, position),
+        Kind::Trusted => extended_next(space, position),
     }
+}
+
+fn compatible_next(space: &[u8], offset: usize) -> usize
+    requires { ⌜ WholeSpace (now space) × (offset ≤ 0xffc) ⌝ }
+    ensures { λ r. ⌜ Raw (compatibleNext (now (space .entry)) offset) r ⌝ }
+{
+    space[offset + 1] as usize
+}
+
+fn extended_next(space: &[u8], number: usize) -> usize
+    requires { ⌜ WholeSpace (now space) × (4 * number ≤ 0xffc) ⌝ }
+    ensures { λ r. ⌜ Raw (extendedNext (now (space .entry)) (4 * number)) r ⌝ }
+{
+    (word_of(space, number) >> 20) as usize
+}
+
+// The word of the space with a number.
+fn word_of(space: &[u8], number: usize) -> u32
+    requires { ⌜ WholeSpace (now space) × (4 * number ≤ 0xffc) ⌝ }
+    ensures { λ r. ⌜ Whole (now (space .entry)) (4 * number) r ⌝ }
+{
+    let at = 4 * number;
+    words::joined(space[at], space[at + 1], space[at + 2], space[at + 3])
 }

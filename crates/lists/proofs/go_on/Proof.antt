@@ -1,11 +1,11 @@
 -- `lists::go_on` meets its contract: with a longer log, or the list is broken. Assumes nothing.
 use borrow.Author.Needs.{needs}
-use Prim.Native.Nat.{ℕ, _*_}
+use Prim.Native.Nat.{ℕ}
 use mathlib.Core.Logic.{⊎-elim}
 use mathlib.Core.Path.{_≡_, subst}
 use native.Mathlib.Omega.{arith}
 use lib.ListN.{length}
-use Rattle.lists.specs.Inner.{Underway}
+use Rattle.lists.specs.Inner.{offsetOf, Underway}
 use Rattle.lists.proofs.Walking.{followed-words, walks-told}
 use Rattle.lists.proofs.go_on.Statement.{statement}
 use Rattle.lists.proofs.go_on.Tie as tie
@@ -18,7 +18,7 @@ walk-long-requires c κs =
     let a = c .before .before .before .before .before .before .before in
     let size : length (a .args .short .now) ≡ 48 = omega arith in
     let all : a .args .count ≡ length (a .args .short .now) = omega arith in (
-      subst (λ (n : ℕ). Underway (a .args .kind) (a .args .space .now) (a .args .short .now) n (4 * a .args .number)) all (a .pre .0 .underway),
+      subst (λ (n : ℕ). Underway (a .args .kind) (a .args .space .now) (a .args .short .now) n (offsetOf (a .args .kind) (a .args .position))) all (a .pre .0 .underway),
       a .pre .1,
       size,
       omega arith,

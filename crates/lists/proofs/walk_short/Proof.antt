@@ -7,17 +7,17 @@ use native.Mathlib.Omega.{arith}
 use Rattle.lists.specs.declared.Kind.{Kind}
 use Rattle.lists.specs.declared.chase.Chased.the-variants.{Ended, Stopped}
 use Rattle.lists.specs.Walks.{Roomy, Walks.listed}
-use Rattle.lists.specs.Inner.{Chases, Stops}
+use Rattle.lists.specs.Inner.{offsetOf, Chases, Stops}
 use Rattle.lists.proofs.Following.{underway-start}
 use Rattle.lists.proofs.Walking.{maximum-bounds, chases-as}
 use Rattle.lists.proofs.walk_short.Statement.{statement}
 use Rattle.lists.proofs.walk_short.Tie as tie
 
 -- a chase that stopped is gone on with, for the list that it is of
-for-list : {kind known : Kind} {s log : List ℕ} {count pointer : ℕ} (room : List ℕ) → kind ≡ known → Stops kind s log count pointer → Roomy kind room
-    → Stops known s log count pointer × Roomy known room
-for-list {kind} {known} {s} {log} {count} {pointer} room e t roomy =
-    subst (λ (k : Kind). Stops k s log count pointer × Roomy k room) e (t, roomy)
+for-list : {kind known : Kind} {s log : List ℕ} {count : ℕ} (position : ℕ) (room : List ℕ) → kind ≡ known
+    → Stops kind s log count (offsetOf kind position) → Roomy kind room → Stops known s log count (offsetOf known position) × Roomy known room
+for-list {kind} {known} {s} {log} {count} position room e t roomy =
+    subst (λ (k : Kind). Stops k s log count (offsetOf k position) × Roomy k room) e (t, roomy)
 
 first-requires : tie.Need-first-requires
 first-requires c κs = search needs
@@ -67,7 +67,7 @@ enum-told c = search needs
 go-on-requires : tie.Need-go-on-requires
 go-on-requires c κs =
     let a = c .before .before .before .before .before .before .before .before .before .before .before .before .before in
-    for-list (a .args .room .now) (c .before .before .enum-told .given .1) (stopped (c .before .before .before .before)) (a .pre .1)
+    for-list (c .before .before .before .before .before .count2 .given .0 .1 .0) (a .args .room .now) (c .before .before .enum-told .given .1) (stopped (c .before .before .before .before)) (a .pre .1)
 
 go-on-requires-2 : tie.Need-go-on-requires-2
 go-on-requires-2 c κs = (stopped (c .before .before .before), c .before .before .before .before .before .before .before .before .before .before .before .before .pre .1)

@@ -5,10 +5,12 @@ use mathlib.Core.List.{List}
 use mathlib.Core.Path.{_≡_, sym, _∙_}
 use native.Mathlib.Omega.{arith}
 use borrow.Author.Tests.{eq-eqb, ne-eqb}
-use lib.Bits.{bitAnd, and-mask}
+use lib.Bits.{bitAnd, and-mask, mask-lt}
 use Rattle.words.specs.Bytes.{byte}
-use Rattle.words.specs.Fields.{bit}
+use Rattle.words.specs.Fields.{bit, word, wordOrZero}
+use Rattle.words.proofs.Laws.{word-inside}
 use Rattle.lists.specs.Table.{compatibleStart}
+use Rattle.lists.specs.Walks.{WholeSpace}
 use Rattle.lists.specs.Inner.{Raw}
 use Rattle.lists.proofs.table.compatible_start.Statement.{statement}
 use Rattle.lists.proofs.table.compatible_start.Tie as tie
@@ -20,27 +22,33 @@ empty : (s : List ℕ) → bitAnd (byte s 0x06 / 16) 1 ≡ 0 → Raw (compatible
 unfolding compatibleStart
 empty s h = record { is = rw (eq-eqb (bit 4 (byte s 0x06)) 0 (sym (bit-four (byte s 0x06)) ∙ h)); small = omega arith }
 
-starts : (s : List ℕ) → (bitAnd (byte s 0x06 / 16) 1 ≡ 0 → ⊥) → byte s 0x34 < 256 → Raw (compatibleStart s) (byte s 0x34)
+-- the low byte of the word that begins with it
+low-byte : (s : List ℕ) (n : ℕ) → WholeSpace s → n ≡ wordOrZero s 0x34 → byte s 0x34 < 256 → bitAnd n 0xff ≡ byte s 0x34
+low-byte s n size e h = and-mask n 8 ∙ omega (arith, e ∙ word-inside s 0x34 (omega arith))
+
+starts : (s : List ℕ) (n : ℕ) → WholeSpace s → (bitAnd (byte s 0x06 / 16) 1 ≡ 0 → ⊥) → n ≡ wordOrZero s 0x34 → byte s 0x34 < 256
+    → Raw (compatibleStart s) (bitAnd n 0xff)
 unfolding compatibleStart
-starts s h k = record { is = rw (ne-eqb (bit 4 (byte s 0x06)) 0 (λ e. h (bit-four (byte s 0x06) ∙ e))); small = omega arith }
+starts s n size h e k =
+    record {
+      is = low-byte s n size e k ∙ rw (ne-eqb (bit 4 (byte s 0x06)) 0 (λ z. h (bit-four (byte s 0x06) ∙ z)));
+      small = omega (arith, mask-lt n 8);
+    }
 
 shared-slice-read-if1 : tie.Need-shared-slice-read-if1
 shared-slice-read-if1 c = search needs
 
 returns : tie.Need-returns
-returns c = empty (c .before .before .args .space .now) (c .if1 .taken)
+returns c = empty (c .before .before .before .args .space .now) (c .if1 .taken)
 
-shared-slice-read-result : tie.Need-shared-slice-read-result
-shared-slice-read-result c = search needs
-
-cast-result : tie.Need-cast-result
-cast-result c = omega (arith, c .shared-slice-known2 .given 0x34)
+word-requires : tie.Need-word-requires
+word-requires c κs = search needs
 
 returns-2 : tie.Need-returns-2
 returns-2 c =
-    starts (c .before .before .before .args .space .now) (c .before .if1 .left) (omega (arith, c .shared-slice-known2 .given 0x34))
+    let a = c .before .before .before .before in
+    starts (a .args .space .now) (c .word .result) (a .pre) (c .before .if1 .left) (c .word .ensures)
+    (omega (arith, c .before .before .before .shared-slice-known .given 0x34))
 
 pub compatible-start-spec : {M : Type 1} → statement M
-compatible-start-spec =
-    tie.close
-    (tie.spec shared-slice-read-if1 returns shared-slice-read-result cast-result returns-2)
+compatible-start-spec = tie.close (tie.spec shared-slice-read-if1 returns word-requires returns-2)
