@@ -140,7 +140,7 @@ impl fmt::Display for Refusal {
     fn fmt(&self, formatter: &mut fmt::Formatter<'_>) -> fmt::Result {
         write!(formatter, "refused with {}: {}", self.number(), self.text())?;
         match self {
-            Refusal::BelowFloor { place: None } => write!(formatter, ", its start"),
+            Refusal::BelowFloor { place: None } => write!(formatter, ": the list's start itself"),
             Refusal::BelowFloor { place: Some(place) } | Refusal::ComesBack { place } => {
                 write!(formatter, ", in the structure at {place:03X}h")
             }
@@ -287,7 +287,7 @@ mod tests {
     #[test]
     fn a_broken_list_says_where() {
         let says = |refusal: Refusal| refusal.to_string();
-        assert!(says(Refusal::BelowFloor { place: None }).ends_with(" below its floor, its start"));
+        assert!(says(Refusal::BelowFloor { place: None }).ends_with(" below its floor: the list's start itself"));
         assert!(says(Refusal::BelowFloor { place: Some(0x008) }).ends_with(", in the structure at 008h"));
         assert!(says(Refusal::ComesBack { place: 0xFFC }).ends_with(" in the chain, in the structure at FFCh"));
     }

@@ -1,5 +1,6 @@
-//! A walk on each side: functions of one shape, which are not inlined and make one call to the side. What it answers
-//! goes through black_box in each of them, so that none of them is a mere jump to its side.
+//! A walk on each side: functions of one shape, which are not inlined and make one call to the side. One number of what it
+//! answers goes through black_box in each of them, so that none of them is a mere jump to its side, and a struct in two
+//! registers is not sent through memory.
 
 use super::chain::List;
 use super::chase;
@@ -45,38 +46,38 @@ pub fn chase(list: List) -> Walk {
 
 #[inline(never)]
 fn library_compatible(space: &[u8], room: &mut [u16]) -> Answer {
-    let raw::Walked { number, count, place } = black_box(raw::walk_compatible(space, room));
-    Answer { number, count, place }
+    let raw::Walked { number, count, place } = raw::walk_compatible(space, room);
+    answer(number, count, place)
 }
 
 #[inline(never)]
 fn library_extended(space: &[u8], room: &mut [u16]) -> Answer {
-    let raw::Walked { number, count, place } = black_box(raw::walk_extended(space, room));
-    Answer { number, count, place }
+    let raw::Walked { number, count, place } = raw::walk_extended(space, room);
+    answer(number, count, place)
 }
 
 #[inline(never)]
 fn library_trusted(space: &[u8], room: &mut [u16]) -> Answer {
-    let raw::Walked { number, count, place } = black_box(raw::walk_trusted(space, room));
-    Answer { number, count, place }
+    let raw::Walked { number, count, place } = raw::walk_trusted(space, room);
+    answer(number, count, place)
 }
 
 #[inline(never)]
 fn safe_rust_compatible(space: &[u8], room: &mut [u16]) -> Answer {
-    let model::Walked { number, count, place } = black_box(model::walk(model::List::Compatible, space, room));
-    Answer { number, count, place }
+    let model::Walked { number, count, place } = model::walk(model::List::Compatible, space, room);
+    answer(number, count, place)
 }
 
 #[inline(never)]
 fn safe_rust_extended(space: &[u8], room: &mut [u16]) -> Answer {
-    let model::Walked { number, count, place } = black_box(model::walk(model::List::Extended, space, room));
-    Answer { number, count, place }
+    let model::Walked { number, count, place } = model::walk(model::List::Extended, space, room);
+    answer(number, count, place)
 }
 
 #[inline(never)]
 fn safe_rust_trusted(space: &[u8], room: &mut [u16]) -> Answer {
-    let model::Walked { number, count, place } = black_box(model::walk(model::List::Trusted, space, room));
-    Answer { number, count, place }
+    let model::Walked { number, count, place } = model::walk(model::List::Trusted, space, room);
+    answer(number, count, place)
 }
 
 #[inline(never)]
@@ -98,6 +99,15 @@ fn chase_trusted(space: &[u8], _: &mut [u16]) -> Answer {
     let start = u16::from_le_bytes([space[4], space[5]]);
     let count = black_box(chase::words(space, start.into(), 1022));
     read(count)
+}
+
+#[inline(always)]
+fn answer(number: u8, count: usize, place: u16) -> Answer {
+    Answer {
+        number: black_box(number),
+        count,
+        place,
+    }
 }
 
 /// The chase's answer: how many headers it read.
