@@ -1,6 +1,6 @@
 -- THEOREMS. Request 3/13 of document 02, of any list: it breaks in one way and at one place at most; it breaks exactly if it has no legal chain, so "a
--- list is refused exactly when it was before"; it breaks by the maximum's next pointer; and the place is 0 exactly if the start is at fault. Assumes
--- nothing.
+-- list is refused exactly when it was before"; it breaks behind the maximum of pointers at the latest; and the place is 0 exactly if the start is at
+-- fault. Assumes nothing.
 use Prim.Native.Nat.{ℕ, zero, suc, _%_, _≤_, _<_}
 use mathlib.Core.Bool.{Bool, true, false}
 use mathlib.Core.List.{List}
@@ -40,7 +40,7 @@ abbrev pub steps : {list : ListRule} {s : List ℕ} {number place : ℕ} → Bre
 steps (falls n r b e f) = n
 steps (turns n r b e f) = n
 
--- the offset of a structure of a list
+-- an offset that a structure of a list can have
 pub record Structure (kind : Kind) (at : ℕ) : Type 0 where
   pub above : describe kind .floor ≤ at
   pub aligned : at % 4 ≡ 0

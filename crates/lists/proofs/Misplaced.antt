@@ -1,7 +1,7 @@
 -- THEOREMS. The walks that a newcomer writes for request 3/13 of document 02 do not meet the promise: such as take one number for the other, of any list
 -- that breaks; and such as tell, in the place of the structure that holds the pointer, where that pointer leads, the list's start, nothing, or the
--- structure at which a count of the maximum's headers ends, of any list where that is another place. In document 01's list 100h, 140h, 180h, 140h each of these is another place than the
--- one to tell, 180h. And two lists with a fault that is not reached, where the first one counts. Assumes nothing.
+-- structure at which a count of the maximum's headers ends, of any list where that is another place. In document 01's list 100h, 140h, 180h, 140h each
+-- of these is another place than the one to tell, 180h. And two lists with a fault that is not reached, where the first one counts. Assumes nothing.
 use Prim.Native.Nat.{ℕ, zero, suc, _<_}
 use mathlib.Core.List.{List, [], _∷_}
 use mathlib.Core.Path.{_≡_, refl, sym, _∙_}

@@ -96,7 +96,7 @@ pub record Words (log : List ℕ) : Type 0 where
   pub aligned : (k : ℕ) → k < length log → getD log k 0 ≡ 4 * (getD log k 0 / 4)
   pub inside : (k : ℕ) → k < length log → getD log k 0 ≤ 0xffc
 
--- the first place of a log whose offset stands before it already, or the log's end
+-- the first index of a log whose offset stands before it already, or the log's end
 pub record FirstAgain (log : List ℕ) (index : ℕ) : Type 0 where
   pub within : index ≤ length log
   pub apart : (j k : ℕ) → j < k → k < index → getD log j 0 ≡ getD log k 0 → ⊥

@@ -46,9 +46,9 @@ fn moved_up(waiting: usize, last: usize, count: usize) -> usize
     waiting
 }
 
-// Goes on from a position with `passed` offsets in the log. A position, and not an offset, is carried: the next pointer is then loaded from there
-// without another step between. A list that goes round comes by the position that waits, so that a short round is noticed early; a chain that ends pays
-// two comparisons a header for it, and no mark.
+// Goes on from a position with `passed` offsets in the log. What is carried is a position: a word's number, from which the next header is loaded without
+// another step between, and in the compatible list the offset of the byte before its pointer. A list that goes round comes by the position that waits, so
+// that a short round is noticed early; a chain that ends pays two comparisons a header for it, and no mark.
 pub(crate) fn chase(kind: Kind, space: &[u8], log: &mut [u16], passed: usize, from: usize) -> Chased
     requires { ⌜ Underway kind (now space) (now log) passed (offsetOf kind from) ⌝ }
     ensures { λ r. ⌜ Chases kind (now (space .entry)) r (now (log .exit)) ⌝ }

@@ -1,5 +1,5 @@
 // The capability lists of a lent configuration space: the chain of one of three lists, or what broke in it, and where.
-// `walk` answers for every list, space and room. It follows at most the list's maximum of pointers, those of a chain that ends once, and nothing
+// `walk` answers for every list, space and room. It follows at most the list's maximum of pointers, each of a chain that ends only once, and nothing
 // scans the space. A refusal leaves the room as it was lent.
 use answers::Answer;
 use answers::Refusal;

@@ -3,7 +3,7 @@ ghost use Rattle.lists.specs.Inner.{Words, FirstAgain};
 
 const WORDS: usize = 1024;
 
-// The place in a log of the first offset that stands before it already, or the log's length where there is none.
+// The index in a log of the first offset that stands before it already, or the log's length where there is none.
 pub(crate) fn first_again(log: &[u16]) -> usize
     requires { ⌜ Words (now log) ⌝ }
     ensures { λ r. ⌜ FirstAgain (now (log .entry)) r ⌝ }

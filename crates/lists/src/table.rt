@@ -18,7 +18,7 @@ const COMPATIBLE_FLOOR: usize = 0x040;
 
 pub const COMPATIBLE_MAXIMUM: usize = 48;
 
-// The extended list: its first header has a fixed position, and a word of 0 there says that there is none.
+// The extended list: its first header has a fixed offset, and a word of 0 there says that there is none.
 const EXTENDED_START: usize = 0x100;
 
 const EXTENDED_FLOOR: usize = 0x100;
@@ -151,18 +151,18 @@ fn compatible_next(space: &[u8], offset: usize) -> usize
     space[offset + 1] as usize
 }
 
-fn extended_next(space: &[u8], number: usize) -> usize
-    requires { ⌜ WholeSpace (now space) × (4 * number ≤ 0xffc) ⌝ }
-    ensures { λ r. ⌜ Raw (extendedNext (now (space .entry)) (4 * number)) r ⌝ }
+fn extended_next(space: &[u8], position: usize) -> usize
+    requires { ⌜ WholeSpace (now space) × (4 * position ≤ 0xffc) ⌝ }
+    ensures { λ r. ⌜ Raw (extendedNext (now (space .entry)) (4 * position)) r ⌝ }
 {
-    (word_of(space, number) >> 20) as usize
+    (word_of(space, position) >> 20) as usize
 }
 
-// The word of the space with a number.
-fn word_of(space: &[u8], number: usize) -> u32
-    requires { ⌜ WholeSpace (now space) × (4 * number ≤ 0xffc) ⌝ }
-    ensures { λ r. ⌜ Whole (now (space .entry)) (4 * number) r ⌝ }
+// The word at a position that counts words.
+fn word_of(space: &[u8], position: usize) -> u32
+    requires { ⌜ WholeSpace (now space) × (4 * position ≤ 0xffc) ⌝ }
+    ensures { λ r. ⌜ Whole (now (space .entry)) (4 * position) r ⌝ }
 {
-    let at = 4 * number;
+    let at = 4 * position;
     words::joined(space[at], space[at + 1], space[at + 2], space[at + 3])
 }

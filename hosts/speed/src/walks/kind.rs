@@ -29,7 +29,7 @@ enum Chain {
     TailAndLoop,
 }
 
-pub const KINDS: [Kind; 27] = [
+pub const KINDS: [Kind; 28] = [
     legal("walk, compatible, 1", List::Compatible, 1, Order::Random),
     legal("walk, compatible, 8, random order", List::Compatible, 8, Order::Random),
     legal(
@@ -74,6 +74,11 @@ pub const KINDS: [Kind; 27] = [
         "walk, extended, refused 12, a loop of 12, random order",
         12,
         Chain::Round(12, Order::Random),
+    ),
+    refused(
+        "walk, extended, refused 12, a loop of 17, random order",
+        12,
+        Chain::Round(17, Order::Random),
     ),
     refused(
         "walk, extended, refused 12, a loop of 48, random order",

@@ -15,7 +15,7 @@ cast-result c = omega (arith, c .word-of .ensures .small)
 returns : tie.Need-returns
 returns c =
     let a = c .before .before .args in
-    whole-pointer (a .space .now) (4 * a .number) (c .word-of .ensures)
+    whole-pointer (a .space .now) (4 * a .position) (c .word-of .ensures)
 
 pub extended-next-spec : {M : Type 1} → statement M
 extended-next-spec = tie.close (tie.spec word-of-requires cast-result returns)

@@ -45,8 +45,8 @@ returns : tie.Need-returns
 returns c =
     let a = c .before .before .before .before .before .before .args in
     let bytes = c .before .before .before .before .before .shared-slice-known .given in
-    word-there (a .space .now) (4 * a .number) (c .joined .result) (c .joined .ensures) (omega (arith, bytes (4 * a .number)))
-    (omega (arith, bytes (4 * a .number + 1))) (omega (arith, bytes (4 * a .number + 2))) (omega (arith, bytes (4 * a .number + 3)))
+    word-there (a .space .now) (4 * a .position) (c .joined .result) (c .joined .ensures) (omega (arith, bytes (4 * a .position)))
+    (omega (arith, bytes (4 * a .position + 1))) (omega (arith, bytes (4 * a .position + 2))) (omega (arith, bytes (4 * a .position + 3)))
 
 pub word-of-spec : {M : Type 1} → statement M
 word-of-spec =
