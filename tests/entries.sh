@@ -34,6 +34,8 @@ parameters() { # clauses on standard input: the name of every parameter
     tr '\n' ' ' | sed -E 's/ (requires|ensures) \{.*//; s/^[^(]*\(//; s/\) *(->.*)?$//' | grep -oE '(^|[ (,])(mut )?[a-z_]+:( |$)|(^|[ (,])(mut )?self\b' | sed -E 's/[(,: ]|mut //g'
 }
 
+gives() { tr '\n' ' ' | sed -E 's/ (requires|ensures) \{.*//' | grep -q -e '->'; } # clauses on standard input: there is a result
+
 # The promise is DEFINITION of something, or that the result, or what it tells, is that: nothing beside it, and nothing around it; and it
 # speaks of every buffer as it was lent, and of every one that can be written as it is left.
 promises() { # DEFINITION, clauses on standard input
@@ -48,7 +50,9 @@ promises() { # DEFINITION, clauses on standard input
     else
         case $promise in *⊎* | *→* | *×* | *∨* | *↔* | *¬*) echo "its promise is $1 and something else: $promise" ;; esac
     fi
-    printf '%s\n' "$promise" | grep -qE '(^|[ (])r([ )]|$)' || echo "its promise does not speak of the result: $promise"
+    if gives <"$work/clauses" && ! printf '%s\n' "$promise" | grep -qE '(^|[ (])r([ )]|$)'; then
+        echo "its promise does not speak of the result: $promise"
+    fi
     for name in $(parameters <"$work/clauses"); do
         printf '%s\n' "$promise" | grep -qE "(^|[ («])$name([ )»]|\$)" || echo "its promise does not speak of $name"
     done
@@ -73,8 +77,8 @@ statement() { # FILE NAME
     [ -z "$named" ] || awk -v n="$named" '$1 == n && $2 == "=" {on=1} on && /^$/ {exit} on {print}' "$1"
 }
 
-# It speaks of two results that meet the definition, and concludes that they are equal, with as many buffers as can be written.
-speaks() { # DEFINITION BUFFERS, a statement on standard input
+# It speaks of two results that meet the definition, and concludes so many equations: one for the result, and one for each buffer that can be written.
+speaks() { # DEFINITION EQUATIONS, a statement on standard input
     tr '\n' ' ' | awk -v d="$1" -v wanted="$2" '{
         count = split($0, words, /[ (){},]+/)
         for (i = 1; i <= count; i++) if (words[i] == d) seen++
@@ -86,14 +90,15 @@ speaks() { # DEFINITION BUFFERS, a statement on standard input
             if (split(parts[i], side, / ≡ /) == 2) { gsub(/ /, "", side[1]); gsub(/ /, "", side[2]); if (side[1] != side[2]) equal++ }
         }
         if (seen < 2) print "it does not speak of two results that meet " d
-        else if (equal < wanted + 1) print "it concludes " equal + 0 " equations, and not " wanted + 1
+        else if (equal < wanted) print "it concludes " equal + 0 " equations, and not " wanted
         found = 1
     } END { if (!found) print "it is not there" }'
 }
 
-check() { # what is wrong, a line each; and last 'N entries'
-    local count=0 found='' crate entry file row why
-    for crate in $(sed 's/#.*//' crates.txt | sed -n 's/^\([a-z0-9_]*\):.*/\1/p'); do
+check() { # [CRATE..]: what is wrong with all crates, or with these, a line each; and last 'N entries'
+    local count=0 found='' crate entry file row why wanted
+    [ $# -gt 0 ] || set -- $(sed 's/#.*//' crates.txt | sed -n 's/^\([a-z0-9_]*\):.*/\1/p')
+    for crate; do
         while read -r entry file; do
             [ -n "$entry" ] || continue
             count=$((count + 1))
@@ -108,8 +113,9 @@ check() { # what is wrong, a line each; and last 'N entries'
             [ -z "$why" ] || echo "$entry: $why"
             why=$(brings "$file" "${promise%%:*}" "${promise#*: }")
             [ -z "$why" ] || echo "$entry: $why"
-            lent=$(clauses "$file" "${entry#*::}" | buffers 'mut ' | wc -l)
-            why=$(statement "crates/${theorem%%:*}.antt" "${theorem#*: }" | speaks "${promise#*: }" "$lent")
+            wanted=$(clauses "$file" "${entry#*::}" | buffers 'mut ' | wc -l)
+            clauses "$file" "${entry#*::}" | gives && wanted=$((wanted + 1))
+            why=$(statement "crates/${theorem%%:*}.antt" "${theorem#*: }" | speaks "${promise#*: }" "$wanted")
             [ -z "$why" ] || echo "$entry: $theorem: $why"
         done < <(entries "$crate")
         unseen "$crate"
@@ -129,8 +135,10 @@ else
     [ "${count:-0}" -gt 30 ] || echo "FAILED entries: only ${count:-none} were found"
 fi
 
-# It would notice: each line below is a change to a copy, and what must be said of it.
+# It would notice: each line below is a change to a copy, and what must be said of the crate that the words begin with.
 noticed() { # NAME WORDS FILE SED: the copy with one file edited is told about in these words
+    local crate=${2#crates/}
+    crate=${crate%%[:/]*}
     rm -rf "$work/copy"
     mkdir -p "$work/copy/docs"
     cp crates.txt "$work/copy/"
@@ -138,7 +146,7 @@ noticed() { # NAME WORDS FILE SED: the copy with one file edited is told about i
     cp -R crates "$work/copy/"
     sed -i -E "$4" "$work/copy/$3"
     if cmp -s "$3" "$work/copy/$3"; then echo "FAILED entries, $1: the edit changes nothing"; return; fi
-    if (cd "$work/copy" && check) | grep -qF "$2"; then echo "ok entries, $1 is noticed"; else echo "FAILED entries, $1 is not noticed"; fi
+    if (cd "$work/copy" && check "$crate") | grep -qF "$2"; then echo "ok entries, $1 is noticed"; else echo "FAILED entries, $1 is not noticed"; fi
 }
 noticed 'a weakened promise' 'board::serve: its promise is not Serves' crates/board/src/serving.rt \
     's/λ r\. ⌜ Serves .*⌝/λ r. ⌜ r .length ≤ 4096 ⌝/'
@@ -168,6 +176,8 @@ noticed 'a promise about one offset' 'records::dvsec: its promise does not speak
     's/dvsecSays \(now \(space \.entry\)\) at ⌝/dvsecSays (now (space .entry)) 0x100 ⌝/'
 noticed 'a promise about one list' 'lists::walk: its promise does not speak of kind' crates/lists/src/lib.rt \
     's/⌜ Walks kind /⌜ Walks Compatible /'
+noticed 'a theorem about nothing of a function without a result' 'trials::trial_merge: trials/proofs/Unique: trial-unique: it concludes 0 equations' \
+    crates/trials/proofs/Unique.antt '/^pub trial-unique/,/^trial-unique/s/→ after ≡ other$/→ after ≡ after/'
 noticed 'a handed-on glob' 'crates/board/src/lib.rt: ' crates/board/src/lib.rt 's/^pub use serving::reset;/pub use serving::*;/'
 noticed 'a public module' 'crates/packet/src/lib.rt: ' crates/packet/src/lib.rt 's/^mod fields;/pub mod fields;/'
 noticed 'an entry without a row' 'board::reset: docs/ENTRIES.md has no row' docs/ENTRIES.md '/^\| `board::reset`/d'

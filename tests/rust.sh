@@ -37,6 +37,7 @@ tool() {
 }
 
 looked_over() {
+    try "./benchmark --build builds the benchmark's own archive" ./benchmark --build
     tool clippy 'clippy finds nothing in hosts/' \
         cargo clippy --release --offline --locked --workspace --all-targets -- -D warnings
     tool fmt 'hosts/ is laid out as rustfmt does' cargo fmt --all --check

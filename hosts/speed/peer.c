@@ -21,6 +21,11 @@ struct masks_board {
     uint8_t device;
 };
 
+static uint32_t joined(const uint8_t *bytes)
+{
+    return bytes[0] | bytes[1] << 8 | bytes[2] << 16 | (uint32_t)bytes[3] << 24;
+}
+
 static uint32_t read_bytes(const uint8_t *config, unsigned enables)
 {
     uint32_t value = 0;
@@ -35,6 +40,12 @@ static void write_bytes(uint8_t *config, const uint8_t *wmask, unsigned enables,
     for (int i = 0; i < 4; i++, value >>= 8)
         if (enables >> i & 1)
             config[i] = (config[i] & ~wmask[i]) | (value & wmask[i]);
+}
+
+/* The write by itself: four bytes of a space, their masks and the data of a packet. */
+void masks_write(uint8_t *config, const uint8_t *wmask, const uint8_t *data, uint8_t enables)
+{
+    write_bytes(config, wmask, enables, joined(data));
 }
 
 static size_t complete(const struct masks_board *board, const uint8_t *packet, uint8_t *reply, int reads,
@@ -76,7 +87,7 @@ size_t masks_serve(struct masks_board *board, uint8_t *config, const uint8_t *wm
     unsigned offset = (packet[10] & 15u) << 8 | (packet[11] & 0xFCu);
     unsigned enables = packet[7];
     if (writes) {
-        uint32_t value = packet[12] | packet[13] << 8 | packet[14] << 16 | (uint32_t)packet[15] << 24;
+        uint32_t value = joined(packet + 12);
         if (is_trusted) {
             write_bytes(trusted + offset, trusted_wmask + offset, enables, value);
         } else {

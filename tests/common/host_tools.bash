@@ -81,7 +81,7 @@ all_run() {
 
 # is_built: there is an archive that is newer than what it is made from
 is_built() {
-    [ -f "$archive" ] && [ -z "$(find crates library VERSION hosts/native-clang hosts/include -type f -newer "$archive" | head -n 1)" ]
+    [ -f "$archive" ] && [ -z "$(find crates library VERSION hosts/native-clang hosts/static.sh hosts/include -type f -newer "$archive" | head -n 1)" ]
 }
 
 # The kit's own clang is the second compiler, so that there always is one. The kit has no C headers: the first compiler is asked where its

@@ -1,3 +1,4 @@
 pub mod Masks
+pub mod Enables
 pub mod Laws
 pub mod Unique

@@ -3,6 +3,7 @@
 ghost use mathlib.Core.Path.{_≡_};
 ghost use mathlib.Core.Bool.{cond};
 ghost use Rattle.registers.specs.Merge.{lowestSet, mergedByte, merged};
+ghost use Rattle.registers.specs.Inner.{enabledBytes, UnderMask};
 ghost use Rattle.registers.specs.Shown.{shown};
 
 // The data bit where the rule bit is 1, the old bit where it is 0.
@@ -12,15 +13,26 @@ fn merge_byte(old: u8, rule: u8, new: u8) -> u8
     (old & !rule) | (new & rule)
 }
 
-// A byte after a write, under the lowest of these enables.
-fn write_byte(enables: u8, old: u8, rule: u8, new: u8) -> u8
-    ensures { λ r. ⌜ r ≡ cond (lowestSet enables) (mergedByte old rule new) old ⌝ }
+// FFh for each of the four bytes that is enabled, 00h for each that is not. Of four copies of the enables, each seven bits above the
+// one before, the k-th has enable bit k at bit 8k; 255 times that bit fills its byte.
+fn enabled_bytes(enables: u8) -> [u8; 4]
+    ensures { λ r. ⌜ r ≡ enabledBytes enables ⌝ }
 {
-    if enables & 1 == 1 {
-        merge_byte(old, rule, new)
-    } else {
-        old
-    }
+    let copies = (enables as u32 % 16) * 0x0020_4081;
+    let mask = (copies & 0x0101_0101) * 255;
+    [
+        (mask % 0x100) as u8,
+        (mask / 0x100 % 0x100) as u8,
+        (mask / 0x1_0000 % 0x100) as u8,
+        (mask / 0x100_0000) as u8,
+    ]
+}
+
+// A byte after a write, under the mask of its enable: without it, no bit is writable.
+fn write_byte(mask: u8, old: u8, rule: u8, new: u8) -> u8
+    ensures { λ r. ⌜ UnderMask mask old rule new r ⌝ }
+{
+    merge_byte(old, rule & mask, new)
 }
 
 // A byte as a read returns it, under the lowest of these enables.
@@ -34,11 +46,12 @@ fn show_byte(enables: u8, byte: u8) -> u8
 pub fn merge(old: [u8; 4], rules: [u8; 4], new: [u8; 4], enables: u8) -> [u8; 4]
     ensures { λ r. ⌜ r ≡ merged old rules new enables ⌝ }
 {
+    let mask = enabled_bytes(enables);
     [
-        write_byte(enables >> 0, old[0], rules[0], new[0]),
-        write_byte(enables >> 1, old[1], rules[1], new[1]),
-        write_byte(enables >> 2, old[2], rules[2], new[2]),
-        write_byte(enables >> 3, old[3], rules[3], new[3]),
+        write_byte(mask[0], old[0], rules[0], new[0]),
+        write_byte(mask[1], old[1], rules[1], new[1]),
+        write_byte(mask[2], old[2], rules[2], new[2]),
+        write_byte(mask[3], old[3], rules[3], new[3]),
     ]
 }
 

@@ -32,6 +32,7 @@ mod shapes;
 pub use description::Description;
 pub use dual_bdf::{Alternate, dual_bdf};
 pub use dvsec::{Dvsec, dvsec, dvsec_body};
+pub use merge::merged;
 pub use ports::Port;
 pub use route::{Routed, route};
 pub use serve::{Served, serve};

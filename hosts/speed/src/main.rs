@@ -4,6 +4,7 @@
 
 mod machine;
 mod measure;
+mod merges;
 mod options;
 mod order;
 mod packets;
@@ -44,6 +45,7 @@ fn main() -> ExitCode {
 /// Checks every input, times every row and every variant, and prints the tables.
 fn measure_all(plan: Plan) -> Result<(), String> {
     let mut rows = packets::rows()?;
+    rows.extend(merges::rows()?);
     rows.extend(walks::rows()?);
     rows.extend(records::rows()?);
     rows.extend(routes::rows()?);
@@ -54,6 +56,7 @@ fn measure_all(plan: Plan) -> Result<(), String> {
     measure::run(plan, &mut contests);
     machine::print_heading(plan);
     table::print_rows(&rows);
+    table::print_trials(&rows);
     table::print_variants(&variants);
     table::print_summary(&rows);
     Ok(())

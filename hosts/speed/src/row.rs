@@ -11,6 +11,8 @@ pub enum Peer {
     Masks,
     /// The pointers followed, and nothing else.
     Chase,
+    /// A trial: the merge bit by bit.
+    Bits,
 }
 
 /// A line of the table. The contest's first side is the library, the others are the peers in their order.

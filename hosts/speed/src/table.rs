@@ -8,6 +8,7 @@ const NOTES: &str = "\
 - C masks tests no sizes and no ranges (peer.c says what it leaves out), and branches on every enable: its branches are
   predicted only where the enables are the same in all packets.
 - Bare chase follows and counts the pointers, tests nothing and lists nothing; in a loop it stops at the maximum.
+- Merge alone: the library exports no merge; its side is the same proved function, in an archive of the benchmark's own.
 - Every figure holds the calls and the loop around them; the row `reset` is hardly more than that.
 - In rows of a few ns, where the linker happens to put a function makes a difference of a cycle or two.
 ";
@@ -23,6 +24,20 @@ pub fn print_rows(rows: &[Row]) {
         println!("| {} | {} | {peers} |", row.what, nanoseconds(row.contest.median(0)));
     }
     println!("\n{NOTES}");
+}
+
+/// Prints what a trial takes beside the library.
+pub fn print_trials(rows: &[Row]) {
+    println!(
+        "The merge bit by bit, as request 4/13 found it: a trial (crates/trials), proved to leave the same bytes.\n"
+    );
+    println!("| what | library ns | bit by bit ns | ratio |");
+    println!("|---|---:|---:|---|");
+    for row in rows.iter().filter(|row| row.side(Peer::Bits).is_some()) {
+        let library = nanoseconds(row.contest.median(0));
+        println!("| {} | {library} | {} |", row.what, peer_cells(row, Peer::Bits));
+    }
+    println!();
 }
 
 /// A peer's time and ratio, or two empty cells.

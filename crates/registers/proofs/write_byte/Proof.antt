@@ -1,6 +1,10 @@
--- `registers::write_byte` meets its contract: each branch is a case of the lowest enable. Assumes nothing.
-use Rattle.registers.proofs.Laws.{lowest-set, lowest-clear}
+-- `registers::write_byte` meets its contract, by the law on a rule under its mask. Assumes nothing.
+use mathlib.Core.Path.{ap, _∙_}
 use borrow.Author.Needs.{needs}
+use Prim.Native.Nat.{ℕ}
+use lib.Bits.{bitAnd}
+use Rattle.registers.specs.Merge.{mergedByte}
+use Rattle.registers.proofs.Enables.{under-mask}
 use Rattle.registers.proofs.write_byte.Statement.{statement}
 use Rattle.registers.proofs.write_byte.Tie as tie
 
@@ -8,10 +12,10 @@ merge-byte-requires : tie.Need-merge-byte-requires
 merge-byte-requires c κs = search needs
 
 returns : tie.Need-returns
-returns c = rw (lowest-set (c .before .before .args .enables) (c .before .if1 .taken)) (c .merge-byte .ensures)
-
-returns-2 : tie.Need-returns-2
-returns-2 c = rw (lowest-clear (c .before .args .enables) (c .if1 .left))
+returns c enable e =
+    let a = c .before .args in
+    c .merge-byte .ensures ∙ ap (λ (m : ℕ). mergedByte (a .old) (bitAnd (a .rule) m) (a .new)) e
+    ∙ under-mask (a .old) (a .rule) (a .new) (search needs) (search needs) (search needs) enable
 
 pub write-byte-spec : {M : Type 1} → statement M
-write-byte-spec = tie.close (tie.spec merge-byte-requires returns returns-2)
+write-byte-spec = tie.close (tie.spec merge-byte-requires returns)

@@ -27,7 +27,7 @@ const fn enabled(enables: u8) -> u32 {
 
 /// "For an enabled byte, a write takes the data bit where the rule bit is 1 and keeps the old bit where it is 0. A byte
 /// not enabled stays."
-pub(super) fn merged(old: u32, rule: u32, data: u32, enables: u8) -> u32 {
+pub fn merged(old: u32, rule: u32, data: u32, enables: u8) -> u32 {
     let taken = rule & enabled(enables);
     let new = old & !taken | data & taken;
     debug_assert_eq!(new, merged_bit_by_bit(old, rule, data, enables));

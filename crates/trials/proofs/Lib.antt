@@ -1,0 +1,2 @@
+pub mod OneByOne
+pub mod Unique

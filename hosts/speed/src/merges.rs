@@ -1,0 +1,101 @@
+//! The rows of the merge by itself: four bytes of a register under the rules, the data and the enables of a write.
+//!
+//! The library exports no merge. The library's side here is the same proved function, from an archive that is built for
+//! this program alone (crates/trials). It has a trial too: the merge bit by bit, as request 4/13 of document 02 found it.
+
+mod sides;
+
+use crate::measure::Pass;
+use crate::order;
+use crate::random::Random;
+use crate::row::{Peer, Row};
+use sides::Merge;
+use std::hint::black_box;
+use std::rc::Rc;
+
+/// How many registers a row has, with a write for each, and how many writes are made in a pass.
+const WRITES: usize = 64;
+const CALLS: usize = 256;
+
+/// The four bytes of a register.
+type Register = [u8; 4];
+
+/// A write to one of the registers.
+struct Write {
+    register: usize,
+    rules: Register,
+    data: Register,
+    enables: u8,
+}
+
+/// The rows, after all sides left equal registers after all writes.
+pub fn rows() -> Result<Vec<Row>, String> {
+    Ok(vec![
+        row("merge alone", 4000, |random| random.byte() & 0x0F)?,
+        row("merge alone, all bytes enabled", 4001, |_| 0x0F)?,
+    ])
+}
+
+fn row(what: &str, seed: u64, enables: fn(&mut Random) -> u8) -> Result<Row, String> {
+    let mut random = Random::seeded(seed);
+    let registers: Vec<Register> = (0..WRITES).map(|_| drawn(&mut random)).collect();
+    let writes: Rc<[Write]> = (0..WRITES)
+        .map(|register| Write {
+            register,
+            rules: drawn(&mut random),
+            data: drawn(&mut random),
+            enables: enables(&mut random),
+        })
+        .collect();
+    let sides = [
+        (Peer::SafeRust, sides::SAFE_RUST),
+        (Peer::Masks, sides::MASKS),
+        (Peer::Bits, sides::BITS),
+    ];
+    for (peer, side) in sides {
+        check(what, peer, side, &registers, &writes)?;
+    }
+    let peers = sides.map(|(peer, side)| (peer, pass(side, &registers, &writes)));
+    let library = pass(sides::LIBRARY, &registers, &writes);
+    Ok(Row::new(what, CALLS, library, peers.into()))
+}
+
+fn drawn(random: &mut Random) -> Register {
+    random.number().to_le_bytes()[..4]
+        .try_into()
+        .expect("four bytes of eight")
+}
+
+/// Writes of a side to registers of its own, one after the other.
+fn pass(merge: Merge, registers: &[Register], writes: &Rc<[Write]>) -> Pass {
+    let mut registers = registers.to_vec();
+    let merge = black_box(merge);
+    order::pass(writes, CALLS, move |write| {
+        let Write {
+            rules, data, enables, ..
+        } = black_box(write);
+        merge(black_box(&mut registers[write.register]), rules, data, *enables);
+    })
+}
+
+/// Whether a side leaves the register as the library does, after every write.
+fn check(what: &str, peer: Peer, side: Merge, registers: &[Register], writes: &[Write]) -> Result<(), String> {
+    for write in writes {
+        let old = registers[write.register];
+        let [found, expected] = [side, sides::LIBRARY].map(|merge| {
+            let mut register = old;
+            merge(&mut register, &write.rules, &write.data, write.enables);
+            register
+        });
+        if found != expected {
+            let Write {
+                rules, data, enables, ..
+            } = write;
+            return Err(format!(
+                "{what}: {old:02X?} under rules {rules:02X?}, data {data:02X?}, enables {enables:X}: library \
+                 {expected:02X?}, {peer:?} {found:02X?}"
+            ));
+        }
+    }
+    Ok(())
+}

@@ -1,0 +1,26 @@
+//! The merge on each side: functions of one signature, none of them inlined, so that each is one call away.
+
+use super::Register;
+use second::model;
+
+/// Merges data into a register: the register, its rules, the data and the enables.
+pub type Merge = extern "C" fn(&mut Register, &Register, &Register, u8);
+
+pub const LIBRARY: Merge = trial_merge;
+pub const SAFE_RUST: Merge = safe_rust;
+pub const MASKS: Merge = masks_write;
+pub const BITS: Merge = trial_merge_bits;
+
+// SAFETY: the two of crates/trials and the one of peer.c take pointers to four bytes each, write to the first and keep
+// none of them.
+unsafe extern "C" {
+    safe fn trial_merge(register: &mut Register, rules: &Register, data: &Register, enables: u8);
+    safe fn trial_merge_bits(register: &mut Register, rules: &Register, data: &Register, enables: u8);
+    safe fn masks_write(register: &mut Register, rules: &Register, data: &Register, enables: u8);
+}
+
+#[inline(never)]
+extern "C" fn safe_rust(register: &mut Register, rules: &Register, data: &Register, enables: u8) {
+    let [old, rules, data] = [*register, *rules, *data].map(u32::from_le_bytes);
+    *register = model::merged(old, rules, data, enables).to_le_bytes();
+}
