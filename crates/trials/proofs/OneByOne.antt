@@ -1,5 +1,5 @@
 -- Eight bits, one after the other, are document 01's byte. Assumes nothing.
-use Prim.Native.Nat.{ℕ, zero, suc, _+_, _*_, _/_, _%_, _^_, _≤_, _<_}
+use Prim.Native.Nat.{ℕ, zero, suc, _+_, _*_, _%_, _^_, _<_}
 use mathlib.Core.Path.{_≡_, refl, sym, ap, subst, _∙_}
 use native.Mathlib.Nat.{pow-suc, mod-lt, mod-eq-of-lt, zero-lt-suc, mul-comm}
 use native.Mathlib.Numerals.{add-one}

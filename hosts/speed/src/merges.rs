@@ -78,21 +78,24 @@ fn pass(merge: Merge, registers: &[Register], writes: &Rc<[Write]>) -> Pass {
     })
 }
 
-/// Whether a side leaves the register as the library does, after every write.
+/// Whether a side leaves every register as the library does, after its write with any enables: the lowest four bits count.
 fn check(what: &str, peer: Peer, side: Merge, registers: &[Register], writes: &[Write]) -> Result<(), String> {
-    for write in writes {
-        let old = registers[write.register];
+    for (write, enables) in writes
+        .iter()
+        .flat_map(|write| (0..=u8::MAX).map(move |enables| (write, enables)))
+    {
+        let Write {
+            register, rules, data, ..
+        } = write;
+        let old = registers[*register];
         let [found, expected] = [side, sides::LIBRARY].map(|merge| {
-            let mut register = old;
-            merge(&mut register, &write.rules, &write.data, write.enables);
-            register
+            let mut left = old;
+            merge(&mut left, rules, data, enables);
+            left
         });
         if found != expected {
-            let Write {
-                rules, data, enables, ..
-            } = write;
             return Err(format!(
-                "{what}: {old:02X?} under rules {rules:02X?}, data {data:02X?}, enables {enables:X}: library \
+                "{what}: {old:02X?} under rules {rules:02X?}, data {data:02X?}, enables {enables:02X}: library \
                  {expected:02X?}, {peer:?} {found:02X?}"
             ));
         }

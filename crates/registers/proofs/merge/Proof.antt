@@ -1,5 +1,4 @@
 -- `registers::merge` meets its contract: the mask of the enables, then four calls, a byte each. Assumes nothing.
-use mathlib.Core.Path.{refl}
 use Rattle.registers.specs.Merge.{merged, enabled}
 use Rattle.registers.specs.Inner.{enabledBytes}
 use borrow.Author.Needs.{needs}
