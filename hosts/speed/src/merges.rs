@@ -61,9 +61,7 @@ fn row(what: &str, seed: u64, enables: fn(&mut Random) -> u8) -> Result<Row, Str
 }
 
 fn drawn(random: &mut Random) -> Register {
-    random.number().to_le_bytes()[..4]
-        .try_into()
-        .expect("four bytes of eight")
+    (random.number() as u32).to_le_bytes()
 }
 
 /// Writes of a side to registers of its own, one after the other.
