@@ -1,3 +1,4 @@
+# shellcheck shell=sh
 # For ./library and ./benchmark, which source it at the top of the repository: `static CRATE` proves a crate and compiles it for this
 # machine's processor. It sets $home, the kit's folder, and $machine, and makes a folder $work, which goes when they end.
 #

@@ -26,8 +26,8 @@ clauses() { # FILE NAME: from the signature of NAME, which may be Type::name, up
         on && /^ *\{$/ {exit} on {print}' "$1"
 }
 
-buffers() { # MARK, clauses on standard input: the names of the parameters that are lent by & or &mut
-    tr '\n' ' ' | sed 's/ requires .*//; s/ ensures .*//' | grep -oE "[a-z_]+: &('[a-z]+ )?$1\[" | sed 's/:.*//'
+buffers() { # MARK, clauses on standard input: the names of the parameters that are lent by & or &mut, of any type
+    tr '\n' ' ' | sed 's/ requires .*//; s/ ensures .*//' | grep -oE "[a-z_]+: &('[a-z]+ )?$1" | sed 's/:.*//'
 }
 
 parameters() { # clauses on standard input: the name of every parameter
@@ -95,10 +95,9 @@ speaks() { # DEFINITION EQUATIONS, a statement on standard input
     } END { if (!found) print "it is not there" }'
 }
 
-check() { # [CRATE..]: what is wrong with all crates, or with these, a line each; and last 'N entries'
-    local count=0 found='' crate entry file row why wanted
-    [ $# -gt 0 ] || set -- $(sed 's/#.*//' crates.txt | sed -n 's/^\([a-z0-9_]*\):.*/\1/p')
-    for crate; do
+check() { # [CRATE]: what is wrong with all crates, or with this one, a line each; and last 'N entries'
+    local count=0 found='' only=$* crate entry file row why wanted
+    for crate in ${only:-$(sed 's/#.*//' crates.txt | sed -n 's/^\([a-z0-9_]*\):.*/\1/p')}; do
         while read -r entry file; do
             [ -n "$entry" ] || continue
             count=$((count + 1))
@@ -115,12 +114,14 @@ check() { # [CRATE..]: what is wrong with all crates, or with these, a line each
             [ -z "$why" ] || echo "$entry: $why"
             wanted=$(clauses "$file" "${entry#*::}" | buffers 'mut ' | wc -l)
             clauses "$file" "${entry#*::}" | gives && wanted=$((wanted + 1))
+            [ "$wanted" -gt 0 ] || echo "$entry: it gives nothing and can write nothing, so it promises nothing"
             why=$(statement "crates/${theorem%%:*}.antt" "${theorem#*: }" | speaks "${promise#*: }" "$wanted")
             [ -z "$why" ] || echo "$entry: $theorem: $why"
         done < <(entries "$crate")
         unseen "$crate"
     done
     for entry in $(sed -nE 's/^\| `([A-Za-z_:]+)` \|.*/\1/p' docs/ENTRIES.md); do
+        [ -z "$only" ] || [ "$only" = "${entry%%::*}" ] || continue
         case "$found " in *" $entry "*) ;; *) echo "$entry: docs/ENTRIES.md has a row for it, and no crate has it" ;; esac
     done
     echo "$count entries"
@@ -178,6 +179,11 @@ noticed 'a promise about one list' 'lists::walk: its promise does not speak of k
     's/⌜ Walks kind /⌜ Walks Compatible /'
 noticed 'a theorem about nothing of a function without a result' 'trials::trial_merge: trials/proofs/Unique: trial-unique: it concludes 0 equations' \
     crates/trials/proofs/Unique.antt '/^pub trial-unique/,/^trial-unique/s/→ after ≡ other$/→ after ≡ after/'
+noticed 'a number that is lent and left out' 'trials::trial_merge: its promise does not speak of bytes as it is left' crates/trials/src/lib.rt \
+    's/bytes: &mut \[u8; 4\]/bytes: \&mut u32/; s/\(now \(bytes \.exit\)\)/(now (bytes .entry))/'
+noticed 'a function that can change nothing' 'trials::trial_merge: it gives nothing and can write nothing' crates/trials/src/lib.rt \
+    's/bytes: &mut \[u8; 4\]/bytes: \&[u8; 4]/'
+noticed 'a row without an entry' 'words::five: docs/ENTRIES.md has a row for it, and no crate has it' docs/ENTRIES.md 's/^(\| `words::)four/\1five/'
 noticed 'a handed-on glob' 'crates/board/src/lib.rt: ' crates/board/src/lib.rt 's/^pub use serving::reset;/pub use serving::*;/'
 noticed 'a public module' 'crates/packet/src/lib.rt: ' crates/packet/src/lib.rt 's/^mod fields;/pub mod fields;/'
 noticed 'an entry without a row' 'board::reset: docs/ENTRIES.md has no row' docs/ENTRIES.md '/^\| `board::reset`/d'

@@ -1,4 +1,4 @@
--- The four enables as a mask over four bytes, and what the merge of a byte comes to under it. Assumes nothing.
+-- The enables as a mask of four bytes, and a rule under it: a merge without a test of an enable does what document 01 says. Assumes nothing.
 use Prim.Native.Nat.{ℕ, zero, suc, _+_, _*_, _/_, _%_, _^_, _≤_, _<_}
 use mathlib.Core.Bool.{Bool, true, false, cond}
 use mathlib.Core.List.{List, [], _∷_}
@@ -11,6 +11,23 @@ use Rattle.words.specs.Fields.{bit, joined}
 use Rattle.registers.specs.Merge.{lowestSet, enabled, mergedByte}
 use Rattle.registers.specs.Inner.{maskOf, enabledBytes}
 use Rattle.registers.proofs.Masks.{masks-merge}
+
+-- a number's four bytes, the lowest first
+abbrev apart : ℕ → List ℕ
+apart n = n % 0x100 ∷ n / 0x100 % 0x100 ∷ n / 0x10000 % 0x100 ∷ n / 0x1000000 ∷ []
+
+-- what the code makes of the enables: four copies, each seven bits above the one before, of these bits 0, 8, 16 and 24, and 255 times that
+abbrev mask : ℕ → ℕ
+mask enables = bitAnd (enables % 16 * 0x00204081) 0x01010101 * 255
+
+-- the statements. Its bytes are the masks of the four enables
+abbrev pub MaskApart : Type 0
+MaskApart = (enables : ℕ) → apart (mask enables) ≡ enabledBytes enables
+
+-- and a rule under such a mask gives the merged byte where it is enabled, and else leaves the old one
+abbrev pub RuleUnderMask : Type 0
+RuleUnderMask = (old rule new : ℕ) → old < 256 → rule < 256 → new < 256 → (enable : Bool)
+    → mergedByte old (bitAnd rule (maskOf enable)) new ≡ cond enable (mergedByte old rule new) old
 
 -- of the four copies, each seven bits above the one before, the k-th keeps enable bit k: that is bit 8k of all
 lowest : (n : ℕ) → n < 128 → bitAnd (n * 0x00204081) 0x01010101 ≡ joined (bit 0 n) (bit 1 n) (bit 2 n) (bit 3 n)
@@ -32,10 +49,7 @@ mask-fits copies by small = lt-of-le-of-lt (mul-le-mul (and-le-r copies 0x010101
 pub highest-fits : (n : ℕ) → n < 0x100000000 → n / 0x1000000 < 256
 highest-fits n small = omega arith
 
--- a number and its four bytes
-abbrev apart : ℕ → List ℕ
-apart n = n % 0x100 ∷ n / 0x100 % 0x100 ∷ n / 0x10000 % 0x100 ∷ n / 0x1000000 ∷ []
-
+-- four bytes, joined and taken apart again
 module _ (a b c d : ℕ) (ha : a < 256) (hb : b < 256) (hc : c < 256) (hd : d < 256) where
   first : joined a b c d % 0x100 ≡ a
   first = omega arith
@@ -72,15 +86,11 @@ low (suc (suc (suc (suc k)))) n h = absurd (omega arith)
 scaled : (a b c d : ℕ) → joined a b c d * 255 ≡ joined (a * 255) (b * 255) (c * 255) (d * 255)
 scaled a b c d = omega arith
 
--- what the code computes, 255 times the lowest bits of four bytes, and that it is the mask
 module _ (enables : ℕ) where
-  abbrev mask : ℕ
-  mask = bitAnd (enables % 16 * 0x00204081) 0x01010101 * 255
-
   byte-at : (k : ℕ) → k < 4 → bit k (enables % 16) * 255 ≡ maskOf (enabled k enables)
   byte-at k h = ap (λ (b : ℕ). b * 255) (low k enables h) ∙ filled (enables / 2 ^ k)
 
-  mask-joins : mask ≡ joined (maskOf (enabled 0 enables)) (maskOf (enabled 1 enables)) (maskOf (enabled 2 enables)) (maskOf (enabled 3 enables))
+  mask-joins : mask enables ≡ joined (maskOf (enabled 0 enables)) (maskOf (enabled 1 enables)) (maskOf (enabled 2 enables)) (maskOf (enabled 3 enables))
   mask-joins =
       ap (λ (x : ℕ). x * 255) (lowest (enables % 16) (omega arith))
       ∙ scaled (bit 0 (enables % 16)) (bit 1 (enables % 16)) (bit 2 (enables % 16)) (bit 3 (enables % 16))
@@ -93,18 +103,16 @@ module _ (enables : ℕ) where
       go true = omega arith
       go false = omega arith
 
-  pub mask-apart : apart mask ≡ enabledBytes enables
-  unfolding enabledBytes
-  mask-apart = ap apart mask-joins ∙ joined-apart _ _ _ _ (small 0) (small 1) (small 2) (small 3)
+pub mask-apart : MaskApart
+unfolding enabledBytes
+mask-apart enables = ap apart (mask-joins enables) ∙ joined-apart _ _ _ _ (small enables 0) (small enables 1) (small enables 2) (small enables 3)
 
 -- all bits of a byte are the byte
 all-bits : (n : ℕ) → n < 256 → bitAnd n 255 ≡ n
 all-bits n h = and-mask n 8 ∙ omega arith
 
--- a rule under the mask has all its bits or none, and a byte that has no writable bit stays
-pub under-mask : (old rule new : ℕ) → old < 256 → rule < 256 → new < 256 → (enable : Bool)
-    → mergedByte old (bitAnd rule (maskOf enable)) new ≡ cond enable (mergedByte old rule new) old
-under-mask old rule new ho hr hn true = ap (λ (r : ℕ). mergedByte old r new) (all-bits rule hr)
-under-mask old rule new ho hr hn false =
+pub rule-under-mask : RuleUnderMask
+rule-under-mask old rule new ho hr hn true = ap (λ (r : ℕ). mergedByte old r new) (all-bits rule hr)
+rule-under-mask old rule new ho hr hn false =
     ap (λ (r : ℕ). mergedByte old r new) (and-zero-r rule) ∙ sym (masks-merge old 0 new ho (omega arith) hn)
     ∙ ap₂ bitOr (all-bits old ho) (and-zero-r new) ∙ or-zero-r old

@@ -1,7 +1,7 @@
 // The merge that request 4/13 of document 02 speaks of: the byte merge "tests eight bits one by one".
 ghost use mathlib.Core.Path.{_≡_};
 ghost use mathlib.Core.Bool.{cond};
-ghost use Prim.Native.Nat.{_%_, _<_};
+ghost use Prim.Native.Nat.{_%_};
 ghost use Rattle.registers.specs.Merge.{lowestSet, mergedBit, mergedByte, merged};
 
 // The lowest bit: the data bit where the rule bit is 1, the old bit where it is 0.

@@ -1,5 +1,5 @@
 // For the benchmark, and in no archive that a host links: the merge of a write by itself, as the product has it, and bit by bit as request
-// 4/13 of document 02 found it. Both promise the same (specs/Merges.antt), so that only the clock tells them apart.
+// 4/13 of document 02 speaks of it. Both promise the same (specs/Merges.antt), so that only the clock tells them apart.
 ghost use Rattle.trials.specs.Merges.{Merges};
 
 mod bits;

@@ -1,7 +1,8 @@
 //! The rows of the merge by itself: four bytes of a register under the rules, the data and the enables of a write.
 //!
 //! The library exports no merge. The library's side here is the same proved function, from an archive that is built for
-//! this program alone (crates/trials). It has a trial too: the merge bit by bit, as request 4/13 of document 02 found it.
+//! this program alone (crates/trials). It has a trial too: the merge bit by bit, as request 4/13 of document 02 speaks of
+//! it.
 
 mod sides;
 

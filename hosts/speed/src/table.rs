@@ -29,7 +29,7 @@ pub fn print_rows(rows: &[Row]) {
 /// Prints what a trial takes beside the library.
 pub fn print_trials(rows: &[Row]) {
     println!(
-        "The merge bit by bit, as request 4/13 found it: a trial (crates/trials), proved to leave the same bytes.\n"
+        "The merge bit by bit, as request 4/13 speaks of it: a trial (crates/trials), proved to leave the same bytes.\n"
     );
     println!("| what | library ns | bit by bit ns | ratio |");
     println!("|---|---:|---:|---|");

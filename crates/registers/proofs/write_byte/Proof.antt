@@ -4,7 +4,7 @@ use borrow.Author.Needs.{needs}
 use Prim.Native.Nat.{ℕ}
 use lib.Bits.{bitAnd}
 use Rattle.registers.specs.Merge.{mergedByte}
-use Rattle.registers.proofs.Enables.{under-mask}
+use Rattle.registers.proofs.Enables.{rule-under-mask}
 use Rattle.registers.proofs.write_byte.Statement.{statement}
 use Rattle.registers.proofs.write_byte.Tie as tie
 
@@ -15,7 +15,7 @@ returns : tie.Need-returns
 returns c enable e =
     let a = c .before .args in
     c .merge-byte .ensures ∙ ap (λ (m : ℕ). mergedByte (a .old) (bitAnd (a .rule) m) (a .new)) e
-    ∙ under-mask (a .old) (a .rule) (a .new) (search needs) (search needs) (search needs) enable
+    ∙ rule-under-mask (a .old) (a .rule) (a .new) (search needs) (search needs) (search needs) enable
 
 pub write-byte-spec : {M : Type 1} → statement M
 write-byte-spec = tie.close (tie.spec merge-byte-requires returns)
