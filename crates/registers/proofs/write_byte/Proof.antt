@@ -1,8 +1,8 @@
 -- `registers::write_byte` meets its contract, by the law on a rule under its mask. Assumes nothing.
-use mathlib.Core.Path.{ap, _∙_}
-use borrow.Author.Needs.{needs}
 use Prim.Native.Nat.{ℕ}
+use mathlib.Core.Path.{ap, _∙_}
 use lib.Bits.{bitAnd}
+use borrow.Author.Needs.{needs}
 use Rattle.registers.specs.Merge.{mergedByte}
 use Rattle.registers.proofs.Enables.{rule-under-mask}
 use Rattle.registers.proofs.write_byte.Statement.{statement}
