@@ -8,7 +8,7 @@ use mathlib.Core.Logic.{_↔_, ⊎-elim}
 use mathlib.Core.Path.{_≡_, refl, sym, ap, _∙_, subst}
 use native.Mathlib.Nat.{le-of-eq}
 use native.Mathlib.Omega.{arith}
-use Rattle.answers.specs.Checks.{Check, firstThatApplies}
+use Rattle.answers.specs.Checks.{Check, firstThatApplies, any}
 
 -- none of the checks applies
 abbrev pub NoneApplies : List Check → Type 0
@@ -188,3 +188,14 @@ lowest-unique cs (suc m) (suc n) a b =
     let h = at-most cs (suc m) (suc n) a b (λ e. omega arith) in
     let k = at-most cs (suc n) (suc m) b a (λ e. omega arith) in
     omega arith
+
+-- ---- where one of several causes would do, and none of them is there
+
+abbrev pub NoneOf : List Bool → Type 0
+NoneOf [] = Unit {0}
+NoneOf (cause ∷ causes) = (cause ≡ false) × NoneOf causes
+
+pub none-of : (causes : List Bool) → any causes ≡ false → NoneOf causes
+none-of [] e = tt
+none-of (true ∷ causes) e = let z : _≡_ {A = ℕ} 0 1 = cc in absurd (omega arith)
+none-of (false ∷ causes) e = (refl, none-of causes e)

@@ -7,6 +7,7 @@ use native.Mathlib.Omega.{arith}
 use lib.Dec.{eqb}
 use lib.ListN.{length}
 use borrow.Author.Tests.{le-ltb}
+use Rattle.answers.proofs.Checks.{none-of}
 use Rattle.words.proofs.Laws.{put-length}
 use Rattle.registers.proofs.Laws.{merged-length}
 use Rattle.packet.specs.declared.Request.{Request}
@@ -19,7 +20,7 @@ use Rattle.board.specs.declared.Description.{Description}
 use Rattle.board.specs.Description.{Board, ranges, outOfRange, WellDescribed, afterReset}
 use Rattle.board.specs.Access.{unsupported, storedBytes, storedOrdinary, afterWrite}
 use Rattle.board.specs.Serving.{respond, serveNumber, byNumber, serve}
-use Rattle.board.proofs.Laws.{Well, well-described, none-of}
+use Rattle.board.proofs.Laws.{Well, well-described}
 use Rattle.board.proofs.Outcomes.{respond-unsupported, respond-write, respond-read}
 
 -- what serving keeps, stated of the board before and the board after

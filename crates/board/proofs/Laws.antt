@@ -8,7 +8,7 @@ use native.Mathlib.Omega.{arith}
 use lib.Dec.{eqb}
 use lib.ListN.{length}
 use borrow.Author.Tests.{eq-eqb, ne-eqb, eqb-true, not-false}
-use Rattle.answers.specs.Checks.{any}
+use Rattle.answers.proofs.Checks.{none-of}
 use Rattle.words.specs.Bytes.{four, fourOrZero, put, Puts}
 use Rattle.words.proofs.Laws.{four-inside, puts-is, placed-true}
 use Rattle.registers.specs.Merge.{merged}
@@ -30,16 +30,6 @@ use Rattle.board.specs.Promise.{over}
 use Rattle.board.specs.Inner.{Sized, Readable, done}
 
 -- ---- a well-described board
-
--- none of the causes is there
-abbrev pub NoneOf : List Bool → Type 0
-NoneOf [] = Unit {0}
-NoneOf (cause ∷ causes) = (cause ≡ false) × NoneOf causes
-
-pub none-of : (causes : List Bool) → any causes ≡ false → NoneOf causes
-none-of [] e = tt
-none-of (true ∷ causes) e = let z : _≡_ {A = ℕ} 0 1 = cc in absurd (omega arith)
-none-of (false ∷ causes) e = (refl, none-of causes e)
 
 right-size : (n : ℕ) → wrongSize n ≡ false → n ≡ 4096
 right-size n e = eqb-true n 4096 (not-false (eqb n 4096) e)
