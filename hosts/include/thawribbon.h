@@ -1,9 +1,10 @@
 /*
- * thawribbon.h: a board's answers to configuration packets, the three capability lists, two records, and a switch's router.
+ * thawribbon.h: a board's answers to configuration packets, the three capability lists, two records, a switch's router, and the asking
+ * side: requests written, and completions read back.
  *
- * Document 01 of the project fixes what every function answers, with what document 02 corrects, and for the router document 02; their
- * words are used here. The rules that hold stand in docs/RULES.md of the project, each with its number: "rule 4.1" is one of them. Numbers
- * ending in h are hexadecimal.
+ * Document 01 of the project fixes what every function answers, with what document 02 corrects, and for the router and the asking side
+ * document 02; their words are used here. The rules that hold stand in docs/RULES.md of the project, each with its number: "rule 4.1" is
+ * one of them. Numbers ending in h are hexadecimal.
  *
  * The packet that has to land is a trusted write. A board takes it only when a Type 0 write has told it its bus and device number. Done is
  * not landed: a write that is done has changed only the bits that the space's write rules let it change. So read it back, and compare:
@@ -22,20 +23,23 @@
  *     }
  *
  * There are two parts. The first declares the functions of libthawribbon.a, which are compiled from proved code. The second, from
- * "Helpers" on, is inline C over them, tried and not proved: a board in one struct, what became of a packet, what leaves a switch, texts,
- * and a list's headers. A program that answers packets begins with thawribbon_board_serve, in the second part; one that passes them on
- * begins with thawribbon_ports_route.
+ * "Helpers" on, is inline C over them, tried and not proved: a board in one struct, what became of a packet, what leaves a switch, what
+ * is heard of a request, texts, and a list's headers. A program that answers packets begins with thawribbon_board_serve, in the second
+ * part; one that passes them on begins with thawribbon_ports_route; one that asks begins with thawribbon_board_ask, where it has the board,
+ * and with thawribbon_write_request and thawribbon_hear, where a bus is between.
  *
  * Any bytes, of any length, get an answer: every function tests what it is given, and returns. A number in an answer says how it went;
- * the numbers are named below. Each but 0 is a refusal, and a refusal changes no byte of a space, a reply, a room or the buffer for what
- * leaves, and no capture. What the helpers write instead, an answer's completion or the bytes of what leaves, is FFh throughout after it.
+ * the numbers are named below. Each but 0 is a refusal, and a refusal changes no byte of a space, a reply, a room, the buffer for what
+ * leaves or that for a request, and no capture. What the helpers write instead, an answer's completion or the bytes of what leaves, is FFh
+ * throughout after it; what is heard is 0 but for the number.
  *
  * What the caller owes:
  * - A buffer is a pointer and a length, and that many bytes (for a list room, that many numbers; for a list of ports, that many ports) are
  *   really there. With length 0 the pointer is never followed and may be anything, NULL included.
- * - A buffer that is written (ordinary, trusted, reply, room, leaving; of the helpers, the board, the answer with its completion, and
- *   what leaves with its bytes) overlaps no other buffer of the same call. Buffers that are only read may overlap each other, or be the
- *   same. thawribbon_board_serve and thawribbon_ports_route look at this themselves, and answer 1.
+ * - A buffer that is written (ordinary, trusted, reply, room, leaving, a request's buffer; of the helpers, the board, the answer with its
+ *   completion, what leaves with its bytes, and what is heard) overlaps no other buffer of the same call. Buffers that are only read may
+ *   overlap each other, or be the same. thawribbon_board_serve, thawribbon_ports_route and thawribbon_board_ask look at this themselves,
+ *   and answer 1.
  * - While a call runs, no other thread writes to its buffers, or reads those that it writes.
  *
  * Nothing is kept: no function stores a pointer, allocates, or has a state of its own. What a board has captured goes in and comes back
@@ -72,18 +76,21 @@ enum thawribbon_number {
     THAWRIBBON_SERVED = 0,
     /* a space or rule space isn't 4,096 bytes, a captured device is over 31, a function number or A or B is outside its range, a record is
        asked for where none may stand (rule 2.2); at a router, a list has over 32 ports, a port's secondary bus is over its subordinate bus,
-       or two ranges of buses meet (rule 10.2); at thawribbon_ports_route, also where what leaves overlaps the ports or the packet */
+       or two ranges of buses meet (rule 10.2); at thawribbon_ports_route, also where what leaves overlaps the ports or the packet; of a
+       request to be written, its kind is none of the six, its device is over 31, its function over 7, its offset over FFCh or not a
+       multiple of 4, or its enables over 15 */
     THAWRIBBON_BAD_DESCRIPTION = 1,
-    /* the reply is under 16 bytes, the list room is under the list's maximum, or the buffer for what leaves is under 20 bytes */
+    /* the reply is under 16 bytes, the list room is under the list's maximum, the buffer for what leaves is under 20 bytes, or the buffer
+       for a request is shorter than the request */
     THAWRIBBON_NO_ROOM = 2,
-    /* the packet has fewer than 12 bytes */
+    /* the packet, or the completion, has fewer than 12 bytes */
     THAWRIBBON_SHORT_PACKET = 3,
     /* the type code isn't one of the six (rule 3.2); at a router, also where it is Type 0 (rule 10.5), or where it is trusted and the port
-       does not support TCS routing (rule 10.6) */
+       does not support TCS routing (rule 10.6); of a completion, its first byte is neither 4Ah nor 0Ah */
     THAWRIBBON_UNKNOWN_TYPE = 4,
-    /* the packet length doesn't fit its type and digest bit */
+    /* the packet length doesn't fit its type and digest bit; the completion's isn't 16 with first byte 4Ah, or 12 with 0Ah */
     THAWRIBBON_WRONG_LENGTH = 5,
-    /* a fixed header field has another value */
+    /* a fixed header field has another value; of a completion, any other byte is one that no reply with its first byte has at its place */
     THAWRIBBON_WRONG_FIELD = 6,
     /* not the structure asked for */
     THAWRIBBON_OTHER_STRUCTURE = 8,
@@ -105,9 +112,11 @@ enum thawribbon_number {
 #define THAWRIBBON_LEAVING 20
 /* The most ports that a list can have. */
 #define THAWRIBBON_PORTS 32
+/* The bytes that hold any request that is written: a write has 16, and a read 12. */
+#define THAWRIBBON_REQUEST 16
 /* Where four data bytes are: in a packet that writes, and in a completion of 16 bytes. */
 #define THAWRIBBON_DATA 12
-/* Byte 0 of a packet, without its bit 7: the six type codes that are served (rule 3.2). */
+/* Byte 0 of a packet, without its bit 7: the six type codes that are served (rule 3.2), and the six kinds of a request. */
 #define THAWRIBBON_TYPE0_READ 0x04
 #define THAWRIBBON_TYPE0_WRITE 0x44
 #define THAWRIBBON_TYPE1_READ 0x05
@@ -199,6 +208,47 @@ typedef struct thawribbon_routed {
     uint8_t leaves; /* 1: the packet leaves. 0: it does not, and with number 0 the verdict is Unsupported Request (UR) */
     uint8_t port;   /* the place in the list of the port that it leaves by, 0 to 31 */
 } thawribbon_routed;
+
+/* The parts of a request. Those that a program does not name are 0: thawribbon_parts parts = {.kind = THAWRIBBON_TYPE0_READ, ..}; */
+typedef struct thawribbon_parts {
+    uint32_t offset;      /* a multiple of 4 up to FFCh */
+    uint8_t kind;         /* the type code: THAWRIBBON_TYPE0_READ to THAWRIBBON_TRUSTED_WRITE */
+    uint8_t requester[2]; /* who asks, as it is sent: the bus, then device * 8 + function */
+    uint8_t tag;          /* by which the requester knows the completion */
+    uint8_t bus;          /* whom it is for */
+    uint8_t device;       /* 0 to 31 */
+    uint8_t function;     /* 0 to 7 */
+    uint8_t enables;      /* the first enables, 0 to 15: bit 0 is the byte at the lowest address */
+    uint8_t data[4];      /* what a write writes; for a read it is ignored */
+} thawribbon_parts;
+
+/* The answer of the writer. */
+typedef struct thawribbon_written {
+    size_t length;  /* how many bytes of the buffer are written: 12 or 16, or 0 where refused */
+    uint8_t number; /* 0, 1 or 2 */
+} thawribbon_written;
+
+/* What a completion says. */
+enum thawribbon_said {
+    /* nothing, since it is refused */
+    THAWRIBBON_SAID_NOTHING = 0,
+    /* success with data: a read was done, and these are its four bytes */
+    THAWRIBBON_SAID_DATA = 1,
+    /* success without data: a write was done */
+    THAWRIBBON_SAID_DONE = 2,
+    /* Unsupported Request (UR): the access was not done */
+    THAWRIBBON_SAID_UNSUPPORTED = 3
+};
+
+/* A completion that was read back. Every field but the number is 0 where refused. */
+typedef struct thawribbon_heard {
+    uint8_t number;       /* 0, or 3 to 6 */
+    uint8_t said;         /* one of enum thawribbon_said */
+    uint8_t completer[2]; /* who answers: the bus, then device * 8 + function */
+    uint8_t requester[2]; /* who asked */
+    uint8_t tag;          /* that of the request */
+    uint8_t data[4];      /* with THAWRIBBON_SAID_DATA, what a read gave; else 0 */
+} thawribbon_heard;
 
 /*
  * Answers a packet that a board receives: does the access and writes the completion.
@@ -324,6 +374,34 @@ THAWRIBBON_MUST_USE thawribbon_alternate thawribbon_dual_bdf(const uint8_t *spac
 THAWRIBBON_MUST_USE thawribbon_routed thawribbon_route(const thawribbon_port *ports, size_t ports_length,
                                                        const uint8_t *packet, size_t packet_length,
                                                        uint8_t *leaving, size_t leaving_length);
+
+/*
+ * Writes a request from its parts. It needs no board: a test host sends what it writes.
+ *
+ * Takes the parts and the buffer to write into. The lowest number that applies is given:
+ *   0  otherwise. The first `length` bytes of the buffer are the request: 12 for a read and 16 for a write, which ends with the data. Its
+ *      digest bit is clear, and its reserved bits are 0. The buffer's other bytes stay as lent.
+ *   1  the kind is none of the six, the device is over 31, the function over 7, the offset over FFCh or not a multiple of 4, or the
+ *      enables over 15. A read's data is ignored.
+ *   2  the buffer is shorter than those 12 or 16 bytes.
+ * Any number but 0 leaves the whole buffer unchanged, and gives length 0.
+ */
+THAWRIBBON_MUST_USE thawribbon_written thawribbon_write_request(thawribbon_parts parts, uint8_t *buffer, size_t buffer_length);
+
+/*
+ * Reads a completion back: whether the access was done, a read's data, who answers whom, and the request's tag. It needs no board.
+ *
+ * Takes the completion's bytes, and no others behind them. The lowest number that applies is given:
+ *   0  it is a completion. `said` is THAWRIBBON_SAID_DATA, THAWRIBBON_SAID_DONE or THAWRIBBON_SAID_UNSUPPORTED: so number 0 alone does not
+ *      say that the access was done.
+ *   3  it has fewer than 12 bytes.
+ *   4  its first byte is neither 4Ah nor 0Ah.
+ *   5  it hasn't 16 bytes with first byte 4Ah, or 12 with 0Ah.
+ *   6  any other byte is one that no reply with that first byte has at its place. Fixed are, from byte 1 on, 00 00 01 with first byte 4Ah
+ *      and 00 00 00 with 0Ah; byte 6, 00h with 4Ah, and 00h or 20h with 0Ah; byte 7, 04h; byte 11, 00h.
+ * Any number but 0 gives 0 for every field. The bytes are only read.
+ */
+THAWRIBBON_MUST_USE thawribbon_heard thawribbon_read_completion(const uint8_t *completion, size_t completion_length);
 
 /* ---- Helpers: inline, over the functions above, and not proved. ---- */
 
@@ -501,19 +579,24 @@ THAWRIBBON_MUST_USE static inline const char *thawribbon_text(unsigned number)
         return "a space or rule space of 4,096 bytes is not lent, a captured device is over 31, "
                "a function number or A or B is outside its range, a record is asked for where none may stand, "
                "a list has over 32 ports, a secondary bus over its subordinate bus, or two ranges that meet, "
-               "or what leaves overlaps the ports or the packet";
+               "what leaves overlaps the ports or the packet, what is heard overlaps the board, "
+               "or a request has a kind outside the six, a device over 31, a function over 7, "
+               "an offset over FFCh or not a multiple of 4, or enables over 15";
     case THAWRIBBON_NO_ROOM:
         return "the reply is under 16 bytes, the list room is under the list's maximum, "
-               "or the buffer for what leaves is under 20 bytes";
+               "the buffer for what leaves is under 20 bytes, or the buffer for a request is shorter than its bytes";
     case THAWRIBBON_SHORT_PACKET:
-        return "the packet has fewer than 12 bytes";
+        return "the packet or the completion has fewer than 12 bytes";
     case THAWRIBBON_UNKNOWN_TYPE:
         return "the packet's type code is not one of the six that are served, or the router does not pass it on: "
-               "it is Type 0, or it is trusted and its port does not support TCS routing";
+               "it is Type 0, or it is trusted and its port does not support TCS routing; "
+               "or the completion's first byte is neither 4Ah nor 0Ah";
     case THAWRIBBON_WRONG_LENGTH:
-        return "the packet's length does not fit its type and digest bit";
+        return "the packet's length does not fit its type and digest bit, "
+               "or the completion's length does not fit its first byte";
     case THAWRIBBON_WRONG_FIELD:
-        return "a fixed field of the packet's header has another value";
+        return "a fixed field of the packet's header has another value, "
+               "or the completion has a byte that no reply has at its place";
     case THAWRIBBON_OTHER_STRUCTURE:
         return "this is not the structure asked for";
     case THAWRIBBON_WRONG_EXTENT:
@@ -612,6 +695,108 @@ THAWRIBBON_MUST_USE static inline const char *thawribbon_leaving_text(const thaw
         return thawribbon_text(leaving->number);
     }
     return leaving->verdict == THAWRIBBON_LEAVES ? "the packet leaves" : "Unsupported Request: no port has the packet's bus";
+}
+
+/* What is heard of a request. */
+typedef enum thawribbon_asked {
+    /* the access was done. A read's four bytes are what is heard; a write changed what the enables and the rules let it change, which may
+       be nothing */
+    THAWRIBBON_ASKED_DONE = 0,
+    /* Unsupported Request: the access was not done, and nothing has changed */
+    THAWRIBBON_ASKED_UNSUPPORTED = 1,
+    /* the completion is another request's: it has another requester or tag, or data for a write, or none for a read that was done */
+    THAWRIBBON_ASKED_OTHER = 2,
+    /* the parts are no request, or the board is badly described, or the bytes are no completion; the number says why */
+    THAWRIBBON_ASKED_REFUSED = 3
+} thawribbon_asked;
+
+/* Whether a completion is the answer to a request with these parts: it has its requester and its tag, and it is Unsupported Request, or it
+ * has data exactly where the request reads. Bit 6 of a kind tells a write. */
+static inline int thawribbon_answers(thawribbon_parts parts, const thawribbon_heard *heard)
+{
+    const uint8_t done = (parts.kind & 0x40) != 0 ? THAWRIBBON_SAID_DONE : THAWRIBBON_SAID_DATA;
+    return heard->requester[0] == parts.requester[0] && heard->requester[1] == parts.requester[1] && heard->tag == parts.tag &&
+           (heard->said == done || heard->said == THAWRIBBON_SAID_UNSUPPORTED);
+}
+
+/*
+ * Hears what a completion says to the request with these parts: thawribbon_read_completion, and whether it is this request's.
+ *
+ * Sets every member of `heard` to what thawribbon_read_completion gives. Only THAWRIBBON_ASKED_DONE means that the access was done: after a
+ * read, heard->data is what it gave. The parts are those that thawribbon_write_request took; the completion may be any bytes of any length;
+ * `heard` is not NULL, and may overlap the completion, which is read before.
+ */
+THAWRIBBON_MUST_USE static inline thawribbon_asked thawribbon_hear(thawribbon_parts parts,
+                                                                   const uint8_t *completion, size_t completion_length,
+                                                                   thawribbon_heard *heard)
+{
+    *heard = thawribbon_read_completion(completion, completion_length);
+    if (heard->number != THAWRIBBON_SERVED) {
+        return THAWRIBBON_ASKED_REFUSED;
+    }
+    if (!thawribbon_answers(parts, heard)) {
+        return THAWRIBBON_ASKED_OTHER;
+    }
+    return heard->said == THAWRIBBON_SAID_UNSUPPORTED ? THAWRIBBON_ASKED_UNSUPPORTED : THAWRIBBON_ASKED_DONE;
+}
+
+/* Nothing is heard, for the reason that this number says. */
+static inline thawribbon_asked thawribbon_hear_nothing(uint8_t number, thawribbon_heard *heard)
+{
+    const thawribbon_heard nothing = {number, THAWRIBBON_SAID_NOTHING, {0, 0}, {0, 0}, 0, {0, 0, 0, 0}};
+    *heard = nothing;
+    return THAWRIBBON_ASKED_REFUSED;
+}
+
+/* Whether what is heard overlaps the board, or a space or rules of it. */
+static inline int thawribbon_heard_overlaps(const thawribbon_board *board, const thawribbon_heard *heard)
+{
+    return thawribbon_overlap(board, sizeof *board, heard, sizeof *heard) |
+           thawribbon_overlap_space(heard, sizeof *heard, board->ordinary) |
+           thawribbon_overlap_space(heard, sizeof *heard, board->trusted);
+}
+
+/*
+ * Asks a board: writes the request, has the board answer it, and reads the completion back. That is thawribbon_write_request,
+ * thawribbon_board_serve and thawribbon_hear, in this order.
+ *
+ * Sets every member of `heard`. Only THAWRIBBON_ASKED_DONE means that the access was done: after a read, heard->data is what it gave. With
+ * THAWRIBBON_ASKED_REFUSED, heard->number says why, and nothing has changed in the board. The board and `heard` are not NULL.
+ *
+ * Where `heard` overlaps the board, a space or its rules, or the board's buffers overlap each other, the number is 1, and nothing is
+ * written but `heard`.
+ */
+THAWRIBBON_MUST_USE static inline thawribbon_asked thawribbon_board_ask(thawribbon_board *board, thawribbon_parts parts,
+                                                                        thawribbon_heard *heard)
+{
+    uint8_t request[THAWRIBBON_REQUEST];
+    thawribbon_answer answer;
+    const thawribbon_written written = thawribbon_write_request(parts, request, sizeof request);
+    if (written.number != THAWRIBBON_SERVED) {
+        return thawribbon_hear_nothing(written.number, heard);
+    }
+    if (thawribbon_heard_overlaps(board, heard)) {
+        return thawribbon_hear_nothing(THAWRIBBON_BAD_DESCRIPTION, heard);
+    }
+    if (thawribbon_board_serve(board, request, written.length, &answer) == THAWRIBBON_REFUSED) {
+        return thawribbon_hear_nothing(answer.number, heard);
+    }
+    return thawribbon_hear(parts, answer.completion, answer.length, heard);
+}
+
+/* What is heard of a request, in words. */
+THAWRIBBON_MUST_USE static inline const char *thawribbon_asked_text(thawribbon_asked asked, const thawribbon_heard *heard)
+{
+    switch (asked) {
+    case THAWRIBBON_ASKED_DONE:
+        return "the access was done";
+    case THAWRIBBON_ASKED_UNSUPPORTED:
+        return "Unsupported Request: the access was not done";
+    case THAWRIBBON_ASKED_OTHER:
+        return "the completion is another request's";
+    default:
+        return thawribbon_text(heard->number);
+    }
 }
 
 /* A header of a list: where it is, and what it says it is. */

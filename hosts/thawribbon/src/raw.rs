@@ -4,7 +4,7 @@
 //! Of these, only [`serve`] writes into a reply that is lent, and its number 0 does not say that the access was done:
 //! byte 6 of the reply does, which is [`STATUS_SUCCESSFUL`](crate::STATUS_SUCCESSFUL) or
 //! [`STATUS_UNSUPPORTED`](crate::STATUS_UNSUPPORTED). Nor does number 0 of [`route`] say that the packet leaves:
-//! [`Routed::leaves`] does.
+//! [`Routed::leaves`] does; nor that of [`read_completion`] that the access was done: [`Heard::said`] does.
 //!
 //! Every function is safe to call: a slice has the pointer and the length that C passes by hand, and the functions take
 //! any length. This is the one module with `unsafe` in it. The structs are laid out as C lays them out, and are held to
@@ -128,8 +128,62 @@ pub struct Routed {
     pub port: u8,
 }
 
+/// The parts of a request: its kind, who asks, which function it is for, and what it wants there.
+///
+/// Any values may be given; [`write_request`] refuses those outside their range.
+#[repr(C)]
+#[derive(Clone, Copy, Debug, Default, PartialEq, Eq, Hash)]
+pub struct Parts {
+    /// The offset: a multiple of 4 up to FFCh.
+    pub offset: u32,
+    /// The type code: 04h, 44h, 05h, 45h, 1Bh or 5Bh.
+    pub kind: u8,
+    /// The requester ID, as it is sent: the bus, then device × 8 + function.
+    pub requester: [u8; 2],
+    /// The tag, by which the requester knows the completion.
+    pub tag: u8,
+    /// The target's bus.
+    pub bus: u8,
+    /// The target's device, 0 to 31.
+    pub device: u8,
+    /// The target's function, 0 to 7.
+    pub function: u8,
+    /// The first enables, 0 to 15: bit 0 is the byte at the lowest address.
+    pub enables: u8,
+    /// What a write writes; for a read it is not looked at.
+    pub data: [u8; 4],
+}
+
+/// The answer of the writer: the number, and how many bytes of the buffer are written.
+#[repr(C)]
+#[derive(Clone, Copy, Debug, Default, PartialEq, Eq)]
+pub struct Written {
+    /// How many bytes of the buffer are written: 12 or 16, or 0 where refused.
+    pub length: usize,
+    /// 0, 1 or 2.
+    pub number: u8,
+}
+
+/// What a completion says: the number, and its fields. Every field but the number is 0 where refused.
+#[repr(C)]
+#[derive(Clone, Copy, Debug, Default, PartialEq, Eq)]
+pub struct Heard {
+    /// 0, or 3 to 6.
+    pub number: u8,
+    /// 0: nothing, since it is refused. 1: success with data. 2: success without data. 3: Unsupported Request.
+    pub said: u8,
+    /// Who answers: the bus, then device × 8 + function.
+    pub completer: [u8; 2],
+    /// Who asked.
+    pub requester: [u8; 2],
+    /// The tag of the request.
+    pub tag: u8,
+    /// The four data bytes, where `said` is 1; else 0.
+    pub data: [u8; 4],
+}
+
 mod linked {
-    use super::{Alternate, Capture, Description, Dvsec, Part, Port, Routed, Served, Walked};
+    use super::{Alternate, Capture, Description, Dvsec, Heard, Part, Parts, Port, Routed, Served, Walked, Written};
 
     unsafe extern "C" {
         pub(super) fn thawribbon_serve(
@@ -178,6 +232,8 @@ mod linked {
             leaving: *mut u8,
             leaving_length: usize,
         ) -> Routed;
+        pub(super) fn thawribbon_write_request(parts: Parts, buffer: *mut u8, buffer_length: usize) -> Written;
+        pub(super) fn thawribbon_read_completion(completion: *const u8, completion_length: usize) -> Heard;
     }
 }
 
@@ -368,6 +424,44 @@ pub fn route(ports: &[Port], packet: &[u8], leaving: &mut [u8]) -> Routed {
     }
 }
 
+/// Writes a request.
+///
+/// ```
+/// use thawribbon::raw::{Parts, Written, write_request};
+///
+/// // P1's packet, from its parts.
+/// let parts = Parts {
+///     kind: 0x1B, requester: [0x01, 0x00], tag: 0x08, bus: 0x05, device: 3, function: 0, offset: 0x004, enables: 0x0F, data: [0; 4],
+/// };
+/// let mut buffer = [0; 12];
+/// assert_eq!(write_request(parts, &mut buffer), Written { length: 12, number: 0 });
+/// assert_eq!(buffer, [0x1B, 0x00, 0x00, 0x01, 0x01, 0x00, 0x08, 0x0F, 0x05, 0x18, 0x00, 0x04]);
+/// ```
+#[must_use = "it says whether there is a request, and how long it is"]
+#[inline]
+pub fn write_request(parts: Parts, buffer: &mut [u8]) -> Written {
+    // SAFETY: the pointer goes with its slice's length, and the buffer is lent once.
+    unsafe { linked::thawribbon_write_request(parts, buffer.as_mut_ptr(), buffer.len()) }
+}
+
+/// Reads a completion back.
+///
+/// ```
+/// use thawribbon::raw::{Heard, read_completion};
+///
+/// // P3's completion: success with data.
+/// let completion = [0x4A, 0x00, 0x00, 0x01, 0x05, 0x18, 0x00, 0x04, 0x01, 0x00, 0x08, 0x00, 0x08, 0x00, 0x00, 0x00];
+/// let heard = Heard { number: 0, said: 1, completer: [0x05, 0x18], requester: [0x01, 0x00], tag: 0x08, data: [0x08, 0, 0, 0] };
+/// assert_eq!(read_completion(&completion), heard);
+/// assert_eq!(read_completion(&completion[..15]), Heard { number: 5, ..Heard::default() });
+/// ```
+#[must_use = "it says whether the access was done"]
+#[inline]
+pub fn read_completion(completion: &[u8]) -> Heard {
+    // SAFETY: the pointer goes with its slice's length, and nothing is written.
+    unsafe { linked::thawribbon_read_completion(completion.as_ptr(), completion.len()) }
+}
+
 // What crosses to the linked functions: the same sizes and offsets as in hosts/c/layout.c. A wrong one ends the
 // build here.
 const _: () = {
@@ -383,4 +477,10 @@ const _: () = {
     assert!(size_of::<Port>() == 3 && offset_of!(Port, subordinate) == 1 && offset_of!(Port, tcs) == 2);
     assert!(size_of::<Routed>() == 16 && offset_of!(Routed, number) == 8);
     assert!(offset_of!(Routed, leaves) == 9 && offset_of!(Routed, port) == 10);
+    assert!(size_of::<Parts>() == 16 && offset_of!(Parts, kind) == 4 && offset_of!(Parts, requester) == 5);
+    assert!(offset_of!(Parts, tag) == 7 && offset_of!(Parts, bus) == 8 && offset_of!(Parts, device) == 9);
+    assert!(offset_of!(Parts, function) == 10 && offset_of!(Parts, enables) == 11 && offset_of!(Parts, data) == 12);
+    assert!(size_of::<Written>() == 16 && offset_of!(Written, number) == 8);
+    assert!(size_of::<Heard>() == 11 && offset_of!(Heard, said) == 1 && offset_of!(Heard, completer) == 2);
+    assert!(offset_of!(Heard, requester) == 4 && offset_of!(Heard, tag) == 6 && offset_of!(Heard, data) == 7);
 };
