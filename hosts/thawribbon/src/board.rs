@@ -1,7 +1,7 @@
 //! A board: its description, what it has captured, its two spaces and their rules, and its answers to packets.
 
 use crate::Offset;
-use crate::completion::{Completion, Status};
+use crate::completion::Completion;
 use crate::constants::REPLY;
 use crate::not_done::NotDone;
 use crate::raw;
@@ -180,11 +180,7 @@ impl<'a> Board<'a> {
         );
         served(answer.number)?;
         self.capture = kept(answer.capture);
-        let completion = Completion::written(reply, answer.length);
-        match completion.status() {
-            Status::Successful => Ok(completion),
-            Status::Unsupported => Err(NotDone::Unsupported(completion)),
-        }
+        Completion::written(reply, answer.length).done()
     }
 
     /// Resets the board: forgets the capture, and changes no byte.

@@ -1,6 +1,10 @@
-//! A board's completion, taken apart: whether the access was done, its data, who answers whom, and the bytes themselves.
+//! A board's completion, as it gives it and as it is read back, taken apart: whether the access was done, its data, who
+//! answers whom, and the bytes themselves.
 
 use crate::constants::{DATA, REPLY, STATUS, STATUS_SUCCESSFUL};
+use crate::not_done::NotDone;
+use crate::raw;
+use crate::refusal::served;
 use std::fmt;
 
 /// What the status byte of a completion says.
@@ -12,7 +16,18 @@ pub enum Status {
     Unsupported,
 }
 
-/// A bus, device and function number: who asked, or who answers.
+/// What a completion says: the status, and the data in it.
+#[derive(Clone, Copy, Debug, PartialEq, Eq, Hash)]
+pub enum Said {
+    /// Success with data: a read was done, and gave these four bytes.
+    Data([u8; 4]),
+    /// Success without data: a write was done.
+    Done,
+    /// Unsupported Request: the access was not done, and nothing has changed.
+    Unsupported,
+}
+
+/// A bus, device and function number: who asks, who is asked, or who answers.
 ///
 /// It is written as lspci writes it.
 ///
@@ -40,6 +55,12 @@ impl Id {
             function: rest & 7,
         }
     }
+
+    /// The two bytes that are sent, if device and function are in them.
+    #[inline]
+    pub(crate) fn bytes(self) -> Option<[u8; 2]> {
+        (self.device <= 31 && self.function <= 7).then_some([self.bus, self.device << 3 | self.function])
+    }
 }
 
 impl fmt::Display for Id {
@@ -50,7 +71,9 @@ impl fmt::Display for Id {
 
 /// What a board sends back to the requester of a packet: 12 bytes, or 16 with the data of a read.
 ///
-/// Only [`Board::serve`](crate::Board::serve) makes one, so its bytes are always a completion of document 01.
+/// It is the same on both sides: [`Board::serve`](crate::Board::serve) gives one to send back, and the requester has it
+/// again by [`Completion::read`] from the bytes that came. No other bytes make one, so its bytes are always a completion of
+/// document 01.
 #[derive(Clone, Copy, PartialEq, Eq, Hash)]
 pub struct Completion {
     reply: [u8; REPLY],
@@ -62,6 +85,71 @@ impl Completion {
     #[inline]
     pub(crate) fn written(reply: [u8; REPLY], length: usize) -> Self {
         Completion { reply, length }
+    }
+
+    /// Reads back the completion that a board has sent.
+    ///
+    /// What it gives is what [`Board::serve`](crate::Board::serve) gave: `Ok` means that the access was done, and `?` stops
+    /// at one that was not. It does not know what was asked; [`Request::answered_by`](crate::Request::answered_by) also
+    /// sees whether the completion is the request's.
+    ///
+    /// ```
+    /// use thawribbon::{Completion, NotDone, Refusal, Said};
+    ///
+    /// // P2's completion; with status 20h in the place of 00h; and with another first byte.
+    /// let mut bytes = [0x0A, 0x00, 0x00, 0x00, 0x05, 0x18, 0x00, 0x04, 0x01, 0x00, 0x07, 0x00];
+    /// let completion = Completion::read(&bytes)?;
+    /// assert_eq!((completion.said(), completion.tag()), (Said::Done, 7));
+    /// assert_eq!(completion.completer().to_string(), "05:03.0");
+    ///
+    /// bytes[6] = 0x20;
+    /// assert!(matches!(Completion::read(&bytes), Err(NotDone::Unsupported(_))));
+    /// bytes[0] = 0x44;
+    /// assert_eq!(Completion::read(&bytes), Err(NotDone::Refused(Refusal::UnknownType)));
+    /// # Ok::<(), NotDone>(())
+    /// ```
+    ///
+    /// # Errors
+    ///
+    /// [`NotDone::Unsupported`]: the answer is Unsupported Request.
+    ///
+    /// [`NotDone::Refused`], with the lowest of these that applies: the bytes are no completion.
+    ///
+    /// - [`Refusal::ShortPacket`]: they are fewer than 12.
+    /// - [`Refusal::UnknownType`]: the first is neither 4Ah nor 0Ah.
+    /// - [`Refusal::WrongLength`]: they are not 16 with first byte 4Ah, or 12 with 0Ah.
+    /// - [`Refusal::WrongField`]: any other byte is one that no reply with that first byte has at its place.
+    ///
+    /// [`Refusal::ShortPacket`]: crate::Refusal::ShortPacket
+    /// [`Refusal::UnknownType`]: crate::Refusal::UnknownType
+    /// [`Refusal::WrongLength`]: crate::Refusal::WrongLength
+    /// [`Refusal::WrongField`]: crate::Refusal::WrongField
+    #[inline]
+    pub fn read(bytes: &[u8]) -> Result<Self, NotDone> {
+        served(raw::read_completion(bytes).number)?;
+        let mut reply = [0; REPLY];
+        reply[..bytes.len()].copy_from_slice(bytes);
+        Completion::written(reply, bytes.len()).done()
+    }
+
+    /// The completion where it says that the access was done.
+    #[inline]
+    pub(crate) fn done(self) -> Result<Self, NotDone> {
+        match self.status() {
+            Status::Successful => Ok(self),
+            Status::Unsupported => Err(NotDone::Unsupported(self)),
+        }
+    }
+
+    /// What it says: that a read was done, with its data, that a write was done, or that nothing was.
+    #[must_use]
+    #[inline]
+    pub fn said(&self) -> Said {
+        match (self.status(), self.data()) {
+            (Status::Unsupported, _) => Said::Unsupported,
+            (Status::Successful, Some(data)) => Said::Data(data),
+            (Status::Successful, None) => Said::Done,
+        }
     }
 
     /// Whether the access was done. Only status byte 00h says so; as in C, any other says that it was not.

@@ -15,6 +15,9 @@ pub const LEAVING: usize = 20;
 /// The most ports that a list can have.
 pub const PORTS: usize = 32;
 
+/// The bytes that hold any request that is written: a write has 16, and a read 12.
+pub const REQUEST: usize = 16;
+
 /// Where four data bytes are: in a packet that writes, and in a completion of 16 bytes.
 pub const DATA: usize = 12;
 

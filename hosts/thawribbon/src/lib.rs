@@ -1,12 +1,13 @@
-//! A board's answers to configuration packets, the three capability lists, two records, and a switch's router, by the
-//! proved code of libthawribbon.a.
+//! A board's answers to configuration packets, the three capability lists, two records, a switch's router, and the asking
+//! side, by the proved code of libthawribbon.a.
 //!
-//! Document 01 of the project fixes what every function answers, with what document 02 corrects, and for the router
-//! document 02; their words are used here, and the rules that hold stand in docs/RULES.md of the project. Any bytes, of
-//! any length, get an answer. After a [`Refusal`] no lent byte and no capture has changed.
+//! Document 01 of the project fixes what every function answers, with what document 02 corrects, and for the router and
+//! the asking side document 02; their words are used here, and the rules that hold stand in docs/RULES.md of the project.
+//! Any bytes, of any length, get an answer. After a [`Refusal`] no lent byte and no capture has changed.
 //!
 //! | You want to | Use |
 //! |---|---|
+//! | ask | a [`Request`], which gives the [`Packet`] to send, and reads the [`Completion`] that came for it, or says why it is [`NotAnswered`] |
 //! | have a board answer a packet | [`Board::serve`], which gives a [`Completion`] or says why it is [`NotDone`] |
 //! | have a switch pass a packet on | [`route`], which gives what is [`Leaving`], or says why it is [`NotRouted`] |
 //! | list the capabilities of a space | [`headers`]; [`chain`] and [`walk`] give bare offsets |
@@ -16,8 +17,41 @@
 //! # A trusted write that must land
 //!
 //! A board takes a trusted write only when a Type 0 write has told it its bus and device number. `?` stops at whatever was
-//! not done: a packet that was refused, and one that was answered Unsupported Request. Done is not landed: a write that is
-//! done has changed only the bits that the space's write rules let it change. So it is read back, and compared.
+//! not done: parts that are no request, a packet that was refused, one that was answered Unsupported Request, and a
+//! completion that is another request's. Done is not landed: a write that is done has changed only the bits that the
+//! space's write rules let it change. So it is read back, and compared.
+//!
+//! ```
+//! use thawribbon::{Board, Description, Id, NotAnswered, Request, SPACE, Said, Space};
+//!
+//! /// The board stands for the bus: a packet goes there, and the bytes of a completion come back.
+//! fn ask(board: &mut Board, request: Request) -> Result<Said, NotAnswered> {
+//!     let packet = request.packet()?;
+//!     let reply = board.serve(&packet)?;
+//!     Ok(request.answered_by(reply.bytes())?.said())
+//! }
+//!
+//! fn main() -> Result<(), NotAnswered> {
+//!     let (mut ordinary, mut trusted, rules) = ([0; SPACE], [0; SPACE], [0xFF; SPACE]);
+//!     let mut board = Board::fresh(
+//!         Description { function: 0, a: 0x104, b: 0x00C },
+//!         Space { bytes: &mut ordinary, rules: &rules },
+//!         Space { bytes: &mut trusted, rules: &rules },
+//!     );
+//!     let host = Id { bus: 0x01, device: 0, function: 0 };
+//!     let target = Id { bus: 0x05, device: 3, function: 0 };
+//!     let data = [0x11, 0x22, 0x33, 0x44];
+//!
+//!     ask(&mut board, Request::type0_write(target, 0x010, [0; 4]).enabling(0x0).by(host, 6))?;
+//!     ask(&mut board, Request::trusted_write(target, 0x010, data).by(host, 7))?;
+//!     let landed = ask(&mut board, Request::trusted_read(target, 0x010).by(host, 8))? == Said::Data(data);
+//!     assert!(landed);
+//!     Ok(())
+//! }
+//! ```
+//!
+//! The same with the packets as bytes, and with the completion as [`Board::serve`] gives it. Bytes that came over a bus are
+//! read back into the same [`Completion`], with the same `Result`, by [`Completion::read`].
 //!
 //! ```
 //! use thawribbon::{Board, DATA, Description, NotDone, SPACE, Space, TRUSTED_READ, TRUSTED_WRITE, TYPE0_WRITE};
@@ -91,27 +125,33 @@ mod board;
 mod completion;
 mod constants;
 mod lists;
+mod not_answered;
 mod not_done;
 mod not_routed;
+mod packet;
 #[allow(unsafe_code)]
 pub mod raw;
 mod records;
 mod refusal;
+mod request;
 mod router;
 
 pub use board::{Board, Capture, Description, Space};
-pub use completion::{Completion, Id, Status};
+pub use completion::{Completion, Id, Said, Status};
 pub use constants::{
-    COMPATIBLE_MAXIMUM, DATA, EXTENDED_MAXIMUM, LEAVING, PORTS, REPLY, SPACE, STATUS, STATUS_SUCCESSFUL,
+    COMPATIBLE_MAXIMUM, DATA, EXTENDED_MAXIMUM, LEAVING, PORTS, REPLY, REQUEST, SPACE, STATUS, STATUS_SUCCESSFUL,
     STATUS_UNSUPPORTED, TRUSTED_MAXIMUM, TRUSTED_READ, TRUSTED_WRITE, TYPE0_READ, TYPE0_WRITE, TYPE1_READ, TYPE1_WRITE,
     VERSION,
 };
 pub use lists::{Header, List, chain, headers, walk};
+pub use not_answered::NotAnswered;
 pub use not_done::NotDone;
 pub use not_routed::NotRouted;
+pub use packet::Packet;
 pub use raw::Port;
 pub use records::{Alternate, Dvsec, dual_bdf, dvsec, dvsec_body};
 pub use refusal::Refusal;
+pub use request::{Kind, Request};
 pub use router::{Leaving, route};
 
 /// An offset in a space, wherever this crate takes or gives one.

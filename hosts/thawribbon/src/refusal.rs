@@ -14,19 +14,23 @@ use std::fmt;
 pub enum Refusal {
     /// A space or rule space isn't 4,096 bytes, a captured device is over 31, a function number or A or B is outside its
     /// range, or a record is asked for where none may stand. At a router: a list has over 32 ports, a port's secondary
-    /// bus is over its subordinate bus, or two ranges of buses meet. The overlap that its text names can only be in C.
+    /// bus is over its subordinate bus, or two ranges of buses meet. Of a request to be written: its kind is none of the
+    /// six, a device is over 31, a function over 7, its offset over FFCh or not a multiple of 4, or its enables over 15.
+    /// The overlaps that its text names can only be in C.
     BadDescription,
-    /// The reply is under 16 bytes, the list room is under the list's maximum, or the buffer for what leaves is under 20
-    /// bytes.
+    /// The reply is under 16 bytes, the list room is under the list's maximum, the buffer for what leaves is under 20
+    /// bytes, or the buffer for a request is shorter than the request.
     NoRoom,
-    /// The packet has fewer than 12 bytes.
+    /// The packet, or the completion, has fewer than 12 bytes.
     ShortPacket,
     /// The type code isn't one of the six. At a router, also where it is Type 0, or where it is trusted and the port does
-    /// not support TCS routing.
+    /// not support TCS routing. Of a completion: its first byte is neither 4Ah nor 0Ah.
     UnknownType,
-    /// The packet length doesn't fit its type and digest bit.
+    /// The packet length doesn't fit its type and digest bit; the completion's isn't 16 with first byte 4Ah, or 12 with
+    /// 0Ah.
     WrongLength,
-    /// A fixed header field has another value.
+    /// A fixed header field has another value. Of a completion: any other byte is one that no reply with its first byte has
+    /// at its place.
     WrongField,
     /// Not the structure asked for.
     OtherStructure,
@@ -100,8 +104,11 @@ impl Refusal {
     /// ```
     /// use thawribbon::Refusal;
     ///
-    /// assert_eq!(Refusal::ShortPacket.text(), "the packet has fewer than 12 bytes");
-    /// assert_eq!(Refusal::ShortPacket.to_string(), "refused with 3: the packet has fewer than 12 bytes");
+    /// assert_eq!(Refusal::NotOneFunction.text(), "the function vector does not have exactly one bit");
+    /// assert_eq!(
+    ///     Refusal::NotOneFunction.to_string(),
+    ///     "refused with 10: the function vector does not have exactly one bit"
+    /// );
     /// assert_eq!(
     ///     Refusal::BelowFloor { place: Some(0x1C0) }.to_string(),
     ///     "refused with 11: a pointer of the list is below its floor, in the structure at 1C0h"
@@ -114,19 +121,28 @@ impl Refusal {
                 "a space or rule space of 4,096 bytes is not lent, a captured device is over 31, \
                  a function number or A or B is outside its range, a record is asked for where none may stand, \
                  a list has over 32 ports, a secondary bus over its subordinate bus, or two ranges that meet, \
-                 or what leaves overlaps the ports or the packet"
+                 what leaves overlaps the ports or the packet, what is heard overlaps the board, \
+                 or a request has a kind outside the six, a device over 31, a function over 7, \
+                 an offset over FFCh or not a multiple of 4, or enables over 15"
             }
             Refusal::NoRoom => {
                 "the reply is under 16 bytes, the list room is under the list's maximum, \
-                 or the buffer for what leaves is under 20 bytes"
+                 the buffer for what leaves is under 20 bytes, or the buffer for a request is shorter than its bytes"
             }
-            Refusal::ShortPacket => "the packet has fewer than 12 bytes",
+            Refusal::ShortPacket => "the packet or the completion has fewer than 12 bytes",
             Refusal::UnknownType => {
                 "the packet's type code is not one of the six that are served, or the router does not pass it on: \
-                 it is Type 0, or it is trusted and its port does not support TCS routing"
+                 it is Type 0, or it is trusted and its port does not support TCS routing; \
+                 or the completion's first byte is neither 4Ah nor 0Ah"
             }
-            Refusal::WrongLength => "the packet's length does not fit its type and digest bit",
-            Refusal::WrongField => "a fixed field of the packet's header has another value",
+            Refusal::WrongLength => {
+                "the packet's length does not fit its type and digest bit, \
+                 or the completion's length does not fit its first byte"
+            }
+            Refusal::WrongField => {
+                "a fixed field of the packet's header has another value, \
+                 or the completion has a byte that no reply has at its place"
+            }
             Refusal::OtherStructure => "this is not the structure asked for",
             Refusal::WrongExtent => "the structure has a wrong length, or runs out of its space",
             Refusal::NotOneFunction => "the function vector does not have exactly one bit",
@@ -307,6 +323,9 @@ mod tests {
     #[test]
     fn a_refusal_is_an_error() {
         let error: Box<dyn std::error::Error + Send + Sync> = Refusal::ShortPacket.into();
-        assert_eq!(error.to_string(), "refused with 3: the packet has fewer than 12 bytes");
+        assert_eq!(
+            error.to_string(),
+            "refused with 3: the packet or the completion has fewer than 12 bytes"
+        );
     }
 }

@@ -2,7 +2,8 @@
 #![forbid(unsafe_code)]
 
 use std::collections::BTreeMap;
-use thawribbon::{List, NotRouted, Refusal};
+use thawribbon::raw::read_completion;
+use thawribbon::{Completion, List, NotAnswered, NotRouted, Refusal};
 
 const HEADER: &str = include_str!("../../include/thawribbon.h");
 
@@ -32,7 +33,10 @@ const MAXIMA: [usize; 3] = [
 
 #[test]
 fn numbers_texts_and_maxima_can_stand_in_constants() {
-    assert_eq!((NUMBER, TEXT), (10, "the packet has fewer than 12 bytes"));
+    assert_eq!(
+        (NUMBER, TEXT),
+        (10, "the packet or the completion has fewer than 12 bytes")
+    );
     assert_eq!(MAXIMA, [48, 960, 1022]);
 }
 
@@ -70,6 +74,7 @@ fn the_constants_are_those_of_the_header() {
         ("REPLY", &thawribbon::REPLY.to_string()),
         ("LEAVING", &thawribbon::LEAVING.to_string()),
         ("PORTS", &thawribbon::PORTS.to_string()),
+        ("REQUEST", &thawribbon::REQUEST.to_string()),
         ("DATA", &thawribbon::DATA.to_string()),
         ("STATUS", &thawribbon::STATUS.to_string()),
         ("STATUS_SUCCESSFUL", &hex(thawribbon::STATUS_SUCCESSFUL)),
@@ -87,12 +92,17 @@ fn the_constants_are_those_of_the_header() {
     assert_eq!(defined(), BTreeMap::from(expected));
 }
 
-#[test]
-fn the_numbers_are_those_of_the_header() {
-    let numbers: BTreeMap<&str, u8> = lines_between("enum thawribbon_number {", "};")
+/// The names and the numbers of an enum of the header.
+fn enumerated(name: &str) -> BTreeMap<&'static str, u8> {
+    lines_between(&format!("enum {name} {{"), "};")
         .filter_map(|line| line.trim().trim_end_matches(',').split_once(" = "))
         .map(|(name, number)| (name, number.parse().expect("a number")))
-        .collect();
+        .collect()
+}
+
+#[test]
+fn the_numbers_are_those_of_the_header() {
+    let numbers = enumerated("thawribbon_number");
     let expected = REFUSALS.map(|(name, refusal)| (name, refusal.number()));
     let served = [("THAWRIBBON_SERVED", 0)];
     assert_eq!(numbers, served.into_iter().chain(expected).collect());
@@ -125,4 +135,27 @@ fn the_texts_are_those_of_the_header() {
 fn what_has_no_port_is_said_in_the_words_of_the_header() {
     let text = format!("\"{}\"", NotRouted::Unsupported);
     assert!(HEADER.contains(&text), "{text}");
+}
+
+/// What `raw::read_completion` gives for each is what the header names.
+#[test]
+fn what_is_said_is_what_the_header_names() {
+    let shown = [0x4A, 0, 0, 1, 5, 0x18, 0x00, 4, 1, 0, 8, 0, 8, 0, 0, 0];
+    let completion = |status| [0x0A, 0, 0, 0, 5, 0x18, status, 4, 1, 0, 8, 0];
+    let said = |bytes: &[u8]| read_completion(bytes).said;
+    let expected = [
+        ("THAWRIBBON_SAID_NOTHING", said(&[])),
+        ("THAWRIBBON_SAID_DATA", said(&shown)),
+        ("THAWRIBBON_SAID_DONE", said(&completion(0x00))),
+        ("THAWRIBBON_SAID_UNSUPPORTED", said(&completion(0x20))),
+    ];
+    assert_eq!(enumerated("thawribbon_said"), BTreeMap::from(expected));
+}
+
+#[test]
+fn a_completion_of_another_request_is_said_in_the_words_of_the_header() {
+    let completion = Completion::read(&[0x0A, 0, 0, 0, 5, 0x18, 0, 4, 1, 0, 8, 0]).expect("it is done");
+    let text = NotAnswered::Other(completion).to_string();
+    let (words, _) = text.split_once(" (").expect("whose it is stands behind");
+    assert!(HEADER.contains(&format!("\"{words}\"")), "{text}");
 }
