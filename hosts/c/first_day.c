@@ -21,5 +21,9 @@ int main(void)
     port_lists();
     switches();
     leaving_overlaps();
+    requests();
+    completions();
+    asks();
+    heard_overlaps();
     return failed_groups() == 0 ? 0 : 1;
 }

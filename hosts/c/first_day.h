@@ -12,5 +12,9 @@ void routes(void);
 void port_lists(void);
 void switches(void);
 void leaving_overlaps(void);
+void requests(void);
+void completions(void);
+void asks(void);
+void heard_overlaps(void);
 
 #endif

@@ -3,6 +3,7 @@
 
 void drop(thawribbon_board *board, thawribbon_answer *answer, const uint8_t *bytes, uint8_t *reply, uint16_t *room);
 void drop_routed(const thawribbon_port *ports, thawribbon_leaving *leaving, const uint8_t *bytes, uint8_t *reply);
+void drop_asked(thawribbon_board *board, thawribbon_parts parts, thawribbon_heard *heard, const uint8_t *bytes, uint8_t *buffer);
 
 void drop(thawribbon_board *board, thawribbon_answer *answer, const uint8_t *bytes, uint8_t *reply, uint16_t *room)
 {
@@ -35,4 +36,13 @@ void drop_routed(const thawribbon_port *ports, thawribbon_leaving *leaving, cons
     thawribbon_route(ports, 1, bytes, 16, reply, 20);                                                                    /* dropped */
     thawribbon_verdict_of(routed);                                                                                       /* dropped */
     thawribbon_leaving_text(leaving);                                                                                    /* dropped */
+}
+
+void drop_asked(thawribbon_board *board, thawribbon_parts parts, thawribbon_heard *heard, const uint8_t *bytes, uint8_t *buffer)
+{
+    thawribbon_board_ask(board, parts, heard);                                                                           /* dropped */
+    thawribbon_write_request(parts, buffer, 16);                                                                         /* dropped */
+    thawribbon_read_completion(bytes, 12);                                                                               /* dropped */
+    thawribbon_hear(parts, bytes, 12, heard);                                                                            /* dropped */
+    thawribbon_asked_text(THAWRIBBON_ASKED_DONE, heard);                                                                 /* dropped */
 }

@@ -1,9 +1,10 @@
 //! Every answer that may not be dropped, dropped: rustc has to warn of each line that says so.
 //!
 //! tests/rust.sh compiles this; it is no test of the package, and is never run. It counts the crate's functions too: each
-//! that gives something stands here. What leaves a switch may not be dropped behind a `?` either.
-use thawribbon::raw::{self, Capture, Description};
-use thawribbon::{Board, Completion, Leaving, List, NotDone, NotRouted, Port, Refusal, Space};
+//! that gives something stands here. What leaves a switch, or is to be sent, may not be dropped behind a `?` either.
+use thawribbon::raw::{self, Capture, Description, Parts};
+use thawribbon::{Board, Completion, Id, Kind, Leaving, List, NotAnswered, NotDone, NotRouted, Packet, Port, Refusal};
+use thawribbon::{Request, Space};
 use thawribbon::{chain, dual_bdf, dvsec, dvsec_body, headers, route, walk};
 
 fn main() {}
@@ -26,6 +27,7 @@ pub fn drop_parts(completion: &Completion, not_done: &NotDone, refusal: Refusal)
     completion.requester(); // dropped
     completion.tag(); // dropped
     completion.bytes(); // dropped
+    completion.said(); // dropped
     not_done.completion(); // dropped
     refusal.number(); // dropped
     refusal.text(); // dropped
@@ -39,6 +41,35 @@ pub fn drop_routed(ports: &[Port], packet: &[u8], leaving: &Leaving) -> Result<(
     leaving.port(); // dropped
     leaving.bytes(); // dropped
     Ok(())
+}
+
+pub fn drop_requests(target: Id, data: [u8; 4]) {
+    Request::type0_read(target, 0x004); // dropped
+    Request::type0_write(target, 0x004, data); // dropped
+    Request::type1_read(target, 0x004); // dropped
+    Request::type1_write(target, 0x004, data); // dropped
+    Request::trusted_read(target, 0x004); // dropped
+    Request::trusted_write(target, 0x004, data); // dropped
+    Kind::Type0Read.code(); // dropped
+    Kind::Type0Read.writes(); // dropped
+}
+
+pub fn drop_asked(request: fn() -> Request, packet: Packet, not_answered: NotAnswered) -> Result<(), Refusal> {
+    request(); // dropped
+    request().by(request().requester, 7); // dropped
+    request().enabling(0x0F); // dropped
+    request().packet(); // dropped
+    request().packet()?; // dropped
+    request().answered_by(&packet); // dropped
+    Completion::read(&packet); // dropped
+    packet.bytes(); // dropped
+    not_answered.completion(); // dropped
+    Ok(())
+}
+
+pub fn drop_raw_asked(parts: Parts, buffer: &mut [u8]) {
+    raw::write_request(parts, buffer); // dropped
+    raw::read_completion(buffer); // dropped
 }
 
 pub fn drop_board(description: thawribbon::Description, ordinary: Space, trusted: Space) {
