@@ -2,6 +2,7 @@
 //!
 //! Before anything is timed, every input of every row is given to all sides, and their answers must be equal.
 
+mod asks;
 mod machine;
 mod measure;
 mod merges;
@@ -49,6 +50,7 @@ fn measure_all(plan: Plan) -> Result<(), String> {
     rows.extend(walks::rows()?);
     rows.extend(records::rows()?);
     rows.extend(routes::rows()?);
+    rows.extend(asks::rows()?);
     let mut variants = packets::variants::all()?;
     let row_contests = rows.iter_mut().map(|row| &mut row.contest);
     let variant_contests = variants.iter_mut().map(|variants| &mut variants.contest);
