@@ -3,7 +3,7 @@
 # the archive that the kit itself writes. Where a tool is missing, what needs it is skipped, or failed where CI is set.
 . tests/common/host_tools.bash
 page=docs/LIBRARY.md
-least=76
+least=93
 here=$(uname -m)-unknown-linux-gnu
 
 # needs ARCHIVE: what the page says the archive needs of the C library
@@ -74,6 +74,7 @@ in_cpp() {
     echo "ok with thawribbon $(cat VERSION)" >"$work/expected"
     cpp_runs board.cpp hosts/c/board.cpp "$work/expected"
     cpp_runs switch.cpp hosts/c/switch.cpp "$work/expected"
+    cpp_runs ask.cpp hosts/c/ask.cpp "$work/expected"
     for ((n = 1; n <= $(blocks $page cpp); n++)); do
         fenced $page cpp $n >"$work/page.cpp"
         printed $page cpp $n >"$work/page.text"
@@ -117,6 +118,19 @@ page_in_c() {
     all_run $page c $ran
 }
 
+# The page's N-th C program has no board: of the archive, only the asking side is linked.
+page_without_board() {
+    local linked
+    fenced $page c "$1" >"$work/page.c"
+    try "C program $1 of $page compiles by itself" cc "${c[@]}" -I "$built" "$work/page.c" "$archive" -o "$work/page" || return
+    linked=$(nm "$work/page" | awk '$2 == "T" && $3 ~ /^thawribbon_/ { print $3 }' | sort | tr '\n' ' ')
+    if [ "$linked" = 'thawribbon_read_completion thawribbon_write_request ' ]; then
+        echo "ok C program $1 of $page is linked without a board"
+    else
+        echo "FAILED C program $1 of $page is linked with $linked"
+    fi
+}
+
 # The page has no block that no test knows: sh is read by people, text is what programs print, toml is used by tests/rust.sh.
 page_languages() {
     local found
@@ -146,6 +160,14 @@ page_notices() {
         'trusted and its port does not support TCS routing'
     other_page_c "C program 3 of $page notices that no port has the bus" 3 's/0x06, 0x18/0x07, 0x18/' \
         'does not leave: Unsupported Request: no port'
+    other_page_c "C program 4 of $page notices that it was not done" 4 's/THAWRIBBON_TYPE0_WRITE/THAWRIBBON_TYPE0_READ/' \
+        'not done: Unsupported Request: the access was not done'
+    other_page_c "C program 4 of $page notices that it has not landed" 4 's/\[0x010\] = 0xFF/[0x010] = 0xF0/' 'done, and not landed'
+    other_page_c "C program 4 of $page notices that an offset is not a multiple of 4" 4 's/\.offset = 0x010/.offset = 0x012/' \
+        'an offset over FFCh or not a multiple of 4'
+    other_page_c "C program 5 of $page notices a completion of another request" 5 's/\.tag = 8/.tag = 9/' \
+        "not done: the completion is another request's"
+    other_page_c "C program 5 of $page notices that there is nothing to send" 5 's/\.enables = 0x0F/.enables = 0x10/' 'nothing to send: '
 }
 
 # The example at the top of the header.
@@ -234,10 +256,11 @@ on_x86_64() {
     local target=x86_64-unknown-linux-gnu
     try 'rt staticlib thawribbon' rt staticlib thawribbon &&
         try 'rt staticlib backplane' rt staticlib backplane &&
+        try 'rt staticlib tester' rt staticlib tester &&
         needs target/staticlib/libthawribbon.a &&
         try 'first_day compiles for x86-64' objects "$work/x86-64" $target &&
         try 'first_day links for x86-64' "$kit/bin/rattle-link" --target $target --toolchain "$tools" -o "$work/first_day.x86-64" \
-            "$work"/x86-64/*.o target/staticlib/libthawribbon.a target/staticlib/libbackplane.a &&
+            "$work"/x86-64/*.o target/staticlib/libthawribbon.a target/staticlib/libbackplane.a target/staticlib/libtester.a &&
         first_day 'first_day on x86-64' "$tools/bin/qemu-x86_64" "$tools/lib/ld-linux-x86-64.so.2" --library-path "$tools/lib" \
             "$work/first_day.x86-64"
 }
@@ -255,6 +278,7 @@ in_c
 in_cpp
 mistakes_are_seen
 page_in_c
+page_without_board 5
 page_languages
 page_notices
 header_example

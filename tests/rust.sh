@@ -5,8 +5,8 @@
 page=docs/LIBRARY.md
 sources=hosts/thawribbon/src
 # The tests and examples that there are at least.
-least_tests=98
-least_examples=29
+least_tests=117
+least_examples=36
 export CARGO_TERM_COLOR=never
 
 # passed PART: how many tests, or examples, the last run of cargo test passed; it runs the examples last
@@ -85,6 +85,23 @@ page_notices() {
         "$(sed -n 's/.*the program would end with `\(Error: [^`]*\)`.*/\1/p' $page)"
     other_page_rust "Rust program 4 of $page stops where a port does not support TCS routing" 4 's/tcs: true/tcs: false/' 'Error: Refused(UnknownType)'
     other_page_rust "Rust program 4 of $page stops where no port has the bus" 4 's/0x06, 0x18/0x07, 0x18/' 'Error: Unsupported'
+    other_page_rust "Rust program 5 of $page stops at a write that was not done" 5 '/type0_write/d' 'Error: Unsupported(Completion { status: Unsupported'
+    other_page_rust "Rust program 5 of $page notices that it has not landed" 5 's/\[0xFF; SPACE\]/[0xF0; SPACE]/' 'done, and not landed'
+    other_page_rust "Rust program 5 of $page stops at parts that are no request" 5 's/0x010/0x012/' 'Error: Refused(BadDescription)'
+    other_page_rust "Rust program 6 of $page stops at a completion of another request" 6 's/by(host, 8)/by(host, 9)/' 'Error: Other(Completion'
+}
+
+# The page's N-th Rust program has no board: of the archive, only the asking side is linked.
+page_without_board() {
+    local linked
+    fenced $page rust "$1" | package alone
+    try "Rust program $1 of $page compiles by itself" within "$work/alone" cargo build --offline --target-dir "$work/alone/target" || return
+    linked=$(nm "$work/alone/target/debug/alone" | awk '$2 == "T" && $3 ~ /^thawribbon_/ { print $3 }' | sort | tr '\n' ' ')
+    if [ "$linked" = 'thawribbon_read_completion thawribbon_write_request ' ]; then
+        echo "ok Rust program $1 of $page is linked without a board"
+    else
+        echo "FAILED Rust program $1 of $page is linked with $linked"
+    fi
 }
 
 # Every function of the crate that gives something is one whose answer may not be dropped. A struct that says so of itself may not be dropped
@@ -144,6 +161,7 @@ is_built || try './library builds the archive' ./library || exit 0
 crate
 looked_over
 page_in_rust
+page_without_board 6
 page_notices
 answers_are_not_dropped
 crate_is_as_told
