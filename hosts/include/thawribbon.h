@@ -78,7 +78,7 @@ enum thawribbon_number {
        asked for where none may stand (rule 2.2); at a router, a list has over 32 ports, a port's secondary bus is over its subordinate bus,
        or two ranges of buses meet (rule 10.2); at thawribbon_ports_route, also where what leaves overlaps the ports or the packet; of a
        request to be written, its kind is none of the six, its device is over 31, its function over 7, its offset over FFCh or not a
-       multiple of 4, or its enables over 15 */
+       multiple of 4, or its enables over 15; at thawribbon_board_ask, also where what is heard overlaps the board */
     THAWRIBBON_BAD_DESCRIPTION = 1,
     /* the reply is under 16 bytes, the list room is under the list's maximum, the buffer for what leaves is under 20 bytes, or the buffer
        for a request is shorter than the request */
@@ -379,8 +379,8 @@ THAWRIBBON_MUST_USE thawribbon_routed thawribbon_route(const thawribbon_port *po
  * Writes a request from its parts. It needs no board: a test host sends what it writes.
  *
  * Takes the parts and the buffer to write into. The lowest number that applies is given:
- *   0  otherwise. The first `length` bytes of the buffer are the request: 12 for a read and 16 for a write, which ends with the data. Its
- *      digest bit is clear, and its reserved bits are 0. The buffer's other bytes stay as lent.
+ *   0  it is written. The first `length` bytes of the buffer are the request: 12 for a read and 16 for a write, which ends with the data.
+ *      Its digest bit is clear, and its reserved bits are 0. The buffer's other bytes stay as lent.
  *   1  the kind is none of the six, the device is over 31, the function over 7, the offset over FFCh or not a multiple of 4, or the
  *      enables over 15. A read's data is ignored.
  *   2  the buffer is shorter than those 12 or 16 bytes.
