@@ -1,3 +1,4 @@
 pub mod Laws
 pub mod Unique
 pub mod Numbers
+pub mod Asked

@@ -63,7 +63,7 @@ positive a size = omega arith
 rising : (a : Parts) (size : ℕ) → Rising (writeChecks a size)
 rising a size = omega arith
 
-packet-length : (a : Parts) (new : List ℕ) → length (packetOf a new) ≡ wholeOf a
+pub packet-length : (a : Parts) (new : List ℕ) → length (packetOf a new) ≡ wholeOf a
 unfolding packetOf
 packet-length a new = bytes-length a new (asksWrite a)
 
