@@ -6,9 +6,9 @@ use mathlib.Core.Logic.{_↔_}
 use mathlib.Core.Path.{_≡_, refl, sym, ap, _∙_, subst}
 use native.Mathlib.Omega.{arith}
 use lib.Dec.{eqb, ltb}
-use lib.ListN.{length, getD, take, drop}
-use lib.Seq.{getD-drop}
-use borrow.Author.Tests.{eqb-true, eq-eqb, le-ltb, ltb-false, not-false}
+use lib.ListN.{length, take, drop, drop-of-length-le}
+use lib.Seq.{drop-cons}
+use borrow.Author.Tests.{eqb-true, eqb-false, eq-eqb, le-ltb, ltb-false, not-false}
 use Rattle.answers.specs.Checks.{any}
 use Rattle.answers.proofs.Checks.{none-applies, none-of}
 use Rattle.words.specs.Bytes.{byte, four}
@@ -21,7 +21,7 @@ use Rattle.packet.specs.declared.TypeCode.the-variants.{Known, Unknown}
 use Rattle.packet.specs.declared.Request.{Request}
 use Rattle.packet.specs.declared.Decoded.{Decoded}
 use Rattle.packet.specs.declared.Decoded.the-variants.{Asks, Refused}
-use Rattle.packet.specs.Fields.{typeCode, typeOf, digest, poison, wrongField, wholeLength, dataOf}
+use Rattle.packet.specs.Fields.{typeCode, typeOf, poison, wrongField, wholeLength, dataOf}
 use Rattle.packet.specs.Request.{typed, unknown, writesOf, targetOf, packetChecks, packetNumber, requestOf, Decodes}
 use Rattle.packet.specs.Inner.{KnownHeader}
 use Rattle.packet.proofs.Laws.{number-past, positive, whole-is, offset-inside, offset-aligned, device-inside}
@@ -32,6 +32,35 @@ use Rattle.asking.specs.Writing.{outside, outOfRange, asksWrite, headerO
 use Rattle.asking.specs.Plain.{Octets, Plain, kindOf, partsOf}
 use Rattle.asking.proofs.Laws.{bytes-length}
 use Rattle.asking.proofs.Numbers.{served-packet, packet-length}
+
+-- the statements. The first: what the decoder reads from a packet written from these parts and data
+pub record ReadAs (a : Parts) (new packet : List ℕ) (r : Decoded) : Type 0 where
+  pub request : Request
+  pub asks : r ≡ Asks request
+  pub parts : partsOf request ≡ a
+  pub unpoisoned : request .poisoned ≡ false
+  pub «data» : request .writes ≡ true → dataOf packet ≡ four new 0
+
+-- "What we write must read back as the same request": every accepted request is read by the board's decoder as the same request, by its kind, fields,
+-- offset, enables and data
+abbrev pub AcceptedReadsBack : Type 0
+AcceptedReadsBack =
+    (a : Parts) (new buffer : List ℕ) (w : Written) (after : List ℕ) (r : Decoded) → Writes a new buffer w after → toldWritten w after .number ≡ 0
+    → Decodes (take (toldWritten w after .count) after) r → ReadAs a new (take (toldWritten w after .count) after) r
+
+-- every packet without digest and with its reserved bits clear is what the writer writes for what the decoder reads; without poison too, which
+-- document 02 does not give the writer
+abbrev pub PlainIsWritten : Type 0
+PlainIsWritten =
+    (p : List ℕ) (q : Request) → Octets p → Decodes p (Asks q) → Plain p → q .poisoned ≡ false
+    → (any (outside (partsOf q)) ≡ false) × (packetOf (partsOf q) (dataOf p) ≡ p)
+
+-- so the packets that the writer can write are exactly those
+abbrev pub WrittenExactly : Type 0
+WrittenExactly =
+    (p : List ℕ) → Octets p
+    → ((a : Parts) × (new : List ℕ) × (any (outside a) ≡ false) × (p ≡ packetOf a new))
+    ↔ ((packetNumber p ≡ 0) × Plain p × (poison (byte p 2) ≡ 0))
 
 -- ---- the kind and the type
 
@@ -237,3 +266,204 @@ module _ (a : Parts) (new : List ℕ) where
     pub data-is : asksWrite a ≡ true → dataOf (packetOf a new) ≡ four new 0
     unfolding packetOf
     data-is w = data-by (asksWrite a) w
+
+-- the same parts again
+parts-back : (a : Parts) → any (outside a) ≡ false → partsOf (asked a) ≡ a
+unfolding asked
+parts-back a e =
+    λ k.
+        record {
+          kind = sym (accepted a e .kind) k;
+          requester = a .requester;
+          tag = a .tag;
+          bus = a .bus;
+          device = a .device;
+          function = a .function;
+          offset = a .offset;
+          enables = a .enables;
+        }
+
+read-as : (a : Parts) (new : List ℕ) (r : Decoded) → any (outside a) ≡ false → Decodes (packetOf a new) r → ReadAs a new (packetOf a new) r
+unfolding asked
+read-as a new r e d =
+    record {
+      request = asked a;
+      asks = decode-unique (packetOf a new) r (Asks (asked a)) d (packet-number a new e, sym (request-is a new e));
+      parts = parts-back a e;
+      unpoisoned = refl;
+      «data» = data-is a new e;
+    }
+
+pub accepted-reads-back : AcceptedReadsBack
+accepted-reads-back a new buffer w after r e z d =
+    let s = served-packet a new buffer w after e z in
+    subst (λ (p : List ℕ). ReadAs a new p r) (sym (s .3)) (read-as a new r (s .0) (subst (λ (p : List ℕ). Decodes p r) (s .3) d))
+
+-- ---- a plain packet is written
+
+-- so many bytes from a place
+listed : List ℕ → ℕ → ℕ → List ℕ
+listed p at zero = []
+listed p at (suc n) = byte p at ∷ listed p (suc at) n
+
+listed-from : (p : List ℕ) (at n : ℕ) → length p ≡ at + n → drop at p ≡ listed p at n
+unfolding listed
+listed-from p at zero e = drop-of-length-le p {i = at} (omega arith)
+listed-from p at (suc n) e = drop-cons p at 0 (omega arith) ∙ ap (λ (l : List ℕ). byte p at ∷ l) (listed-from p (suc at) n (omega arith))
+
+with-tail : (p : List ℕ) (writes : Bool) → length p ≡ 12 + cond writes 4 0 → listed p 0 12 ++ cond writes (four p 12) [] ≡ p
+unfolding listed
+with-tail p true e = sym (listed-from p 0 16 e)
+with-tail p false e = sym (listed-from p 0 12 e)
+
+-- what the check 6 leaves
+record FieldsRight (one two three seven : ℕ) : Type 0 where
+  traffic : bits 6 4 one ≡ 0
+  attributes : bits 5 4 two ≡ 0
+  last : bits 7 4 seven ≡ 0
+  length : 256 * bits 1 0 two + three ≡ 1
+
+fields-right : (one two three seven : ℕ) → wrongField one two three seven ≡ false → FieldsRight one two three seven
+fields-right one two three seven e =
+    let n = none-of (not (eqb (bits 6 4 one) 0) ∷ not (eqb (bits 5 4 two) 0) ∷ not (eqb (bits 7 4 seven) 0) ∷ not (eqb (256 * bits 1 0 two + three) 1) ∷ []) e in
+    record {
+      traffic = eqb-true (bits 6 4 one) 0 (not-false _ (n .0));
+      attributes = eqb-true (bits 5 4 two) 0 (not-false _ (n .1 .0));
+      last = eqb-true (bits 7 4 seven) 0 (not-false _ (n .1 .1 .0));
+      length = eqb-true (256 * bits 1 0 two + three) 1 (not-false _ (n .1 .1 .1 .0));
+    }
+
+-- a byte all of whose fields are 0 is 0: from the top
+clear-7 : (n : ℕ) → n < 256 → bit 7 n ≡ 0 → n < 128
+clear-7 n h e = omega arith
+
+clear-6 : (n : ℕ) → n < 128 → bit 6 n ≡ 0 → n < 64
+clear-6 n h e = omega arith
+
+clear-6-4 : (n : ℕ) → n < 128 → bits 6 4 n ≡ 0 → n < 16
+clear-6-4 n h e = omega arith
+
+clear-5-4 : (n : ℕ) → n < 64 → bits 5 4 n ≡ 0 → n < 16
+clear-5-4 n h e = omega arith
+
+clear-3-2 : (n : ℕ) → n < 16 → bits 3 2 n ≡ 0 → n < 4
+clear-3-2 n h e = omega arith
+
+clear-3-0 : (n : ℕ) → n < 16 → bits 3 0 n ≡ 0 → n ≡ 0
+clear-3-0 n h e = omega arith
+
+clear-1-0 : (n : ℕ) → n < 4 → bits 1 0 n ≡ 0 → n ≡ 0
+clear-1-0 n h e = omega arith
+
+module _ (p : List ℕ) (octets : Octets p) (e : packetNumber p ≡ 0) (plain : Plain p) (clean : poison (byte p 2) ≡ 0) where
+  known : typed p ≡ Known (writesOf (typed p)) (targetOf (typed p))
+  known = is-known (typed p) (none-applies (packetChecks p) (positive p) e _ (List·Memᴰ·tail (List·Memᴰ·head refl)))
+
+  code : byte p 0 ≡ kindOf (writesOf (typed p)) (targetOf (typed p))
+  code =
+      let c : typeCode (byte p 0) ≡ byte p 0 = omega (arith, octets 0, plain .first) in
+      sym c ∙ kind-is (typeCode (byte p 0)) (writesOf (typed p)) (targetOf (typed p)) known
+
+  right : FieldsRight (byte p 1) (byte p 2) (byte p 3) (byte p 7)
+  right =
+      fields-right (byte p 1) (byte p 2) (byte p 3) (byte p 7)
+      (none-applies (packetChecks p) (positive p) e _ (List·Memᴰ·tail (List·Memᴰ·tail (List·Memᴰ·tail (List·Memᴰ·head refl)))))
+
+  one : byte p 1 ≡ 0
+  one = clear-3-0 _ (clear-6-4 _ (clear-7 (byte p 1) (octets 1) (plain .one .0)) (right .traffic)) (plain .one .1)
+
+  two : byte p 2 ≡ 0
+  two =
+      let low : bits 1 0 (byte p 2) ≡ 0 = omega (arith, right .length) in
+      clear-1-0 _ (clear-3-2 _ (clear-5-4 _ (clear-6 _ (clear-7 (byte p 2) (octets 2) (plain .undigested)) clean) (right .attributes)) (plain .two)) low
+
+  three : byte p 3 ≡ 1
+  three = omega (arith, right .length)
+
+  seven : bits 3 0 (byte p 7) ≡ byte p 7
+  seven = omega (arith, octets 7, right .last)
+
+  nine : bits 7 3 (byte p 9) * 8 + bits 2 0 (byte p 9) ≡ byte p 9
+  nine = omega (arith, octets 9)
+
+  ten : (256 * bits 3 0 (byte p 10) + 4 * bits 7 2 (byte p 11)) / 256 ≡ byte p 10
+  ten = omega (arith, octets 10, octets 11, plain .ten)
+
+  eleven : (256 * bits 3 0 (byte p 10) + 4 * bits 7 2 (byte p 11)) % 256 ≡ byte p 11
+  eleven = omega (arith, octets 10, octets 11, plain .eleven)
+
+  header-back : headerOf (partsOf (requestOf p)) ≡ listed p 0 12
+  unfolding headerOf requestOf listed
+  header-back =
+      λ k.
+          sym code k ∷ sym one k ∷ sym two k ∷ sym three k
+          ∷ byte p 4 ∷ byte p 5 ∷ byte p 6 ∷ seven k
+          ∷ byte p 8 ∷ nine k ∷ ten k ∷ eleven k
+          ∷ []
+
+  type-back : typeOf (partsOf (requestOf p) .kind) ≡ Known (writesOf (typed p)) (targetOf (typed p))
+  unfolding requestOf
+  type-back = type-of-kind (writesOf (typed p)) (targetOf (typed p))
+
+  size : length p ≡ 12 + cond (writesOf (typed p)) 4 0
+  size = whole-is p e ∙ omega (arith, plain .undigested)
+
+  packet-back : packetOf (partsOf (requestOf p)) (dataOf p) ≡ p
+  unfolding packetOf
+  packet-back = rw (header-back, type-back) (with-tail p (writesOf (typed p)) size)
+
+  inside-back : any (outside (partsOf (requestOf p))) ≡ false
+  unfolding requestOf
+  inside-back =
+      rw (
+        type-of-kind (writesOf (typed p)) (targetOf (typed p)),
+        le-ltb 31 (bits 7 3 (byte p 9)) (omega arith),
+        le-ltb 7 (bits 2 0 (byte p 9)) (omega arith),
+        le-ltb 0xffc (256 * bits 3 0 (byte p 10) + 4 * bits 7 2 (byte p 11)) (omega arith),
+        eq-eqb ((256 * bits 3 0 (byte p 10) + 4 * bits 7 2 (byte p 11)) % 4) 0 (omega arith),
+        le-ltb 15 (bits 3 0 (byte p 7)) (omega arith),
+      )
+
+unpoisoned : (two : ℕ) → eqb (poison two) 1 ≡ false → poison two ≡ 0
+unpoisoned two e = let h = eqb-false (poison two) 1 e in omega (arith, h)
+
+pub plain-is-written : PlainIsWritten
+unfolding requestOf
+plain-is-written p q octets d plain clean =
+    let c : poison (byte p 2) ≡ 0 = unpoisoned (byte p 2) (sym (ap (λ (x : Request). x .poisoned) (d .1)) ∙ clean) in
+    (
+      subst (λ (x : Request). any (outside (partsOf x)) ≡ false) (sym (d .1)) (inside-back p octets (d .0) plain c),
+      subst (λ (x : Request). packetOf (partsOf x) (dataOf p) ≡ p) (sym (d .1)) (packet-back p octets (d .0) plain c),
+    )
+
+-- ---- exactly the plain ones
+
+-- no kind has bit 7
+kind-plain : (writes : Bool) (target : Target) → bit 7 (kindOf writes target) ≡ 0
+kind-plain false Type0 = refl
+kind-plain true Type0 = refl
+kind-plain false Type1 = refl
+kind-plain true Type1 = refl
+kind-plain false Trusted = refl
+kind-plain true Trusted = refl
+
+written-plain : (a : Parts) (new : List ℕ) → any (outside a) ≡ false → Plain (packetOf a new)
+written-plain a new e =
+    let i = accepted a e in
+    record {
+      first = rw (byte-0 a new, i .kind) (kind-plain (asksWrite a) (targetOf (typeOf (a .kind))));
+      one = (rw (byte-1 a new), rw (byte-1 a new));
+      two = rw (byte-2 a new);
+      undigested = rw (byte-2 a new);
+      ten = rw (byte-10 a new) (omega (arith, i .offset));
+      eleven = rw (byte-11 a new) (omega (arith, i .aligned));
+    }
+
+pub written-exactly : WrittenExactly
+written-exactly p octets =
+    (
+      λ h.
+          subst (λ (x : List ℕ). (packetNumber x ≡ 0) × Plain x × (poison (byte x 2) ≡ 0)) (sym (h .3))
+          (packet-number (h .0) (h .1) (h .2), written-plain (h .0) (h .1) (h .2), rw (byte-2 (h .0) (h .1))),
+      λ h. (partsOf (requestOf p), dataOf p, inside-back p octets (h .0) (h .1) (h .2), sym (packet-back p octets (h .0) (h .1) (h .2))),
+    )
