@@ -1,11 +1,13 @@
--- X. Assumes nothing.
+-- THEOREM. Document 02, 5/13, "What we write must read back as the same request": every accepted request is read by the board's decoder as the
+-- same request. Every packet without digest and poison and with its reserved bits clear is what the writer writes for what the decoder reads, so
+-- the writer can write exactly these. Assumes nothing.
 use Prim.Native.Nat.{ℕ, zero, suc, _+_, _*_, _/_, _%_, _≤_, _<_}
 use mathlib.Core.Bool.{Bool, true, false, not, cond}
 use mathlib.Core.List.{List, [], _∷_, _++_, List·Memᴰ.List·Memᴰ·head, List·Memᴰ.List·Memᴰ·tail}
 use mathlib.Core.Logic.{_↔_}
 use mathlib.Core.Path.{_≡_, refl, sym, ap, _∙_, subst}
 use native.Mathlib.Omega.{arith}
-use lib.Dec.{eqb, ltb}
+use lib.Dec.{eqb}
 use lib.ListN.{length, take, drop, drop-of-length-le}
 use lib.Seq.{drop-cons}
 use borrow.Author.Tests.{eqb-true, eqb-false, eq-eqb, le-ltb, ltb-false, not-false}
@@ -20,18 +22,17 @@ use Rattle.packet.specs.declared.TypeCode.{TypeCode}
 use Rattle.packet.specs.declared.TypeCode.the-variants.{Known, Unknown}
 use Rattle.packet.specs.declared.Request.{Request}
 use Rattle.packet.specs.declared.Decoded.{Decoded}
-use Rattle.packet.specs.declared.Decoded.the-variants.{Asks, Refused}
+use Rattle.packet.specs.declared.Decoded.the-variants.{Asks}
 use Rattle.packet.specs.Fields.{typeCode, typeOf, poison, wrongField, wholeLength, dataOf}
 use Rattle.packet.specs.Request.{typed, unknown, writesOf, targetOf, packetChecks, packetNumber, requestOf, Decodes}
-use Rattle.packet.specs.Inner.{KnownHeader}
-use Rattle.packet.proofs.Laws.{number-past, positive, whole-is, offset-inside, offset-aligned, device-inside}
+use Rattle.packet.proofs.Laws.{number-past, positive, whole-is}
 use Rattle.packet.proofs.Unique.{decode-unique}
 use Rattle.asking.specs.declared.Parts.{Parts}
 use Rattle.asking.specs.declared.Written.{Written}
-use Rattle.asking.specs.Writing.{outside, outOfRange, asksWrite, headerOf, packetOf, toldWritten, Writes}
+use Rattle.asking.specs.Writing.{outside, asksWrite, headerOf, packetOf, toldWritten, Writes}
 use Rattle.asking.specs.Plain.{Octets, Plain, kindOf, partsOf}
 use Rattle.asking.proofs.Laws.{bytes-length}
-use Rattle.asking.proofs.Numbers.{served-packet, packet-length}
+use Rattle.asking.proofs.Numbers.{served-packet}
 
 -- the statements. The first: what the decoder reads from a packet written from these parts and data
 pub record ReadAs (a : Parts) (new packet : List ℕ) (r : Decoded) : Type 0 where
@@ -41,21 +42,20 @@ pub record ReadAs (a : Parts) (new packet : List ℕ) (r : Decoded) : Type 0 whe
   pub unpoisoned : request .poisoned ≡ false
   pub «data» : request .writes ≡ true → dataOf packet ≡ four new 0
 
--- "What we write must read back as the same request": every accepted request is read by the board's decoder as the same request, by its kind, fields,
--- offset, enables and data
+-- every accepted request is read by the board's decoder as the same request: kind, fields, offset, enables and data
 abbrev pub AcceptedReadsBack : Type 0
 AcceptedReadsBack =
-    (a : Parts) (new buffer : List ℕ) (w : Written) (after : List ℕ) (r : Decoded) → Writes a new buffer w after → toldWritten w after .number ≡ 0
-    → Decodes (take (toldWritten w after .count) after) r → ReadAs a new (take (toldWritten w after .count) after) r
+    (a : Parts) (new buffer : List ℕ) (w : Written) (after : List ℕ) (r : Decoded) → Writes a new buffer w after
+    → toldWritten w after .number ≡ 0 → Decodes (take (toldWritten w after .count) after) r → ReadAs a new (take (toldWritten w after .count) after) r
 
--- every packet without digest and with its reserved bits clear is what the writer writes for what the decoder reads; without poison too, which
--- document 02 does not give the writer
+-- every packet without digest and with its reserved bits clear is what the writer writes for what the decoder reads. Its poison is clear too:
+-- document 02 gives the writer none
 abbrev pub PlainIsWritten : Type 0
 PlainIsWritten =
     (p : List ℕ) (q : Request) → Octets p → Decodes p (Asks q) → Plain p → q .poisoned ≡ false
     → (any (outside (partsOf q)) ≡ false) × (packetOf (partsOf q) (dataOf p) ≡ p)
 
--- so the packets that the writer can write are exactly those
+-- so the packets that the writer can write are exactly those that decode and are plain and without poison
 abbrev pub WrittenExactly : Type 0
 WrittenExactly =
     (p : List ℕ) → Octets p
@@ -64,25 +64,30 @@ WrittenExactly =
 
 -- ---- the kind and the type
 
+apart : true ≡ false → ⊥
+apart e = let z : _≡_ {A = ℕ} 1 0 = ap (λ (b : Bool). cond b 1 0) e in omega (arith, z)
+
+-- each type has one kind
 kind-is : (code : ℕ) (writes : Bool) (target : Target) → typeOf code ≡ Known writes target → code ≡ kindOf writes target
 unfolding typeOf
 kind-is code writes target =
     go (eqb code 0x04) (eqb code 0x44) (eqb code 0x05) (eqb code 0x45) (eqb code 0x1b) (eqb code 0x5b) refl refl refl refl refl refl
   where
-    give : (code k : ℕ) (w : Bool) (t : Target) → k ≡ kindOf w t → eqb code k ≡ true → Known w t ≡ Known writes target → code ≡ kindOf writes target
-    give code k w t i e h = eqb-true code k e ∙ i ∙ ap (λ (x : TypeCode). kindOf (writesOf x) (targetOf x)) h
+    give : (w : Bool) (t : Target) → eqb code (kindOf w t) ≡ true → Known w t ≡ Known writes target → code ≡ kindOf writes target
+    give w t e h = eqb-true code (kindOf w t) e ∙ ap (λ (x : TypeCode). kindOf (writesOf x) (targetOf x)) h
 
-    go : (a b c d e f : Bool) → eqb code 0x04 ≡ a → eqb code 0x44 ≡ b → eqb code 0x05 ≡ c → eqb code 0x45 ≡ d → eqb code 0x1b ≡ e → eqb code 0x5b ≡ f
+    go : (a b c d e f : Bool) → eqb code 0x04 ≡ a → eqb code 0x44 ≡ b → eqb code 0x05 ≡ c → eqb code 0x45 ≡ d → eqb code 0x1b ≡ e
+        → eqb code 0x5b ≡ f
         → cond a (Known false Type0) (cond b (Known true Type0) (cond c (Known false Type1) (cond d (Known true Type1)
         (cond e (Known false Trusted) (cond f (Known true Trusted) Unknown)))))
         ≡ Known writes target → code ≡ kindOf writes target
-    go true b c d e f h i j k l m x = give code 0x04 false Type0 refl h x
-    go false true c d e f h i j k l m x = give code 0x44 true Type0 refl i x
-    go false false true d e f h i j k l m x = give code 0x05 false Type1 refl j x
-    go false false false true e f h i j k l m x = give code 0x45 true Type1 refl k x
-    go false false false false true f h i j k l m x = give code 0x1b false Trusted refl l x
-    go false false false false false true h i j k l m x = give code 0x5b true Trusted refl m x
-    go false false false false false false h i j k l m x = let z : _≡_ {A = Bool} true false = ap unknown x in let y : _≡_ {A = ℕ} 1 0 = ap (λ (b : Bool). cond b 1 0) z in absurd (omega arith)
+    go true b c d e f h i j k l m x = give false Type0 h x
+    go false true c d e f h i j k l m x = give true Type0 i x
+    go false false true d e f h i j k l m x = give false Type1 j x
+    go false false false true e f h i j k l m x = give true Type1 k x
+    go false false false false true f h i j k l m x = give false Trusted l x
+    go false false false false false true h i j k l m x = give true Trusted m x
+    go false false false false false false h i j k l m x = absurd (apart (ap unknown x))
 
 type-of-kind : (writes : Bool) (target : Target) → typeOf (kindOf writes target) ≡ Known writes target
 unfolding typeOf
@@ -104,7 +109,7 @@ code-of-kind true Trusted = refl
 
 is-known : (t : TypeCode) → unknown t ≡ false → t ≡ Known (writesOf t) (targetOf t)
 is-known (Known writes target) e = refl
-is-known Unknown e = let y : _≡_ {A = ℕ} 1 0 = ap (λ (b : Bool). cond b 1 0) e in absurd (omega arith)
+is-known Unknown e = absurd (apart e)
 
 -- ---- a written packet is read
 
@@ -141,7 +146,7 @@ offset-back offset h e =
     rw (high, low) (omega arith)
 
 -- the request that parts ask for
-pub asked : Parts → Request
+unfoldable pub asked : Parts → Request
 asked a =
     record {
       target = targetOf (typeOf (a .kind));
@@ -205,13 +210,14 @@ module _ (a : Parts) (new : List ℕ) where
   data-by : (writes : Bool) → writes ≡ true → dataOf (headerOf a ++ cond writes (four new 0) []) ≡ four new 0
   unfolding headerOf
   data-by true e = refl
-  data-by false e = let y : _≡_ {A = ℕ} 0 1 = ap (λ (b : Bool). cond b 1 0) e in absurd (omega arith)
+  data-by false e = absurd (apart (sym e))
 
   module _ (e : any (outside a) ≡ false) where
     typed-is : typed (packetOf a new) ≡ typeOf (a .kind)
     typed-is =
         let i = accepted a e in
-        ap (λ (n : ℕ). typeOf (typeCode n)) (byte-0 ∙ i .kind) ∙ ap typeOf (code-of-kind (asksWrite a) (targetOf (typeOf (a .kind))) ∙ sym (i .kind))
+        ap (λ (n : ℕ). typeOf (typeCode n)) (byte-0 ∙ i .kind)
+        ∙ ap typeOf (code-of-kind (asksWrite a) (targetOf (typeOf (a .kind))) ∙ sym (i .kind))
 
     fields-are : wrongField (byte (packetOf a new) 1) (byte (packetOf a new) 2) (byte (packetOf a new) 3) (byte (packetOf a new) 7) ≡ false
     fields-are =
@@ -246,22 +252,21 @@ module _ (a : Parts) (new : List ℕ) where
         let f : (byte (packetOf a new) 9 / 1) % 8 ≡ a .function = omega (arith, byte-9, i .device, i .function) in
         let n : (byte (packetOf a new) 7 / 1) % 16 ≡ a .enables = omega (arith, byte-7, i .enables) in
         let o : 256 * ((byte (packetOf a new) 10 / 1) % 16) + 4 * ((byte (packetOf a new) 11 / 4) % 64) ≡ a .offset =
-            rw (byte-10, byte-11) (offset-back (a .offset) (i .offset) (i .aligned)) in
-        let r : _≡_ {A = Id} (record { high = byte (packetOf a new) 4; low = byte (packetOf a new) 5 }) (a .requester) = the-requester in
+        rw (byte-10, byte-11) (offset-back (a .offset) (i .offset) (i .aligned)) in
         let p : eqb (poison (byte (packetOf a new) 2)) 1 ≡ false = rw byte-2 in
         λ k.
-            record {
-              target = targetOf (typed-is k);
-              writes = writesOf (typed-is k);
-              poisoned = p k;
-              requester = r k;
-              tag = byte-6 k;
-              enables = n k;
-              bus = byte-8 k;
-              device = d k;
-              function = f k;
-              offset = o k;
-            }
+        record {
+          target = targetOf (typed-is k);
+          writes = writesOf (typed-is k);
+          poisoned = p k;
+          requester = the-requester k;
+          tag = byte-6 k;
+          enables = n k;
+          bus = byte-8 k;
+          device = d k;
+          function = f k;
+          offset = o k;
+        }
 
     pub data-is : asksWrite a ≡ true → dataOf (packetOf a new) ≡ four new 0
     unfolding packetOf
@@ -272,16 +277,16 @@ parts-back : (a : Parts) → any (outside a) ≡ false → partsOf (asked a) ≡
 unfolding asked
 parts-back a e =
     λ k.
-        record {
-          kind = sym (accepted a e .kind) k;
-          requester = a .requester;
-          tag = a .tag;
-          bus = a .bus;
-          device = a .device;
-          function = a .function;
-          offset = a .offset;
-          enables = a .enables;
-        }
+    record {
+      kind = sym (accepted a e .kind) k;
+      requester = a .requester;
+      tag = a .tag;
+      bus = a .bus;
+      device = a .device;
+      function = a .function;
+      offset = a .offset;
+      enables = a .enables;
+    }
 
 read-as : (a : Parts) (new : List ℕ) (r : Decoded) → any (outside a) ≡ false → Decodes (packetOf a new) r → ReadAs a new (packetOf a new) r
 unfolding asked
@@ -301,7 +306,7 @@ accepted-reads-back a new buffer w after r e z d =
 
 -- ---- a plain packet is written
 
--- so many bytes from a place
+-- so many bytes from a place on; a list is its bytes
 listed : List ℕ → ℕ → ℕ → List ℕ
 listed p at zero = []
 listed p at (suc n) = byte p at ∷ listed p (suc at) n
@@ -325,7 +330,9 @@ record FieldsRight (one two three seven : ℕ) : Type 0 where
 
 fields-right : (one two three seven : ℕ) → wrongField one two three seven ≡ false → FieldsRight one two three seven
 fields-right one two three seven e =
-    let n = none-of (not (eqb (bits 6 4 one) 0) ∷ not (eqb (bits 5 4 two) 0) ∷ not (eqb (bits 7 4 seven) 0) ∷ not (eqb (256 * bits 1 0 two + three) 1) ∷ []) e in
+    let faults : List Bool =
+    not (eqb (bits 6 4 one) 0) ∷ not (eqb (bits 5 4 two) 0) ∷ not (eqb (bits 7 4 seven) 0) ∷ not (eqb (256 * bits 1 0 two + three) 1) ∷ [] in
+    let n = none-of faults e in
     record {
       traffic = eqb-true (bits 6 4 one) 0 (not-false _ (n .0));
       attributes = eqb-true (bits 5 4 two) 0 (not-false _ (n .1 .0));
@@ -375,7 +382,8 @@ module _ (p : List ℕ) (octets : Octets p) (e : packetNumber p ≡ 0) (plain : 
   two : byte p 2 ≡ 0
   two =
       let low : bits 1 0 (byte p 2) ≡ 0 = omega (arith, right .length) in
-      clear-1-0 _ (clear-3-2 _ (clear-5-4 _ (clear-6 _ (clear-7 (byte p 2) (octets 2) (plain .undigested)) clean) (right .attributes)) (plain .two)) low
+      let high = clear-6 _ (clear-7 (byte p 2) (octets 2) (plain .undigested)) clean in
+      clear-1-0 _ (clear-3-2 _ (clear-5-4 _ high (right .attributes)) (plain .two)) low
 
   three : byte p 3 ≡ 1
   three = omega (arith, right .length)
@@ -396,11 +404,12 @@ module _ (p : List ℕ) (octets : Octets p) (e : packetNumber p ≡ 0) (plain : 
   unfolding headerOf requestOf listed
   header-back =
       λ k.
-          sym code k ∷ sym one k ∷ sym two k ∷ sym three k
-          ∷ byte p 4 ∷ byte p 5 ∷ byte p 6 ∷ seven k
-          ∷ byte p 8 ∷ nine k ∷ ten k ∷ eleven k
-          ∷ []
+      sym code k ∷ sym one k ∷ sym two k ∷ sym three k
+      ∷ byte p 4 ∷ byte p 5 ∷ byte p 6 ∷ seven k
+      ∷ byte p 8 ∷ nine k ∷ ten k ∷ eleven k
+      ∷ []
 
+  -- the type is read again from the kind
   type-back : typeOf (partsOf (requestOf p) .kind) ≡ Known (writesOf (typed p)) (targetOf (typed p))
   unfolding requestOf
   type-back = type-of-kind (writesOf (typed p)) (targetOf (typed p))
@@ -424,14 +433,14 @@ module _ (p : List ℕ) (octets : Octets p) (e : packetNumber p ≡ 0) (plain : 
         le-ltb 15 (bits 3 0 (byte p 7)) (omega arith),
       )
 
+-- a poison bit that is not 1 is 0
 unpoisoned : (two : ℕ) → eqb (poison two) 1 ≡ false → poison two ≡ 0
 unpoisoned two e = let h = eqb-false (poison two) 1 e in omega (arith, h)
 
 pub plain-is-written : PlainIsWritten
 unfolding requestOf
 plain-is-written p q octets d plain clean =
-    let c : poison (byte p 2) ≡ 0 = unpoisoned (byte p 2) (sym (ap (λ (x : Request). x .poisoned) (d .1)) ∙ clean) in
-    (
+    let c : poison (byte p 2) ≡ 0 = unpoisoned (byte p 2) (sym (ap (λ (x : Request). x .poisoned) (d .1)) ∙ clean) in (
       subst (λ (x : Request). any (outside (partsOf x)) ≡ false) (sym (d .1)) (inside-back p octets (d .0) plain c),
       subst (λ (x : Request). packetOf (partsOf x) (dataOf p) ≡ p) (sym (d .1)) (packet-back p octets (d .0) plain c),
     )
@@ -460,10 +469,9 @@ written-plain a new e =
     }
 
 pub written-exactly : WrittenExactly
-written-exactly p octets =
-    (
-      λ h.
-          subst (λ (x : List ℕ). (packetNumber x ≡ 0) × Plain x × (poison (byte x 2) ≡ 0)) (sym (h .3))
-          (packet-number (h .0) (h .1) (h .2), written-plain (h .0) (h .1) (h .2), rw (byte-2 (h .0) (h .1))),
-      λ h. (partsOf (requestOf p), dataOf p, inside-back p octets (h .0) (h .1) (h .2), sym (packet-back p octets (h .0) (h .1) (h .2))),
-    )
+written-exactly p octets = (
+  λ h.
+      subst (λ (x : List ℕ). (packetNumber x ≡ 0) × Plain x × (poison (byte x 2) ≡ 0)) (sym (h .3))
+      (packet-number (h .0) (h .1) (h .2), written-plain (h .0) (h .1) (h .2), rw (byte-2 (h .0) (h .1))),
+  λ h. (partsOf (requestOf p), dataOf p, inside-back p octets (h .0) (h .1) (h .2), sym (packet-back p octets (h .0) (h .1) (h .2))),
+)

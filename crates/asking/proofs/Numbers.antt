@@ -1,8 +1,9 @@
--- THEOREM. `asking::write_request` gives the lowest number of its checks that applies, and writes exactly if none applies; it gives no other number than 1
--- and 2. A refusal writes nothing; otherwise the buffer begins with the request, and the bytes past it stay. `asking::read_completion` gives the lowest
--- number of its checks that applies, and hears a completion exactly if none applies; it gives no other number than 3 to 6. Assumes nothing.
+-- THEOREM. `asking::write_request` gives the lowest number of its checks that applies, and writes exactly if none applies; it gives no other
+-- number than 1 and 2. A refusal leaves the buffer as lent; otherwise it begins with the request, and the bytes past it stay.
+-- `asking::read_completion` gives the lowest number of its checks that applies, and hears a completion exactly if none applies; it gives no
+-- other number than 3 to 6. Assumes nothing.
 use Prim.Native.Nat.{ℕ, zero, suc, _≤_}
-use mathlib.Core.Bool.{Bool, true, false, cond}
+use mathlib.Core.Bool.{false}
 use mathlib.Core.List.{List, [], _∷_, _++_, List·Memᴰ, List·Memᴰ.List·Memᴰ·head, List·Memᴰ.List·Memᴰ·tail}
 use mathlib.Core.Path.{_≡_, refl, sym, ap, _∙_, subst}
 use native.Mathlib.Omega.{arith}
@@ -18,7 +19,7 @@ use Rattle.asking.specs.declared.Written.the-variants.{Bytes}
 use Rattle.asking.specs.declared.Written.the-variants as written
 use Rattle.asking.specs.declared.Heard.{Heard}
 use Rattle.asking.specs.declared.Heard.the-variants.{Says, Refused}
-use Rattle.asking.specs.Writing.{outside, asksWrite, wholeOf, writeChecks, writeNumber, headerOf, packetOf, SeenWritten, toldWritten, showsWritten, Writes}
+use Rattle.asking.specs.Writing.{outside, asksWrite, wholeOf, writeChecks, writeNumber, packetOf, SeenWritten, toldWritten, showsWritten, Writes}
 use Rattle.asking.specs.Reading.{readChecks, readNumber, Reads}
 use Rattle.asking.proofs.Laws.{bytes-length}
 
@@ -67,7 +68,7 @@ pub packet-length : (a : Parts) (new : List ℕ) → length (packetOf a new) ≡
 unfolding packetOf
 packet-length a new = bytes-length a new (asksWrite a)
 
--- what the promised showing says, over a variable number
+-- what the promise shows, as the number is 0 or not
 module _ (a : Parts) (new buffer : List ℕ) where
   number-shown : showsWritten a new buffer .number ≡ writeNumber a (length buffer)
   unfolding showsWritten
@@ -87,7 +88,8 @@ module _ (a : Parts) (new buffer : List ℕ) where
 
   served-room : writeNumber a (length buffer) ≡ 0 → wholeOf a ≤ length buffer
   served-room e =
-      ltb-false (length buffer) (wholeOf a) (none-applies (writeChecks a (length buffer)) (positive a (length buffer)) e _ (List·Memᴰ·tail (List·Memᴰ·head refl)))
+      ltb-false (length buffer) (wholeOf a)
+      (none-applies (writeChecks a (length buffer)) (positive a (length buffer)) e _ (List·Memᴰ·tail (List·Memᴰ·head refl)))
 
   served : (seen : SeenWritten) → writeNumber a (length buffer) ≡ 0 → seen ≡ showsWritten a new buffer → Served a new buffer seen
   served seen e s =
@@ -99,10 +101,12 @@ module _ (a : Parts) (new buffer : List ℕ) where
         room = served-room e;
         count = size ∙ packet-length a new;
         packet = rw bytes (take-at (packetOf a new) (drop (length (packetOf a new)) buffer) (seen .count) (sym size));
-        stays = rw bytes (drop-at (packetOf a new) (drop (length (packetOf a new)) buffer) (seen .count) (sym size) ∙ ap (λ (n : ℕ). drop n buffer) (sym size));
+        stays = rw bytes
+            (drop-at (packetOf a new) (drop (length (packetOf a new)) buffer) (seen .count) (sym size) ∙ ap (λ (n : ℕ). drop n buffer) (sym size));
       }
 
-  refused : (seen : SeenWritten) (n : ℕ) → writeNumber a (length buffer) ≡ n → (n ≡ 0 → ⊥) → seen ≡ showsWritten a new buffer → Unwritten buffer seen
+  refused : (seen : SeenWritten) (n : ℕ) → writeNumber a (length buffer) ≡ n → (n ≡ 0 → ⊥) → seen ≡ showsWritten a new buffer
+      → Unwritten buffer seen
   refused seen zero e h s = absurd (h refl)
   refused seen (suc n) e h s =
       let shown = s ∙ refused-shown n e in
@@ -110,11 +114,12 @@ module _ (a : Parts) (new buffer : List ℕ) where
 
   pub write-answer : (w : Written) (after : List ℕ) → Writes a new buffer w after → WriteAnswer a new buffer (toldWritten w after)
   write-answer w after e =
+      let cs = writeChecks a (length buffer) in
       let n : writeNumber a (length buffer) ≡ toldWritten w after .number = sym (ap (λ (x : SeenWritten). x .number) e ∙ number-shown) in
       record {
         numbers = record {
-          lowest = subst (Lowest (writeChecks a (length buffer))) n (gives-lowest (writeChecks a (length buffer)) (positive a (length buffer)) (rising a (length buffer)));
-          only = subst (λ (m : ℕ). List·Memᴰ m (0 ∷ 1 ∷ 2 ∷ [])) n (gives-one-of (writeChecks a (length buffer)));
+          lowest = subst (Lowest cs) n (gives-lowest cs (positive a (length buffer)) (rising a (length buffer)));
+          only = subst (λ (m : ℕ). List·Memᴰ m (0 ∷ 1 ∷ 2 ∷ [])) n (gives-one-of cs);
         };
         served = λ z. served (toldWritten w after) (n ∙ z) e;
         refused = λ h. refused (toldWritten w after) _ n h e;

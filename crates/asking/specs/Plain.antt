@@ -1,5 +1,5 @@
--- What the statements of proofs/Asked.antt say of packets and requests: document 02, 5/13, "What we write must read back as the same request". Assumes
--- nothing.
+-- What the statements of proofs/Asked.antt say of packets and requests: document 02, 5/13, "What we write must read back as the same request".
+-- Assumes nothing.
 use Prim.Native.Nat.{ℕ, _<_}
 use mathlib.Core.Bool.{Bool, true, false}
 use mathlib.Core.List.{List}
