@@ -27,16 +27,18 @@ otherStatus withData six = not (eqb six (statusByte Success)) && (withData || no
 
 -- "6 any other byte that no reply of document 01 with that first byte has at its place": with data or without, the bytes 1, 2, 3, 6, 7 and 11. That these
 -- are the places where a reply has not every byte, and which bytes it has there, is shown over the board: circle/proofs/Exactly.antt
-abbrev pub neverSentAt : Bool → ℕ → ℕ → ℕ → ℕ → ℕ → ℕ → Bool
-neverSentAt withData one two three six seven eleven =
-    any
-    (not (eqb one 0x00)
+abbrev pub otherBytes : Bool → ℕ → ℕ → ℕ → ℕ → ℕ → ℕ → List Bool
+otherBytes withData one two three six seven eleven =
+    not (eqb one 0x00)
     ∷ not (eqb two 0x00)
     ∷ not (eqb three (cond withData 1 0))
     ∷ otherStatus withData six
     ∷ not (eqb seven 0x04)
     ∷ not (eqb eleven 0x00)
-    ∷ [])
+    ∷ []
+
+abbrev pub neverSentAt : Bool → ℕ → ℕ → ℕ → ℕ → ℕ → ℕ → Bool
+neverSentAt withData one two three six seven eleven = any (otherBytes withData one two three six seven eleven)
 
 abbrev pub neverSent : List ℕ → Bool
 neverSent c = neverSentAt (hasData c) (byte c 1) (byte c 2) (byte c 3) (byte c 6) (byte c 7) (byte c 11)
