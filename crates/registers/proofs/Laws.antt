@@ -1,16 +1,17 @@
 -- Laws of the merge and the read, for the proofs above: callers use these and not the definitions' text. Assumes nothing.
 use Prim.Native.Nat.{ℕ, suc, zero, _+_, _*_, _/_, _^_, _<_}
-use mathlib.Core.Bool.{true, false}
+use mathlib.Core.Bool.{Bool, true, false}
 use mathlib.Core.List.{List}
+use mathlib.Core.Logic.{_⊎_, inl, inr}
 use mathlib.Core.Path.{_≡_, refl, sym, ap, _∙_}
 use native.Mathlib.Nat.{mod-lt, zero-lt-suc, le-of-suc-le-suc, not-suc-le-zero, pow-suc}
 use native.Mathlib.Omega.{arith}
 use lib.Bits.{bitAnd, and-mask}
 use lib.ListN.{length}
 use borrow.Author.Tests.{eq-eqb, ne-eqb}
-use Rattle.words.specs.Bytes.{four}
+use Rattle.words.specs.Bytes.{byte, four}
 use Rattle.words.specs.Fields.{bit}
-use Rattle.registers.specs.Merge.{lowestSet, merged, mergedByte, mergedBit, fromBits}
+use Rattle.registers.specs.Merge.{lowestSet, enabled, writtenByte, merged, mergedByte, mergedBit, fromBits}
 use Rattle.registers.proofs.Masks.{from-low, bit-suc, bit-zero}
 
 -- the test that the code makes of the lowest enable
@@ -64,3 +65,34 @@ merged-byte-lt old rule new =
 pub merged-four : (old rules new : List ℕ) (enables : ℕ) → four (merged old rules new enables) 0 ≡ merged old rules new enables
 unfolding merged
 merged-four old rules new enables = refl
+
+-- ---- a merge, bit by bit
+
+-- the byte at each place of a merge
+merged-at : (old rules new : List ℕ) (enables k : ℕ) → k < 4 → byte (merged old rules new enables) k ≡ writtenByte enables old rules new k
+unfolding merged
+merged-at old rules new enables zero h = refl
+merged-at old rules new enables (suc zero) h = refl
+merged-at old rules new enables (suc (suc zero)) h = refl
+merged-at old rules new enables (suc (suc (suc zero))) h = refl
+merged-at old rules new enables (suc (suc (suc (suc k)))) h = absurd (omega arith)
+
+module _ (old rules new : List ℕ) (enables k j : ℕ) (h : k < 4) (i : j < 8) where
+  merged-bit : enabled k enables ≡ true
+      → bit j (byte (merged old rules new enables) k) ≡ mergedBit (bit j (byte rules k)) (bit j (byte old k)) (bit j (byte new k))
+  merged-bit e =
+      ap (bit j) (merged-at old rules new enables k h ∙ rw e) ∙ merged-byte-bit (byte old k) (byte rules k) (byte new k) j i
+
+  -- an enabled writable bit is the data's
+  pub merged-taken : enabled k enables ≡ true → bit j (byte rules k) ≡ 1 → bit j (byte (merged old rules new enables) k) ≡ bit j (byte new k)
+  merged-taken e w = merged-bit e ∙ rw w
+
+  kept-by : (enable : Bool) → enabled k enables ≡ enable → (enable ≡ false) ⊎ (bit j (byte rules k) ≡ 0)
+      → bit j (byte (merged old rules new enables) k) ≡ bit j (byte old k)
+  kept-by false e c = ap (bit j) (merged-at old rules new enables k h ∙ rw e)
+  kept-by true e (inl f) = let z : _≡_ {A = ℕ} 0 1 = cc in absurd (omega arith)
+  kept-by true e (inr w) = merged-bit e ∙ rw w
+
+  -- and every other bit stays
+  pub merged-kept : (enabled k enables ≡ false) ⊎ (bit j (byte rules k) ≡ 0) → bit j (byte (merged old rules new enables) k) ≡ bit j (byte old k)
+  merged-kept c = kept-by _ refl c
