@@ -15,7 +15,8 @@ use Rattle.answers.proofs.Checks.{Positive, none-applies, none-of}
 use Rattle.words.specs.Bytes.{byte, four}
 use Rattle.packet.specs.Completion.{withData, withoutData}
 use Rattle.asking.specs.Reading.{hasData, otherStatus, otherBytes, neverSent, readChecks, readNumber}
-use Rattle.circle.specs.Replies.{Octets, Reply, NoReplyHas}
+use Rattle.asking.specs.Plain.{Octets}
+use Rattle.circle.specs.Replies.{Reply, NoReplyHas}
 use Rattle.circle.proofs.Heard.{replies-read-back}
 use Rattle.circle.proofs.Given.{octets, gives-data, gives-done, gives-unsupported}
 

@@ -21,12 +21,13 @@ use Rattle.packet.specs.Completion.{withData, withoutData}
 use Rattle.capture.specs.declared.Capture.the-variants.{Number}
 use Rattle.capture.specs.Kept.{completer}
 use Rattle.capture.proofs.Laws.{completer-exact}
+use Rattle.asking.specs.Plain.{Octets}
 use Rattle.board.specs.Description.{Board, WellDescribed}
 use Rattle.board.specs.Access.{unsupported, afterWrite, shownWord, readWord}
 use Rattle.board.specs.Serving.{Outcome, completerOf, respond, serve}
 use Rattle.board.proofs.Laws.{unsupported-type0, unsupported-type1}
 use Rattle.board.proofs.Outcomes.{respond-unsupported, respond-write, respond-read, served-is}
-use Rattle.circle.specs.Replies.{Octets, Reply}
+use Rattle.circle.specs.Replies.{Reply}
 
 -- ---- real bytes
 

@@ -1,3 +1,4 @@
 pub mod Heard
 pub mod Given
 pub mod Exactly
+pub mod NightShift

@@ -4,20 +4,16 @@ use mathlib.Core.Bool.{cond}
 use mathlib.Core.List.{List}
 use mathlib.Core.Path.{_≡_}
 use Rattle.words.specs.Bytes.{byte}
-use Rattle.packet.specs.Fields.{dataOf}
 use Rattle.packet.specs.Request.{requestOf}
 use Rattle.capture.specs.declared.Capture.{Capture}
 use Rattle.capture.specs.declared.Capture.the-variants.{Nothing, Number}
 use Rattle.asking.specs.declared.Said.{Said}
 use Rattle.asking.specs.declared.Said.the-variants.{Shown, Done, Unsupported}
 use Rattle.asking.specs.declared.Completion.{Completion}
+use Rattle.asking.specs.Plain.{Octets}
 use Rattle.board.specs.Description.{Board, WellDescribed}
 use Rattle.board.specs.Access.{unsupported, readWord}
 use Rattle.board.specs.Serving.{completerOf, serve}
-
--- every byte of a list is a byte
-abbrev pub Octets : List ℕ → Type 0
-Octets s = (k : ℕ) → byte s k < 256
 
 abbrev pub busOctet : Capture → Type 0
 busOctet Nothing = Unit {0}
