@@ -1,4 +1,3 @@
 pub mod Laws
 pub mod Unique
 pub mod Numbers
-pub mod Asked

@@ -1,4 +1,3 @@
 pub mod Writing
 pub mod Reading
 pub mod Inner
-pub mod Plain

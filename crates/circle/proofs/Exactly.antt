@@ -8,14 +8,14 @@ use mathlib.Core.Logic.{_↔_}
 use mathlib.Core.Path.{_≡_, refl, sym, ap, ap₂, _∙_, subst}
 use native.Mathlib.Omega.{arith}
 use lib.Dec.{eqb}
-use lib.ListN.{length, drop}
-use lib.Seq.{drop-length, drop-cons}
+use lib.ListN.{length}
 use borrow.Author.Tests.{eq-eqb, eqb-true, le-ltb, ltb-false, not-false}
 use Rattle.answers.proofs.Checks.{Positive, none-applies, none-of}
 use Rattle.words.specs.Bytes.{byte, four}
+use Rattle.words.proofs.Laws.{listed, listed-from}
 use Rattle.packet.specs.Completion.{withData, withoutData}
 use Rattle.asking.specs.Reading.{hasData, otherStatus, otherBytes, neverSent, readChecks, readNumber}
-use Rattle.asking.specs.Plain.{Octets}
+use Rattle.circle.specs.Plain.{Octets}
 use Rattle.circle.specs.Replies.{Reply, NoReplyHas}
 use Rattle.circle.proofs.Heard.{replies-read-back}
 use Rattle.circle.proofs.Given.{octets, gives-data, gives-done, gives-unsupported}
@@ -33,21 +33,6 @@ pub record Fitting (c : List ℕ) : Type 0 where
 -- and the check 6, by its words
 abbrev pub SixExactly : Type 0
 SixExactly = (c : List ℕ) → Octets c → Fitting c → (readNumber c ≡ 6) ↔ ((k : ℕ) × (k < length c) × NoReplyHas (byte c 0) k (byte c k))
-
--- ---- a list is its bytes
-
-abbrev bytesFrom : List ℕ → ℕ → ℕ → List ℕ
-bytesFrom s n zero = []
-bytesFrom s n (suc m) = byte s n ∷ bytesFrom s (suc n) m
-
-left-is : (s : List ℕ) (n m : ℕ) → n + m ≡ length s → drop n s ≡ bytesFrom s n m
-left-is s n zero e =
-    let f : n ≡ length s = omega (arith, e) in
-    ap (λ (k : ℕ). drop k s) f ∙ drop-length s
-left-is s n (suc m) e = drop-cons s n 0 (omega (arith, e)) ∙ ap (λ (l : List ℕ). byte s n ∷ l) (left-is s (suc n) m (omega (arith, e)))
-
-listed : (s : List ℕ) (m : ℕ) → length s ≡ m → s ≡ bytesFrom s 0 m
-listed s m e = left-is s 0 m (omega (arith, e))
 
 -- ---- bytes that read back: what each check has shown
 
@@ -105,14 +90,14 @@ begins-else c e f = eqb-true (byte c 0) 0x0a (ap (λ (b : Bool). b || eqb (byte 
 
 module _ (c : List ℕ) (o : Octets c) (s : Sound c) where
   data-reply : hasData c ≡ true → Reply c
-  unfolding withData
+  unfolding withData listed
   data-reply h =
       let status = success-only (byte c 6) (subst (λ (b : Bool). otherStatus b (byte c 6) ≡ false) h (s .six)) in
       let size : length c ≡ 16 = s .fitting .size ∙ ap (λ (b : Bool). cond b 16 12) h in
       let three : byte c 3 ≡ 1 = s .three ∙ ap (λ (b : Bool). cond b 1 0) h in
       subst Reply
       (sym
-      (listed c 16 size
+      (listed-from c 0 16 size
       ∙ (λ i.
       begins-data c h i ∷ s .one i ∷ s .two i ∷ three i ∷ byte c 4 ∷ byte c 5 ∷ status i ∷ s .seven i ∷ byte c 8 ∷ byte c 9 ∷ byte c 10 ∷ s .eleven i
       ∷ byte c 12 ∷ byte c 13 ∷ byte c 14 ∷ byte c 15 ∷ [])))
@@ -124,10 +109,11 @@ module _ (c : List ℕ) (o : Octets c) (s : Sound c) where
     plainBytes six = 0x0a ∷ 0 ∷ 0 ∷ 0 ∷ byte c 4 ∷ byte c 5 ∷ six ∷ 4 ∷ byte c 8 ∷ byte c 9 ∷ byte c 10 ∷ 0 ∷ []
 
     twelve : (six : ℕ) → byte c 6 ≡ six → c ≡ plainBytes six
+    unfolding listed
     twelve six e =
         let size : length c ≡ 12 = s .fitting .size ∙ ap (λ (b : Bool). cond b 16 12) h in
         let three : byte c 3 ≡ 0 = s .three ∙ ap (λ (b : Bool). cond b 1 0) h in
-        listed c 12 size
+        listed-from c 0 12 size
         ∙ (λ i.
         begins-else c (s .fitting .first) h i ∷ s .one i ∷ s .two i ∷ three i ∷ byte c 4 ∷ byte c 5 ∷ e i ∷ s .seven i ∷ byte c 8 ∷ byte c 9 ∷ byte c 10
         ∷ s .eleven i ∷ [])

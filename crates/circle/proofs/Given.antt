@@ -21,7 +21,7 @@ use Rattle.packet.specs.Completion.{withData, withoutData}
 use Rattle.capture.specs.declared.Capture.the-variants.{Number}
 use Rattle.capture.specs.Kept.{completer}
 use Rattle.capture.proofs.Laws.{completer-exact}
-use Rattle.asking.specs.Plain.{Octets}
+use Rattle.circle.specs.Plain.{Octets}
 use Rattle.board.specs.Description.{Board, WellDescribed}
 use Rattle.board.specs.Access.{unsupported, afterWrite, shownWord, readWord}
 use Rattle.board.specs.Serving.{Outcome, completerOf, respond, serve}

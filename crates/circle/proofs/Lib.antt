@@ -1,3 +1,4 @@
+pub mod Asked
 pub mod Heard
 pub mod Given
 pub mod Exactly

@@ -36,7 +36,7 @@ use Rattle.asking.specs.declared.Heard.the-variants.{Says, Refused}
 use Rattle.asking.specs.Writing.{outside, asksWrite, packetOf, toldWritten, Writes}
 use Rattle.asking.specs.Reading.{readNumber, Reads}
 use Rattle.asking.proofs.Numbers.{served-packet}
-use Rattle.asking.proofs.Asked.{asked, packet-number, request-is, data-is}
+use Rattle.circle.proofs.Asked.{asked, packet-number, request-is, data-is}
 use Rattle.board.specs.declared.Served.{Served}
 use Rattle.board.specs.Description.{Space, Board, WellDescribed}
 use Rattle.board.specs.Access.{unsupported, readWord, shownWord}

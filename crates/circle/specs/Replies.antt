@@ -10,7 +10,7 @@ use Rattle.capture.specs.declared.Capture.the-variants.{Nothing, Number}
 use Rattle.asking.specs.declared.Said.{Said}
 use Rattle.asking.specs.declared.Said.the-variants.{Shown, Done, Unsupported}
 use Rattle.asking.specs.declared.Completion.{Completion}
-use Rattle.asking.specs.Plain.{Octets}
+use Rattle.circle.specs.Plain.{Octets}
 use Rattle.board.specs.Description.{Board, WellDescribed}
 use Rattle.board.specs.Access.{unsupported, readWord}
 use Rattle.board.specs.Serving.{completerOf, serve}

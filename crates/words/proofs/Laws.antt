@@ -1,6 +1,6 @@
 -- Laws of the bytes of a space, for the proofs above: what `four`, `word` and `put` come to inside and outside the space, and what stands in a
 -- space after a `put`. Assumes nothing.
-use Prim.Native.Nat.{ℕ, _+_, _-_, _%_, _≤_, _<_}
+use Prim.Native.Nat.{ℕ, zero, suc, _+_, _-_, _%_, _≤_, _<_}
 use mathlib.Core.Bool.{Bool, true, false, cond, _&&_}
 use mathlib.Core.List.{List, [], _∷_, _++_}
 use mathlib.Core.Logic.{_⊎_, inl, inr, ⊎-elim}
@@ -9,8 +9,8 @@ use native.Mathlib.Nat.{add-zero}
 use native.Mathlib.Omega.{arith}
 use borrow.Author.Tests.{le-leb, lt-leb, ltb-true, ltb-false, leb-true, eqb-true}
 use lib.Dec.{leb, ltb, eqb}
-use lib.Seq.{length-take-le, getD-take, getD-drop, getD-append-add}
-use lib.ListN.{length, length-append, length-take, length-drop, getD, take, drop, List·getD-append}
+use lib.Seq.{length-take-le, drop-cons, getD-take, getD-drop, getD-append-add}
+use lib.ListN.{length, length-append, length-take, length-drop, getD, take, drop, drop-of-length-le, List·getD-append}
 use Rattle.words.specs.Bytes.{byte, four, put, fourOrZero, Puts}
 use Rattle.words.specs.Fields.{word, wordOrZero}
 use Rattle.words.specs.Places.{placed}
@@ -146,3 +146,15 @@ placed-true at low high e =
     let a = and-both (eqb (at % 4) 0) (leb low at && leb at high) e in
     let b = and-both (leb low at) (leb at high) (a .1) in
     record { aligned = eqb-true _ _ (a .0); above = leb-true _ _ (b .0); below = leb-true _ _ (b .1) }
+
+-- ---- a list is its bytes
+
+-- so many bytes from a place on
+unfoldable pub listed : List ℕ → ℕ → ℕ → List ℕ
+listed s at zero = []
+listed s at (suc n) = byte s at ∷ listed s (suc at) n
+
+pub listed-from : (s : List ℕ) (at n : ℕ) → length s ≡ at + n → drop at s ≡ listed s at n
+unfolding listed
+listed-from s at zero e = drop-of-length-le s {i = at} (omega arith)
+listed-from s at (suc n) e = drop-cons s at 0 (omega arith) ∙ ap (λ (l : List ℕ). byte s at ∷ l) (listed-from s (suc at) n (omega arith))

@@ -8,13 +8,13 @@ use mathlib.Core.Logic.{_↔_}
 use mathlib.Core.Path.{_≡_, refl, sym, ap, _∙_, subst}
 use native.Mathlib.Omega.{arith}
 use lib.Dec.{eqb}
-use lib.ListN.{length, take, drop, drop-of-length-le}
-use lib.Seq.{drop-cons}
+use lib.ListN.{length, take}
 use borrow.Author.Tests.{eqb-true, eqb-false, eq-eqb, le-ltb, ltb-false, not-false}
 use Rattle.answers.specs.Checks.{any}
 use Rattle.answers.proofs.Checks.{none-applies, none-of}
 use Rattle.words.specs.Bytes.{byte, four}
 use Rattle.words.specs.Fields.{bits, bit}
+use Rattle.words.proofs.Laws.{listed, listed-from}
 use Rattle.packet.specs.declared.Id.{Id}
 use Rattle.packet.specs.declared.Target.{Target}
 use Rattle.packet.specs.declared.Target.the-variants.{Type0, Type1, Trusted}
@@ -27,12 +27,12 @@ use Rattle.packet.specs.Fields.{typeCode, typeOf, poison, wrongField, wholeLeng
 use Rattle.packet.specs.Request.{typed, unknown, writesOf, targetOf, packetChecks, packetNumber, requestOf, Decodes}
 use Rattle.packet.proofs.Laws.{number-past, positive, whole-is}
 use Rattle.packet.proofs.Unique.{decode-unique}
 use Rattle.asking.specs.declared.Parts.{Parts}
 use Rattle.asking.specs.declared.Written.{Written}
 use Rattle.asking.specs.Writing.{outside, asksWrite, headerOf, packetOf, toldWritten, Writes}
-use Rattle.asking.specs.Plain.{Octets, Plain, kindOf, partsOf}
+use Rattle.circle.specs.Plain.{Octets, Plain, kindOf, partsOf}
 use Rattle.asking.proofs.Laws.{bytes-length}
 use Rattle.asking.proofs.Numbers.{served-packet}
 
 -- the statements. The first: what the decoder reads from a packet written from these parts and data
 pub record ReadAs (a : Parts) (new packet : List ℕ) (r : Decoded) : Type 0 where
@@ -305,16 +305,6 @@ accepted-reads-back a new buffer w after r e z d =
     subst (λ (p : List ℕ). ReadAs a new p r) (sym (s .3)) (read-as a new r (s .0) (subst (λ (p : List ℕ). Decodes p r) (s .3) d))
 
 -- ---- a plain packet is written
-
--- so many bytes from a place on; a list is its bytes
-listed : List ℕ → ℕ → ℕ → List ℕ
-listed p at zero = []
-listed p at (suc n) = byte p at ∷ listed p (suc at) n
-
-listed-from : (p : List ℕ) (at n : ℕ) → length p ≡ at + n → drop at p ≡ listed p at n
-unfolding listed
-listed-from p at zero e = drop-of-length-le p {i = at} (omega arith)
-listed-from p at (suc n) e = drop-cons p at 0 (omega arith) ∙ ap (λ (l : List ℕ). byte p at ∷ l) (listed-from p (suc at) n (omega arith))
 
 with-tail : (p : List ℕ) (writes : Bool) → length p ≡ 12 + cond writes 4 0 → listed p 0 12 ++ cond writes (four p 12) [] ≡ p
 unfolding listed
