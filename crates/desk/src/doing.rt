@@ -1,10 +1,12 @@
 // A line that was understood is done.
 use crate::chaining;
+use crate::completions;
 use crate::faults;
 use crate::helping;
 use crate::judging;
 use crate::packets;
 use crate::reading;
+use crate::requests;
 use crate::routing;
 use crate::slots;
 use crate::slots::Desk;
@@ -43,7 +45,9 @@ pub fn perform(desk: &mut Desk, tokens: &Tokens, store: &mut Store) {
         | vocabulary::WALK
         | vocabulary::DVSEC
         | vocabulary::DUAL
-        | vocabulary::ROUTE => ask(desk, tokens, store),
+        | vocabulary::ROUTE
+        | vocabulary::ASK
+        | vocabulary::COMPLETION => ask(desk, tokens, store),
         _ => perform_on_desk(desk, tokens),
     }
 }
@@ -91,6 +95,8 @@ fn ask(desk: &mut Desk, tokens: &Tokens, store: &mut Store) {
         vocabulary::RESET => packets::reset(desk, tokens),
         vocabulary::MERGE => packets::merge(desk, tokens),
         vocabulary::ROUTE => routing::ask(desk, tokens, store),
+        vocabulary::ASK => requests::ask(desk, tokens, store),
+        vocabulary::COMPLETION => completions::ask(desk, tokens, store),
         _ => ask_of_space(desk, tokens, store),
     };
     judging::count(desk, tokens, right);

@@ -8,7 +8,6 @@ use crate::spaces;
 use crate::spaces::REPLY;
 use crate::spaces::Store;
 use crate::texts;
-use crate::tokens::Tokens;
 use crate::wording;
 use crate::wording::say;
 use crate::wording::say_all;
@@ -21,7 +20,7 @@ use packet::Request;
 use packet::Target;
 use reasons::Cause;
 
-// What numbers mean at the switch stands in the table below before what they mean at the board.
+// What numbers mean at the switch, and then on the asking side, stands in the table below before what they mean at the board.
 pub const ROUTED: usize = 0;
 
 pub const UNROUTED: usize = 1;
@@ -34,11 +33,18 @@ pub const TYPE_0: usize = 4;
 
 pub const NO_TCS: usize = 5;
 
-const BOARD: usize = 6;
+const ASKING: usize = 6;
+
+const BOARD: usize = 13;
 
 // An answer number and what it means.
 pub fn put_number(number: u8) {
     put_number_as(number, meaning_of(number));
+}
+
+// The same on the asking side: 1 and 2 of a request that is written, the others of a completion that is read.
+pub fn put_asking_number(number: u8) {
+    put_number_as(number, ASKING + number as usize);
 }
 
 // The place in the table of what a number means at the board.
@@ -62,6 +68,13 @@ badly described: more than 32 ports, a secondary over its subordinate, or two ra
 no room: the buffer for what leaves has fewer than 20 bytes
 a Type 0 request, which no switch passes on
 a trusted request, and its port does not support TCS routing
+read
+no such request: a kind outside the six, a device over 1F, a function over 7, an offset over FFC or not a multiple of 4, or enables over F
+no room: the buffer is shorter than the request, which has 12 bytes, or 16 where it writes
+the completion has fewer than 12 bytes
+the first byte is neither 4A nor 0A
+the completion's length does not fit its first byte: 16 bytes after 4A, 12 after 0A
+a byte that no reply with this first byte has at its place
 answered
 badly described: a space of another size than 1000, or a number or an offset out of range
 no room: the reply's buffer or the list room is too small
@@ -81,11 +94,11 @@ a pointer to an offset that is in the chain already
 }
 
 // A packet that was served: the number, what it asked for as the board read it, what the completion says of it, what is captured.
-pub fn packet(desk: &Desk, tokens: &Tokens, served: Served, store: &Store) {
+pub fn packet(desk: &Desk, served: Served, store: &Store) {
     let answer = served.answer;
     let state = served.capture;
     put_number(answer.number());
-    request(desk, packets::sent(tokens, store), served.length, store);
+    request(desk, packets::sent(desk, store), served.length, store);
     captured(packets::capture_number(state));
 }
 

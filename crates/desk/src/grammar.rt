@@ -24,61 +24,74 @@ const NAMES: usize = 36;
 
 const QUESTIONS: usize = 40;
 
-const ROW: usize = 48;
+const ROW: usize = 50;
 
 // What a limit reads as that is none.
 const ANY: usize = 0xfffff;
+
+// How many numbers of a request stand before its offset.
+const OFFSET_ASKED: usize = 7;
 
 // What a column of one character reads as where there is no mark.
 const UNMARKED: usize = 16;
 
 // What follows each word, in the order of their numbers: how many numbers at least and at most; how large the first and the others may be;
 // which kind of name comes before them, of a list (0), a buffer (1) or a space (2); of which of these kinds it is a name itself; and of
-// which questions it may be expected: packet, reset, merge, walk, dvsec, dual, route. A token that is no word has no row, and reads as 0.
+// which questions it may be expected: packet, reset, merge, walk, dvsec, dual, route, ask, completion. A token that is no word has no row, and
+// reads as 0.
 fn column(word: usize, from: usize, size: usize) -> usize {
     let row = std::num::wrapping_sub_usize(word, HELP) % 64;
     tokens::number_of(pieces::part(
-        b"help            00 00 00000 00000 - --- -------
-echo            00 00 00000 00000 - --- -------
-sheet           00 00 00000 00000 - --- -------
-end             00 00 00000 00000 - --- -------
-fresh           00 00 00000 00000 - --- -------
-open            00 00 00000 00000 - --- -------
-blank           00 00 00000 00000 - --- -------
-function        01 01 000FF 000FF - --- -------
-A               01 01 FFFFF FFFFF - --- -------
-B               01 01 FFFFF FFFFF - --- -------
-captured        02 02 000FF 000FF - --- 11-----
-forgotten       00 00 00000 00000 - --- 11-----
-ordinary        02 41 00FFF 000FF - -11 1------
-trusted         02 41 00FFF 000FF - 111 1------
-ordinary-rules  02 41 00FFF 000FF - -1- -------
-trusted-rules   02 41 00FFF 000FF - -1- -------
-chain           04 04 0FFFF 0FFFF 0 --- -------
-ports           00 7E 000FF 000FF - --- -------
-sizes           04 04 01001 01001 - --- -------
-room            01 01 FFFFF FFFFF - --- -------
-show            02 02 01000 01000 1 --- -------
-packet          00 40 000FF 000FF - --- -------
-reset           00 00 00000 00000 - --- -------
-merge           0D 0D 000FF 000FF - --- -------
-walk            00 00 00000 00000 0 --- -------
-dvsec           01 01 FFFFF FFFFF 2 --- -------
-dual            01 01 FFFFF FFFFF 2 --- -------
-route           00 40 000FF 000FF - --- -------
-number          01 01 00012 00012 - --- 1--1111
-reply           01 14 000FF 000FF - --- 1------
-bytes           04 04 000FF 000FF - --- --1----
-offsets         01 40 0FFFF 0FFFF - --- ---1---
-steps           03 03 003FE 0FFFF - --- ---1---
-place           01 01 00FFF 00FFF - --- ---1---
-header          04 04 0FFFF 0FFFF - --- ----1--
-body            02 02 01000 01000 - --- ----1--
-alternate       02 02 000FF 000FF - --- -----1-
-port            01 01 000FF 000FF - --- ------1
-leaves          01 14 000FF 000FF - --- ------1
-compatible      00 00 00000 00000 - 1-- -------
-extended        00 00 00000 00000 - 1-- -------
+        b"help            00 00 00000 00000 - --- ---------
+echo            00 00 00000 00000 - --- ---------
+sheet           00 00 00000 00000 - --- ---------
+end             00 00 00000 00000 - --- ---------
+fresh           00 00 00000 00000 - --- ---------
+open            00 00 00000 00000 - --- ---------
+blank           00 00 00000 00000 - --- ---------
+function        01 01 000FF 000FF - --- ---------
+A               01 01 FFFFF FFFFF - --- ---------
+B               01 01 FFFFF FFFFF - --- ---------
+captured        02 02 000FF 000FF - --- 11-----1-
+forgotten       00 00 00000 00000 - --- 11-----1-
+ordinary        02 41 00FFF 000FF - -11 1------1-
+trusted         02 41 00FFF 000FF - 111 1------1-
+ordinary-rules  02 41 00FFF 000FF - -1- ---------
+trusted-rules   02 41 00FFF 000FF - -1- ---------
+chain           04 04 0FFFF 0FFFF 0 --- ---------
+ports           00 7E 000FF 000FF - --- ---------
+sizes           04 04 01001 01001 - --- ---------
+room            01 01 FFFFF FFFFF - --- ---------
+show            02 02 01000 01000 1 --- ---------
+packet          00 40 000FF 000FF - --- ---------
+reset           00 00 00000 00000 - --- ---------
+merge           0D 0D 000FF 000FF - --- ---------
+walk            00 00 00000 00000 0 --- ---------
+dvsec           01 01 FFFFF FFFFF 2 --- ---------
+dual            01 01 FFFFF FFFFF 2 --- ---------
+route           00 40 000FF 000FF - --- ---------
+ask             09 0D 000FF 000FF - --- ---------
+completion      00 40 000FF 000FF - --- ---------
+number          01 01 00012 00012 - --- 1--111111
+reply           01 14 000FF 000FF - --- 1------1-
+bytes           04 04 000FF 000FF - --- --1------
+offsets         01 40 0FFFF 0FFFF - --- ---1-----
+steps           03 03 003FE 0FFFF - --- ---1-----
+place           01 01 00FFF 00FFF - --- ---1-----
+header          04 04 0FFFF 0FFFF - --- ----1----
+body            02 02 01000 01000 - --- ----1----
+alternate       02 02 000FF 000FF - --- -----1---
+port            01 01 000FF 000FF - --- ------1--
+leaves          01 14 000FF 000FF - --- ------1--
+writes          01 14 000FF 000FF - --- -------1-
+completer       02 02 000FF 000FF - --- --------1
+requester       02 02 000FF 000FF - --- --------1
+tag             01 01 000FF 000FF - --- --------1
+shown           04 04 000FF 000FF - --- --------1
+done            00 00 00000 00000 - --- --------1
+unsupported     00 00 00000 00000 - --- --------1
+compatible      00 00 00000 00000 - 1-- ---------
+extended        00 00 00000 00000 - 1-- ---------
 ",
         std::num::wrapping_add_usize(ROW * row, from),
         size,
@@ -212,18 +225,28 @@ fn fault_of_answer(number: usize) -> usize {
     faults::NONE
 }
 
-// The last number of a merge is the enables, four bits.
 fn is_too_large(word: usize, given: usize, number: usize) -> bool {
-    if word == MERGE {
-        if given == 12 {
-            return 0xf < number;
-        }
-    }
-    let largest = column(word, if given == 0 { FIRST } else { OTHERS }, 5);
+    let largest = largest_of(word, given);
     if largest == ANY {
         return false;
     }
     largest < number
+}
+
+// How large a number may be behind a word that has so many already. The last one of a merge is the enables, four bits. The offset of a request
+// may be any number, and a device or enables any byte: what cannot be asked for is refused with 1, and is no mistake in the line.
+fn largest_of(word: usize, given: usize) -> usize {
+    if word == MERGE {
+        if given == 12 {
+            return 0xf;
+        }
+    }
+    if word == ASK {
+        if given == OFFSET_ASKED {
+            return ANY;
+        }
+    }
+    column(word, if given == 0 { FIRST } else { OTHERS }, 5)
 }
 
 // Where the bytes end that are put, shown or expected from an offset on, or 0 where there are none yet.
@@ -253,12 +276,18 @@ fn fault_of_end(tokens: &Tokens, head: usize, place: usize) -> usize {
     faults::NONE
 }
 
-// Whether a word wants more numbers than it has: a port has three.
+// Whether a word wants more numbers than it has: a port has three, and a request has its data whole or not at all.
 fn is_short(word: usize, given: usize) -> bool {
+    let least = column(word, LEAST_NUMBERS, 2);
     if word == PORTS {
         return given % 3 != 0;
     }
-    given < column(word, LEAST_NUMBERS, 2)
+    if word == ASK {
+        if least < given {
+            return given < column(word, MOST_NUMBERS, 2);
+        }
+    }
+    given < least
 }
 
 // An arrow or a comma.
@@ -278,7 +307,7 @@ fn fault_of_mark(tokens: &Tokens, head: usize, place: usize) -> usize {
     if arrow < place {
         return faults::ARROW_AGAIN;
     }
-    if is_within(tokens::word(tokens, 0), PACKET, ROUTE) {
+    if is_within(tokens::word(tokens, 0), PACKET, COMPLETION) {
         faults::NONE
     } else {
         faults::NO_QUESTION
@@ -303,7 +332,7 @@ fn fault_of_head(tokens: &Tokens, place: usize) -> usize {
     if place != 0 {
         return fault_of_clause(tokens, place);
     }
-    if is_within(tokens::word(tokens, 0), HELP, ROUTE) {
+    if is_within(tokens::word(tokens, 0), HELP, COMPLETION) {
         faults::NONE
     } else {
         faults::NO_STATEMENT
@@ -333,25 +362,32 @@ fn fault_of_clause(tokens: &Tokens, place: usize) -> usize {
     }
 }
 
-// A clause, or the other one of its pair, stands before `place` already.
+// A clause, or one that says the same in another way, stands before `place` already.
 fn is_said(tokens: &Tokens, place: usize, word: usize) -> bool {
+    let other = other_of(word);
     if is_before(tokens, place, word) {
         return true;
     }
-    is_before(tokens, place, other_of(word))
+    if is_before(tokens, place, other) {
+        return true;
+    }
+    is_before(tokens, place, other_of(other))
 }
 
 fn is_before(tokens: &Tokens, place: usize, word: usize) -> bool {
     tokens::find(tokens, tokens::arrow(tokens), place, word) < place
 }
 
-// Of two words that say the same in two ways, the other one.
+// Of two or three words that say the same in as many ways, the next one.
 fn other_of(word: usize) -> usize {
     match word {
         CAPTURED => FORGOTTEN,
         FORGOTTEN => CAPTURED,
         OFFSETS => STEPS,
         STEPS => OFFSETS,
+        SHOWN => DONE,
+        DONE => UNSUPPORTED,
+        UNSUPPORTED => SHOWN,
         _ => word,
     }
 }

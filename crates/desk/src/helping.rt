@@ -18,21 +18,28 @@ The switch:
                      (without numbers it has none, as when a session begins; a new board leaves them as they are)
 Lent to the next question only:
   sizes O R T L      so many bytes of the ordinary space, its rules, the trusted space, its rules
-  room N             so many bytes of the reply's buffer or of the one for what leaves, or entries of the list room
+  room N             so many bytes of the reply's buffer, of the one for what leaves or for what ask writes, or entries of the list room
 To look, without asking:
   show SPACE N C     C bytes from offset N on; also of ordinary-rules and trusted-rules
 Questions:
   packet b b ..      the board is sent a packet
   route b b ..       the switch is sent one
+  ask K R R T B D F N E
+                     the board is sent a request that is written from its parts: kind, requester in two bytes, tag, bus, device, function,
+                     offset, enables; four data bytes may follow, else they are 00. The reply is read back
+  completion b b ..  a completion is read back
   reset              the board is reset
   walk LIST          compatible, extended or trusted
   dvsec SPACE N      the record at offset N; SPACE is ordinary or trusted; also: dual
   merge b b ..       four old bytes, four rules, four data bytes, the enables
 A question with an expectation is a check, and everything that is not said is expected to stay.
 A refusal has no reply, no port, no offsets and no fields; that of a broken list, 11 or 12, has the place of the fault, 0 for the start.
+A request that cannot be written has no bytes and is not sent.
 Only the answer numbers, 0 to 12, are decimal:
   packet .. -> number N, reply b b .., captured BUS DEVICE, ordinary N b b .., trusted N b b ..
   route .. -> number N, port P, leaves b b ..      UR is number 0 without a port
+  ask .. -> number N, writes b b .., and behind it as for packet
+  completion .. -> number N, completer b b, requester b b, tag b, shown b b b b      or, for shown: done, unsupported
   reset -> forgotten
   walk LIST -> number N, offsets N N ..      or: steps C F S, C offsets from F on by S
   walk LIST -> number N, place P

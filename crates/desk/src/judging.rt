@@ -1,5 +1,5 @@
-// What was found is held against what a line expects. Every difference is told, of a reply, of what leaves and of a list room the first; a
-// check without one is as expected.
+// What was found is held against what a line expects. Every difference is told, of a reply, of what leaves, of what is written and of a list room
+// the first; a check without one is as expected.
 use crate::pieces;
 use crate::slots;
 use crate::slots::Desk;

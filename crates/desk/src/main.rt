@@ -1,6 +1,7 @@
 // The desk: statements from standard input, each answered at once. `help` lists them. What decides is the proved code of the crates
 // below; here only safety is promised, and that every session ends.
 mod chaining;
+mod completions;
 mod doing;
 mod explaining;
 mod faults;
@@ -12,6 +13,7 @@ mod leaving;
 mod packets;
 mod pieces;
 mod reading;
+mod requests;
 mod routing;
 mod saying;
 mod session;

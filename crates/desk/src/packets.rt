@@ -25,29 +25,37 @@ type Reply = [u8; REPLY];
 
 // Says, as every question here, whether it is a check that was right.
 pub fn ask(desk: &mut Desk, tokens: &Tokens, store: &mut Store) -> bool {
-    take_packet(store, tokens);
+    take_bytes(desk, tokens, store);
+    clear_reply(store);
     let before = *store;
-    let served = send(desk, tokens, store);
-    let state = served.capture;
+    let served = send(desk, store);
     let right = answer(desk, tokens, served, &before, store);
-    slots::set(desk, slots::CAPTURED, capture_number(state));
+    keep_capture(desk, served);
     right
 }
 
-// The packet's bytes, and an untouched reply, in the store.
-fn take_packet(store: &mut Store, tokens: &Tokens) {
+// The bytes behind a question's word are put into the store: a packet, or a completion.
+pub fn take_bytes(desk: &mut Desk, tokens: &Tokens, store: &mut Store) {
     spaces::put_behind(store, tokens, 0, tokens::arrow(tokens));
+    slots::set(desk, slots::SENT, tokens::numbers_from(tokens, 1));
+}
+
+// The same bytes, as they stand in the store.
+pub fn sent<'a>(desk: &Desk, store: &'a [u8]) -> &'a [u8] {
+    pieces::part(store, spaces::PACKET, slots::at(desk, slots::SENT))
+}
+
+pub fn clear_reply(store: &mut Store) {
     words::put(store, spaces::REPLY, &[UNTOUCHED; REPLY]);
 }
 
-// The packet that was sent, as it stands in the store: as many bytes as there are tokens between the statement's word and its expectation.
-pub fn sent<'a>(tokens: &Tokens, store: &'a [u8]) -> &'a [u8] {
-    let length = std::num::wrapping_sub_usize(tokens::arrow(tokens), 1);
-    pieces::part(store, spaces::PACKET, length)
+pub fn keep_capture(desk: &mut Desk, served: Served) {
+    let state = served.capture;
+    slots::set(desk, slots::CAPTURED, capture_number(state));
 }
 
 // The board is lent its buffers out of the store, each as far as the desk says, and what it leaves in the spaces and the reply is put back.
-fn send(desk: &Desk, tokens: &Tokens, store: &mut Store) -> Served {
+pub fn send(desk: &Desk, store: &mut Store) -> Served {
     let mut ordinary = spaces::copy_of(store, spaces::ORDINARY);
     let mut trusted = spaces::copy_of(store, spaces::TRUSTED);
     let mut reply = [UNTOUCHED; REPLY];
@@ -62,7 +70,7 @@ fn send(desk: &Desk, tokens: &Tokens, store: &mut Store) -> Served {
         spaces::lent(desk, rules, spaces::ORDINARY_RULES),
         &mut trusted[..second],
         spaces::lent(desk, rules, spaces::TRUSTED_RULES),
-        sent(tokens, rules),
+        sent(desk, rules),
         &mut reply[..room],
     );
     spaces::put_back(store, spaces::ORDINARY, &ordinary);
@@ -104,19 +112,24 @@ pub fn capture_number(capture: Capture) -> usize {
 
 fn answer(desk: &Desk, tokens: &Tokens, served: Served, before: &Store, after: &Store) -> bool {
     if tokens::is_check(tokens) {
-        if judge(desk, tokens, served, before, after) {
+        if judge(desk, tokens, served, &wanted_of(tokens, before), after) {
             return true;
         }
     }
-    explaining::packet(desk, tokens, served, after);
-    if spaces::tell_differences(desk, false, before, after) == 0 {
-        say(wording::UNCHANGED);
-    }
+    tell(desk, served, before, after);
     false
 }
 
-// The answer, and every byte as before, except those that are expected to be others.
-fn judge(desk: &Desk, tokens: &Tokens, served: Served, before: &Store, after: &Store) -> bool {
+// What became of the packet, and every byte that is another.
+pub fn tell(desk: &Desk, served: Served, before: &Store, after: &Store) {
+    explaining::packet(desk, served, after);
+    if spaces::tell_differences(desk, false, before, after) == 0 {
+        say(wording::UNCHANGED);
+    }
+}
+
+// Every byte as before, except those that are expected to be others.
+pub fn wanted_of(tokens: &Tokens, before: &Store) -> Store {
     let mut wanted = *before;
     spaces::put_behind(
         &mut wanted,
@@ -124,8 +137,13 @@ fn judge(desk: &Desk, tokens: &Tokens, served: Served, before: &Store, after: &S
         tokens::arrow(tokens),
         tokens::count(tokens),
     );
-    let answered = judge_answer(desk, tokens, served, after, &wanted);
-    let differences = spaces::tell_differences(desk, true, after, &wanted);
+    wanted
+}
+
+// The answer, and every byte.
+pub fn judge(desk: &Desk, tokens: &Tokens, served: Served, wanted: &Store, after: &Store) -> bool {
+    let answered = judge_answer(desk, tokens, served, after, wanted);
+    let differences = spaces::tell_differences(desk, true, after, wanted);
     answered & (differences == 0)
 }
 
@@ -234,7 +252,7 @@ fn judge_merge(desk: &Desk, found: &[u8], wanted: &[u8]) -> bool {
     false
 }
 
-fn four_at(tokens: &Tokens, place: usize) -> [u8; 4] {
+pub fn four_at(tokens: &Tokens, place: usize) -> [u8; 4] {
     [
         tokens::byte(tokens, place),
         tokens::byte(tokens, std::num::wrapping_add_usize(place, 1)),

@@ -32,16 +32,17 @@ struct Routed {
 }
 
 // The packet's bytes and those that are expected to leave are put into the store. Says whether this is a check that was right.
-pub fn ask(desk: &Desk, tokens: &Tokens, store: &mut Store) -> bool {
+pub fn ask(desk: &mut Desk, tokens: &Tokens, store: &mut Store) -> bool {
+    packets::take_bytes(desk, tokens, store);
     words::put(store, spaces::LEAVING, &[UNTOUCHED; LEAVING]);
-    spaces::put_behind(store, tokens, 0, tokens::count(tokens));
+    spaces::put_behind(store, tokens, tokens::arrow(tokens), tokens::count(tokens));
     route(desk, tokens, store)
 }
 
 fn route(desk: &Desk, tokens: &Tokens, store: &Store) -> bool {
     let mut leaving = [UNTOUCHED; LEAVING];
     let room = spaces::within(desk, slots::ROOM, &leaving);
-    let packet = packets::sent(tokens, store);
+    let packet = packets::sent(desk, store);
     let choice = choose(store, slots::at(desk, slots::PORTS), router::bus_of(packet));
     let routed = routed_of(router::decide(choice, packet, &mut leaving[..room]));
     answer(desk, tokens, routed, &leaving, store)
@@ -95,7 +96,7 @@ fn answer(desk: &Desk, tokens: &Tokens, routed: Routed, leaving: &Leaving, store
         }
     }
     leaving::tell(
-        packets::sent(tokens, store),
+        packets::sent(desk, store),
         routed.number,
         routed.port,
         pieces::part(leaving, 0, routed.length),

@@ -1,6 +1,7 @@
 // What the desk writes, always on standard output: texts, with numbers and bytes in them.
 use crate::pieces;
 use crate::slots;
+use crate::texts;
 use libc::STDOUT_FILENO;
 
 pub fn put(text: &[u8]) {
@@ -35,6 +36,7 @@ fn put_number(form: u8, number: usize) {
         b'e' => put_enables(number),
         b'n' => put(b"\n"),
         b'p' => put_port(number),
+        b's' => put_said(number),
         b'_' => put(b" "),
         b'v' => put_hex(number, digits_of(number)),
         _ => put_hex(number, (form % 16) as usize),
@@ -47,6 +49,11 @@ fn put_port(number: usize) {
     } else {
         put_hex(number, digits_of(number));
     }
+}
+
+// What a completion says of the access, by the numbers of completions.rt.
+fn put_said(number: usize) {
+    put(texts::entry(b"nothing\nshown\ndone\nunsupported\n", number));
 }
 
 // Four bits, byte 3's first.

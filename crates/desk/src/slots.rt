@@ -1,5 +1,5 @@
 // What the desk keeps in numbers from line to line, each at a place of its own.
-pub const SLOTS: usize = 20;
+pub const SLOTS: usize = 21;
 
 // The line's number; how many statements had an expectation, and how many of them were right; how many lines were not understood.
 pub const LINE: usize = 0;
@@ -24,8 +24,8 @@ pub const B: usize = 8;
 
 pub const CAPTURED: usize = 9;
 
-// What is lent to the next question: so much of each of the four buffers, in their order in the store, and of the reply, what leaves or the
-// list room.
+// What is lent to the next question: so much of each of the four buffers, in their order in the store, and of the reply, what leaves, what is
+// written or the list room.
 pub const ORDINARY_SIZE: usize = 10;
 
 pub const ORDINARY_RULES_SIZE: usize = 11;
@@ -51,13 +51,16 @@ pub const REST: usize = 18;
 // How many ports the switch has.
 pub const PORTS: usize = 19;
 
+// How many bytes the packet has that stands in the store, or the completion.
+pub const SENT: usize = 20;
+
 // The capture while there is none: over every bus and device.
 pub const NOTHING: usize = 0x10000;
 
 // The port of a packet that does not leave: over every number that a line can expect.
 pub const NO_PORT: usize = 0x100;
 
-// All of a reply's buffer, of what leaves, and of a list's.
+// All of a reply's buffer, of what leaves, of what is written, and of a list's.
 const WHOLE: usize = 0xffff;
 
 pub type Desk = [usize; SLOTS];
@@ -109,5 +112,10 @@ pub fn lend(
 // The next question is lent whole buffers.
 pub fn lend_all(desk: &mut Desk) {
     lend(desk, words::SPACE, words::SPACE, words::SPACE, words::SPACE);
+    lend_room(desk);
+}
+
+// And a whole room, whatever else it is lent.
+pub fn lend_room(desk: &mut Desk) {
     desk[ROOM] = WHOLE;
 }

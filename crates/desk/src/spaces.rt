@@ -1,5 +1,5 @@
-// The store: the board's four buffers at the desk one behind the other, then the packet that it is sent and the reply, and of the switch what
-// leaves it and its ports. They are filled, put and shown by hand, and held against what they should be.
+// The store: the board's four buffers at the desk one behind the other, then the packet that it is sent, or a completion, and the reply, and of the
+// switch what leaves it and its ports. They are filled, put and shown by hand, and held against what they should be.
 use crate::judging;
 use crate::pieces;
 use crate::saying::put;
@@ -59,7 +59,8 @@ pub fn base_of(word: usize) -> usize {
 // Where the bytes behind a word go that has no offset before them, or the end of the store.
 fn start_of(word: usize) -> usize {
     match word {
-        vocabulary::PACKET | vocabulary::ROUTE => PACKET,
+        vocabulary::PACKET | vocabulary::ROUTE | vocabulary::COMPLETION | vocabulary::WRITES =>
+            PACKET,
         vocabulary::REPLY => REPLY,
         vocabulary::LEAVES => LEAVING,
         vocabulary::PORTS => PORTS,
@@ -97,7 +98,7 @@ pub fn put_back(store: &mut Store, base: usize, buffer: &Buffer) {
 }
 
 // Puts the bytes that stand behind the words of buffers, from a place of the tokens to another: an offset and the bytes there, or the bytes
-// of a packet, a reply, what leaves or ports. No line has more of them than there is room for: the table of grammar.rt says how many it
+// of a packet, a completion, a reply, what leaves or ports. No line has more of them than there is room for: the table of grammar.rt says how many it
 // may have.
 pub fn put_behind(store: &mut Store, tokens: &Tokens, from: usize, to: usize) {
     let mut place = from;

@@ -1,7 +1,7 @@
 // Tables of text, a line for each entry, every line with its line end: entries found by their text, and by their number.
 use crate::pieces;
 
-fn is(text: &[u8], word: &[u8]) -> bool {
+pub fn is(text: &[u8], word: &[u8]) -> bool {
     if text.len() != word.len() {
         return false;
     }

@@ -65,38 +65,56 @@ pub const DUAL: usize = 28;
 
 pub const ROUTE: usize = 29;
 
+pub const ASK: usize = 30;
+
+pub const COMPLETION: usize = 31;
+
 // What is only expected.
-pub const NUMBER: usize = 30;
+pub const NUMBER: usize = 32;
 
-pub const REPLY: usize = 31;
+pub const REPLY: usize = 33;
 
-pub const BYTES: usize = 32;
+pub const BYTES: usize = 34;
 
-pub const OFFSETS: usize = 33;
+pub const OFFSETS: usize = 35;
 
-pub const STEPS: usize = 34;
+pub const STEPS: usize = 36;
 
-pub const PLACE: usize = 35;
+pub const PLACE: usize = 37;
 
-pub const HEADER: usize = 36;
+pub const HEADER: usize = 38;
 
-pub const BODY: usize = 37;
+pub const BODY: usize = 39;
 
-pub const ALTERNATE: usize = 38;
+pub const ALTERNATE: usize = 40;
 
-pub const PORT: usize = 39;
+pub const PORT: usize = 41;
 
-pub const LEAVES: usize = 40;
+pub const LEAVES: usize = 42;
+
+pub const WRITES: usize = 43;
+
+pub const COMPLETER: usize = 44;
+
+pub const REQUESTER: usize = 45;
+
+pub const TAG: usize = 46;
+
+pub const SHOWN: usize = 47;
+
+pub const DONE: usize = 48;
+
+pub const UNSUPPORTED: usize = 49;
 
 // The lists, beside the trusted one.
-pub const COMPATIBLE: usize = 41;
+pub const COMPATIBLE: usize = 50;
 
-pub const EXTENDED: usize = 42;
+pub const EXTENDED: usize = 51;
 
 // The marks of an expectation.
-pub const ARROW: usize = 43;
+pub const ARROW: usize = 52;
 
-pub const COMMA: usize = 44;
+pub const COMMA: usize = 53;
 
 // The table has the words in the order of their numbers, from HELP on.
 pub fn word_of(text: &[u8]) -> usize {
@@ -130,6 +148,8 @@ walk
 dvsec
 dual
 route
+ask
+completion
 number
 reply
 bytes
@@ -141,6 +161,13 @@ body
 alternate
 port
 leaves
+writes
+completer
+requester
+tag
+shown
+done
+unsupported
 compatible
 extended
 ->

@@ -1,6 +1,6 @@
 // What the desk says, a line for each text: %1 to %4 stand for so many hexadecimal digits of the next number, %v for as many as it has,
-// %d for the number in decimal, %e for four enables, %p for a port or none, and behind the last number %n for a line end and %_ for a
-// blank. Help, faults, what numbers, requests and completions mean, and the names of buffers have tables of their own.
+// %d for the number in decimal, %e for four enables, %p for a port or none, %s for what a completion says, and behind the last number %n for a
+// line end and %_ for a blank. Help, faults, what numbers, requests and completions mean, and the names of buffers have tables of their own.
 use crate::saying;
 use crate::texts;
 
@@ -74,53 +74,80 @@ pub const LEAVES: usize = 30;
 
 pub const TURNED: usize = 31;
 
+// What the asking side writes, and what it reads.
+pub const WRITES: usize = 32;
+
+pub const READS: usize = 33;
+
+pub const READS_DATA: usize = 34;
+
+pub const READS_DONE: usize = 35;
+
+pub const READS_UR: usize = 36;
+
 // What is not as expected.
-pub const DIFFERENCE: usize = 32;
+pub const DIFFERENCE: usize = 37;
 
-pub const WRONG_NUMBER: usize = 33;
+pub const WRONG_NUMBER: usize = 38;
 
-pub const WRONG_LENGTH: usize = 34;
+pub const WRONG_LENGTH: usize = 39;
 
-pub const WRONG_BYTE: usize = 35;
+pub const WRONG_BYTE: usize = 40;
 
-pub const WRONG_CAPTURE: usize = 36;
+pub const WRONG_CAPTURE: usize = 41;
 
-pub const EXPECTED_CAPTURE: usize = 37;
+pub const EXPECTED_CAPTURE: usize = 42;
 
-pub const WRONG_BYTES: usize = 38;
+pub const WRONG_BYTES: usize = 43;
 
-pub const WRONG_COUNT: usize = 39;
+pub const WRONG_COUNT: usize = 44;
 
-pub const WRONG_PLACE: usize = 40;
+pub const WRONG_PLACE: usize = 45;
 
-pub const WRONG_ENTRY: usize = 41;
+pub const WRONG_ENTRY: usize = 46;
 
-pub const WRONG_FIELDS: usize = 42;
+pub const WRONG_FIELDS: usize = 47;
 
-pub const WRONG_FIELD: usize = 43;
+pub const WRONG_FIELD: usize = 48;
 
-pub const WRONG_BODY: usize = 44;
+pub const WRONG_BODY: usize = 49;
 
-pub const WRONG_BODY_PLACE: usize = 45;
+pub const WRONG_BODY_PLACE: usize = 50;
 
-pub const WRONG_PORT: usize = 46;
+pub const WRONG_PORT: usize = 51;
 
-pub const WRONG_LEAVING: usize = 47;
+pub const WRONG_LEAVING: usize = 52;
 
-pub const WRONG_LEAVING_BYTE: usize = 48;
+pub const WRONG_LEAVING_BYTE: usize = 53;
+
+pub const WRONG_WRITTEN: usize = 54;
+
+pub const WRONG_WRITTEN_BYTE: usize = 55;
+
+pub const WRONG_SAID: usize = 56;
+
+pub const WRONG_COMPLETER: usize = 57;
+
+pub const WRONG_REQUESTER: usize = 58;
+
+pub const WRONG_TAG: usize = 59;
+
+pub const WRONG_SHOWN: usize = 60;
+
+pub const NONE: usize = 61;
 
 // The session.
-pub const LINE: usize = 49;
+pub const LINE: usize = 62;
 
-pub const PROMPT: usize = 50;
+pub const PROMPT: usize = 63;
 
-pub const QUOTE: usize = 51;
+pub const QUOTE: usize = 64;
 
-pub const UNQUOTE: usize = 52;
+pub const UNQUOTE: usize = 65;
 
-pub const LINE_END: usize = 53;
+pub const LINE_END: usize = 66;
 
-pub const TALLY: usize = 54;
+pub const TALLY: usize = 67;
 
 // A text with its numbers, as many as it has places for.
 pub fn say_all(
@@ -164,6 +191,11 @@ nothing
   body:
   leaves: port %v, unchanged:
   leaves: port %v, as Type 0:
+writes:
+  reads:%_
+success with data
+success without data
+UR
 line %d: not as expected:%_
 number %d, expected %d%n
 reply's length %v, expected %v%n
@@ -181,6 +213,14 @@ body's place %v, expected %v%n
 port %p, expected %p%n
 leaving length %v, expected %v%n
 leaving byte %v is %2, expected %2%n
+request's length %v, expected %v%n
+request byte %v is %2, expected %2%n
+says %s, expected %s%n
+completer
+requester
+tag
+shown
+ none
 line %d:%_
 >%_
 '
