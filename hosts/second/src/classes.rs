@@ -4,8 +4,11 @@
 
 mod access;
 mod alone;
+mod ask;
+mod ask_names;
 mod causes;
 mod chain;
+mod circle;
 mod departure;
 mod dual_bdf;
 mod dvsec;
@@ -15,6 +18,8 @@ mod fault_names;
 mod first_word;
 mod group;
 mod header;
+mod hear;
+mod meaning;
 mod names;
 mod nulls;
 mod packet_causes;
@@ -30,10 +35,14 @@ mod tally;
 mod turn;
 mod walk;
 
+pub use ask::{AskView, count as count_ask};
 pub use chain::Pointers;
+pub use circle::count as count_circle;
 pub use dual_bdf::count_dual;
 pub use dvsec::{Question, count_dvsec};
 pub use group::Group;
+pub use hear::count as count_hear;
+pub use meaning::CircleView;
 pub use route::{RouteView, count as count_route};
 pub use serve::{History, ServeView, count as count_serve, count_reset};
 pub use tally::Tally;

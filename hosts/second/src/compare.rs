@@ -1,5 +1,9 @@
 //! The comparison: each call is made to the model and to a subject on like buffers, and all they leave is compared.
 
+mod asking;
+mod asks;
+mod bench;
+mod circles;
 mod difference;
 mod packets;
 mod records;

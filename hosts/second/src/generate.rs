@@ -3,8 +3,10 @@
 //!
 //! What a call is counted as is decided afterwards, from its inputs and the model's answer.
 
+mod ask;
 mod board;
 mod case;
+mod completion;
 mod cursor;
 mod dual_bdf;
 mod dvsec;
@@ -16,25 +18,32 @@ mod loops;
 mod nulls;
 mod packet;
 mod packet_fault;
+mod parts;
+mod parts_fault;
 mod port_fault;
 mod ports;
 mod random;
 mod record;
+mod reply;
 mod route;
 mod route_packet;
 mod scene;
 mod shape;
 
+pub use ask::{AskCase, AskMaker, LONGEST_BUFFER};
 pub use board::{Board, SPACE_BYTES};
 pub use case::{LONGEST_REPLY, ServeCase};
+pub use completion::CompletionMaker;
 pub use dual_bdf::DualMaker;
 pub use dvsec::DvsecMaker;
 pub use fault::FaultMaker;
 pub use lengths::{NAMED_LENGTHS, WrongLengths, named_length_place};
 pub use packet::{LONGEST_PACKET, Packet, PacketMaker};
+pub use parts::{KINDS, PartsMaker, is_write};
 pub use port_fault::{LONGEST_LIST, any_port};
 pub use random::Random;
 pub use record::RecordScene;
+pub use reply::{FIXED_PLACES, UNSUPPORTED, WITH_DATA, WITHOUT_DATA, has_there, reply_length};
 pub use route::{LONGEST_LEAVING, RouteCase, RouteMaker};
 pub use scene::Scene;
 pub use shape::{SHAPES, Shape};

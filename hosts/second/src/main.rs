@@ -1,4 +1,4 @@
-//! `second`: compares the linked library with the model on random packets, spaces and ports.
+//! `second`: compares the linked library with the model on random packets, spaces, ports, requests and completions.
 //!
 //! Status 0: no difference, and every class was met often enough. Status 1: otherwise. Status 2: bad arguments.
 

@@ -1,12 +1,14 @@
 //! Document 01's rules, one module for each of its sections: packets, lists and records, as the requests 2/13 and 3/13
-//! change them. And request 1/13: the router.
+//! change them. And the requests 1/13, the router, and 5/13, the asking side.
 //!
 //! Every function answers every input. A number other than 0 leaves all that was lent as it was.
 
+mod ask;
 mod completion;
 mod description;
 mod dual_bdf;
 mod dvsec;
+mod hear;
 mod merge;
 mod ports;
 mod refusal;
@@ -16,6 +18,8 @@ mod serve;
 mod space;
 mod walk;
 
+#[cfg(test)]
+mod asking_side;
 #[cfg(test)]
 mod backplane;
 #[cfg(test)]
@@ -29,9 +33,11 @@ mod null;
 #[cfg(test)]
 mod shapes;
 
+pub use ask::{Parts, Written, write_request};
 pub use description::Description;
 pub use dual_bdf::{Alternate, dual_bdf};
 pub use dvsec::{Dvsec, dvsec, dvsec_body};
+pub use hear::{Heard, Said, read_completion};
 pub use merge::merged;
 pub use ports::Port;
 pub use route::{Routed, route};

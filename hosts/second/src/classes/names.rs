@@ -287,4 +287,6 @@ pub const NOISE: &[&str] = &[
     "dvsec_body",
     "dual_bdf",
     "route",
+    "write_request",
+    "read_completion",
 ];

@@ -1,5 +1,8 @@
 //! The classes of calls that a run must reach, in groups, each with its least count for a million calls.
 
+use super::ask_names::{
+    CIRCLE_UNSUPPORTED, CIRCLES, EFFECTS, HEAR_ANSWERS, HEAR_CAUSES, HEAR_TOGETHER, WRITE_ANSWERS, WRITE_CAUSES,
+};
 use super::fault_names::{ELSEWHERE, END_PLACES, LOOP_PLACES, WALK_TOGETHER};
 use super::group::{Classes, Group, Line};
 use super::names::{
@@ -28,7 +31,7 @@ const fn named(group: Group, title: &'static str, names: &'static [&'static str]
 }
 
 /// All groups. "Alone" means that the call has no other cause for a refusal, or for Unsupported Request.
-pub const TABLE: [Line; 95] = [
+pub const TABLE: [Line; 122] = [
     numbered(Group::ServeAnswers, "serve: answers 0 to 6", 7, 1000),
     named(
         Group::ServeCauses,
@@ -443,6 +446,138 @@ pub const TABLE: [Line; 95] = [
         100,
     ),
     named(Group::ListShapes, "route: shapes of lists", LIST_SHAPES, 20),
+    named(
+        Group::WriteAnswers,
+        "write_request: answers 0, 1 and 2",
+        WRITE_ANSWERS,
+        1000,
+    ),
+    named(
+        Group::WriteCauses,
+        "write_request: each cause of 1 and 2 alone",
+        WRITE_CAUSES,
+        100,
+    ),
+    numbered(
+        Group::WriteTogether,
+        "write_request: each two of seven causes together",
+        21,
+        20,
+    ),
+    numbered(
+        Group::WriteKinds,
+        "write_request: every kind outside the six alone",
+        250,
+        4,
+    ),
+    numbered(Group::WriteDevices, "write_request: every device over 31 alone", 224, 4),
+    numbered(
+        Group::WriteFunctions,
+        "write_request: every function over 7 alone",
+        248,
+        4,
+    ),
+    numbered(
+        Group::WriteOver,
+        "write_request: offsets over FFCh, each bit above, several",
+        21,
+        20,
+    ),
+    numbered(
+        Group::WriteUnaligned,
+        "write_request: offsets of no word, remainders, pages",
+        48,
+        5,
+    ),
+    numbered(
+        Group::WriteOverEnables,
+        "write_request: enables over 15, every value alone",
+        240,
+        4,
+    ),
+    numbered(
+        Group::WriteRooms,
+        "write_request: six kinds, buffers of 0 to 24, and more",
+        156,
+        10,
+    ),
+    numbered(
+        Group::WriteOffsets,
+        "write_request: every offset, read and written",
+        2048,
+        4,
+    ),
+    numbered(Group::WriteEnables, "write_request: 16 enables, six kinds", 96, 100),
+    numbered(Group::WriteTargets, "write_request: every device and function", 256, 20),
+    numbered(Group::WriteBuses, "write_request: every bus", 256, 20),
+    numbered(
+        Group::WriteBits,
+        "write_request: each bit of requester, tag, data",
+        224,
+        1000,
+    ),
+    named(
+        Group::HearAnswers,
+        "read_completion: what is said, answers 3 to 6",
+        HEAR_ANSWERS,
+        1000,
+    ),
+    named(
+        Group::HearCauses,
+        "read_completion: each cause of 3 to 6 alone",
+        HEAR_CAUSES,
+        100,
+    ),
+    named(
+        Group::HearTogether,
+        "read_completion: causes together",
+        HEAR_TOGETHER,
+        20,
+    ),
+    numbered(
+        Group::HearLengths,
+        "read_completion: 0Ah, 4Ah, others of 0 to 20 bytes, more",
+        64,
+        10,
+    ),
+    numbered(
+        Group::HearFirstBytes,
+        "read_completion: every other first byte alone",
+        254,
+        5,
+    ),
+    numbered(
+        Group::HearFixedBytes,
+        "read_completion: every wrong fixed byte alone",
+        3059,
+        2,
+    ),
+    numbered(
+        Group::HearFree,
+        "read_completion: each free bit, three sayings",
+        304,
+        500,
+    ),
+    named(Group::Circles, "circle: six kinds, what became of them", CIRCLES, 200),
+    named(
+        Group::CircleUnsupported,
+        "circle: each cause of UR alone",
+        CIRCLE_UNSUPPORTED,
+        20,
+    ),
+    numbered(Group::CircleOffsets, "circle: every offset, success", 1024, 5),
+    numbered(
+        Group::CircleEnables,
+        "circle: 16 enables, four accesses, success",
+        64,
+        100,
+    ),
+    named(
+        Group::Effects,
+        "circle: what a success came to on the board",
+        EFFECTS,
+        50,
+    ),
     named(Group::Noise, "all: plain noise (as the generator meant it)", NOISE, 100),
 ];
 

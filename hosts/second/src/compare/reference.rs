@@ -4,11 +4,14 @@
 //! for byte; number 0 hands back 0, 0, 0 while nothing is captured, else 1 with the bus and the device.
 //!
 //! A packet that leaves a router does so by `leaves` 1, the port's place and the length; else all three are 0.
+//!
+//! A completion says by 1 that it is a success with data, by 2 one without, by 3 Unsupported Request, and nothing by 0.
+//! The data are 0 where there are none.
 
-use thawribbon::raw::{Alternate, Capture, Dvsec, Part, Port, Routed, Served, Walked};
+use thawribbon::raw::{Alternate, Capture, Dvsec, Heard, Part, Parts, Port, Routed, Served, Walked, Written};
 
 use super::subject::{ServeCall, Subject};
-use crate::model::{self, List};
+use crate::model::{self, List, Said};
 
 /// The model as a subject.
 pub struct Reference;
@@ -32,6 +35,20 @@ fn model_port(port: &Port) -> model::Port {
         secondary: port.secondary,
         subordinate: port.subordinate,
         tcs: port.tcs,
+    }
+}
+
+const fn model_parts(parts: Parts) -> model::Parts {
+    model::Parts {
+        kind: parts.kind,
+        requester: parts.requester,
+        tag: parts.tag,
+        bus: parts.bus,
+        device: parts.device,
+        function: parts.function,
+        offset: parts.offset,
+        enables: parts.enables,
+        data: parts.data,
     }
 }
 
@@ -132,6 +149,32 @@ impl Subject for Reference {
             number: routed.number,
             leaves: routed.port.is_some().into(),
             port: routed.port.unwrap_or(0),
+        }
+    }
+
+    fn write_request(&mut self, parts: Parts, buffer: &mut [u8]) -> Written {
+        let written = model::write_request(&model_parts(parts), buffer);
+        Written {
+            length: written.length,
+            number: written.number,
+        }
+    }
+
+    fn read_completion(&mut self, completion: &[u8]) -> Heard {
+        let heard = model::read_completion(completion);
+        let (said, data) = match heard.said {
+            None => (0, [0; 4]),
+            Some(Said::WithData(data)) => (1, data),
+            Some(Said::WithoutData) => (2, [0; 4]),
+            Some(Said::Unsupported) => (3, [0; 4]),
+        };
+        Heard {
+            number: heard.number,
+            said,
+            completer: heard.completer,
+            requester: heard.requester,
+            tag: heard.tag,
+            data,
         }
     }
 }

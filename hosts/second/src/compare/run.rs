@@ -2,6 +2,8 @@
 
 use std::fmt;
 
+use super::asks::Asks;
+use super::circles::Circles;
 use super::difference::Difference;
 use super::packets::Packets;
 use super::records::Records;
@@ -11,8 +13,9 @@ use super::walks::Walks;
 use crate::classes::Tally;
 use crate::generate::{Random, SHAPES};
 
-/// How often each entry is called: serve, reset, the three walks, dvsec, dvsec_body, dual_bdf, route.
-const WEIGHTS: [usize; 9] = [70, 3, 5, 6, 6, 4, 3, 4, 25];
+/// How often each entry is called: serve, reset, the three walks, dvsec, dvsec_body, dual_bdf, route, write_request,
+/// read_completion. Then how often a circle is gone through.
+const WEIGHTS: [usize; 12] = [76, 3, 6, 8, 8, 5, 3, 4, 25, 10, 11, 6];
 
 /// Where a run met a difference.
 #[derive(Debug)]
@@ -37,6 +40,8 @@ pub fn run(subject: &mut impl Subject, seed: u64, cases: u64) -> Result<Tally, F
     let mut walks = SHAPES.map(Walks::new);
     let mut records = Records::new();
     let mut routes = Routes::new();
+    let mut asks = Asks::new();
+    let mut circles = Circles::new();
     let mut tally = Tally::new();
     for case in 0..cases {
         tally.call();
@@ -47,7 +52,10 @@ pub fn run(subject: &mut impl Subject, seed: u64, cases: u64) -> Result<Tally, F
             5 => records.dvsec(subject, &mut random, &mut tally),
             6 => records.dvsec_body(subject, &mut random, &mut tally),
             7 => records.dual_bdf(subject, &mut random, &mut tally),
-            _ => routes.route(subject, &mut random, &mut tally),
+            8 => routes.route(subject, &mut random, &mut tally),
+            9 => asks.write(subject, &mut random, &mut tally),
+            10 => asks.read(subject, &mut random, &mut tally),
+            _ => circles.circle(subject, &mut random, &mut tally),
         };
         compared.map_err(|difference| Failure { seed, case, difference })?;
     }

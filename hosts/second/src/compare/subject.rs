@@ -1,6 +1,8 @@
 //! What is compared with the model: anything with the library's entries, and the linked library itself.
 
-use thawribbon::raw::{self, Alternate, Capture, Description, Dvsec, Part, Port, Routed, Served, Walked};
+use thawribbon::raw::{
+    self, Alternate, Capture, Description, Dvsec, Heard, Part, Parts, Port, Routed, Served, Walked, Written,
+};
 
 /// All that a call of `serve` is given.
 pub struct ServeCall<'lent> {
@@ -25,6 +27,8 @@ pub trait Subject {
     fn dvsec_body(&mut self, space: &[u8], at: usize) -> Part;
     fn dual_bdf(&mut self, space: &[u8], at: usize) -> Alternate;
     fn route(&mut self, ports: &[Port], packet: &[u8], leaving: &mut [u8]) -> Routed;
+    fn write_request(&mut self, parts: Parts, buffer: &mut [u8]) -> Written;
+    fn read_completion(&mut self, completion: &[u8]) -> Heard;
 }
 
 /// The linked library.
@@ -74,5 +78,13 @@ impl Subject for Library {
 
     fn route(&mut self, ports: &[Port], packet: &[u8], leaving: &mut [u8]) -> Routed {
         raw::route(ports, packet, leaving)
+    }
+
+    fn write_request(&mut self, parts: Parts, buffer: &mut [u8]) -> Written {
+        raw::write_request(parts, buffer)
+    }
+
+    fn read_completion(&mut self, completion: &[u8]) -> Heard {
+        raw::read_completion(completion)
     }
 }

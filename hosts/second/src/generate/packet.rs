@@ -82,13 +82,19 @@ impl PacketMaker {
     /// A packet with no cause for a refusal. Where the call has none either, and the packet none for Unsupported
     /// Request, the words have their turn.
     pub fn sound(&mut self, board: &Board, in_turn: bool, random: &mut Random) -> Packet {
+        let fields = self.fields(board, in_turn, random);
+        encode(&fields, random)
+    }
+
+    /// The fields of such a packet.
+    pub fn fields(&mut self, board: &Board, in_turn: bool, random: &mut Random) -> Fields {
         let spoiling = random.weighted(&[66, 24, 10]);
         let mut fields = self.succeeding(board, in_turn && spoiling == 0, random);
         let causes = if spoiling == 2 { random.within(2, 4) } else { spoiling };
         for _ in 0..causes {
             spoil(&mut fields, random.pick(&CAUSES), board, random);
         }
-        encode(&fields, random)
+        fields
     }
 
     fn succeeding(&mut self, board: &Board, in_turn: bool, random: &mut Random) -> Fields {

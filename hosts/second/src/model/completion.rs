@@ -5,7 +5,7 @@ use super::request::Request;
 /// The bytes of a completion with data, and the least room a reply may have.
 pub(super) const LONGEST_COMPLETION: usize = 16;
 /// The bytes of a completion without data.
-const SHORT_COMPLETION: usize = 12;
+pub(super) const SHORT_COMPLETION: usize = 12;
 
 /// The first four bytes of a completion with data.
 const WITH_DATA: [u8; 4] = [0x4A, 0x00, 0x00, 0x01];

@@ -4,15 +4,15 @@ use super::refusal::Refusal;
 use super::space::is_word_offset;
 
 /// The highest offset of a word.
-const LAST_WORD: usize = 0xFFC;
+pub(super) const LAST_WORD: usize = 0xFFC;
 /// The lowest ordinary place of the Device Correlation word.
 const LOWEST_A: usize = 0x104;
 /// The lowest trusted place of the Device Correlation word.
 const LOWEST_B: usize = 0x00C;
 /// The highest function number.
-const LAST_FUNCTION: u8 = 7;
+pub(super) const LAST_FUNCTION: u8 = 7;
 /// The highest device number.
-const LAST_DEVICE: u8 = 31;
+pub(super) const LAST_DEVICE: u8 = 31;
 
 /// A board's function number, and the two places of the Device Correlation word.
 #[derive(Clone, Copy, Debug, PartialEq, Eq)]

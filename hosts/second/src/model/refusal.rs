@@ -1,6 +1,6 @@
-//! The answer numbers 1 to 12, each with the documents' cause: document 01's 1 to 10, with the causes that request 1/13
-//! adds, and the 11 and 12 into which request 3/13 splits 7. Number 0 is the absence of a refusal, and "7 is no longer
-//! given".
+//! The answer numbers 1 to 12, each with the documents' cause: document 01's 1 to 10, with the causes that the requests
+//! 1/13 and 5/13 add, and the 11 and 12 into which request 3/13 splits 7. Number 0 is the absence of a refusal, and "7
+//! is no longer given".
 
 /// Why a call is refused. The lowest number that applies is given.
 #[derive(Clone, Copy, Debug, PartialEq, Eq)]
@@ -8,19 +8,22 @@
 pub(super) enum Refusal {
     /// "a space or rule space isn't 4,096 bytes, a captured device is over 31, or a function number or offset is
     /// outside its range"; for a list of ports, "if it is longer than 32, if a secondary exceeds its subordinate, or if
-    /// two ranges, ends included, meet"
+    /// two ranges, ends included, meet"; for one who asks, "a kind outside the six, a device over 31, a function over 7,
+    /// an offset over FFCh or not a multiple of 4, or enables over 15"
     Outside = 1,
     /// "the reply is under 16 bytes, or the list room is under the list's maximum"; for the router, "What leaves is
-    /// written into a lent buffer; under 20 bytes it is 2"
+    /// written into a lent buffer; under 20 bytes it is 2"; for one who asks, "a buffer shorter than those bytes"
     Room = 2,
-    /// "the packet has fewer than 12 bytes"
+    /// "the packet has fewer than 12 bytes"; of a completion, "under 12 bytes"
     Short = 3,
     /// "the type code isn't one of the six"; "Type 0 at the router", and a trusted request where the port does not
-    /// support it
+    /// support it; of a completion, "a first byte other than 4Ah and 0Ah"
     TypeCode = 4,
-    /// "the packet length doesn't fit its type and digest bit"
+    /// "the packet length doesn't fit its type and digest bit"; of a completion, "a length other than 16 or 12 for that
+    /// byte"
     PacketLength = 5,
-    /// "a fixed header field has another value"
+    /// "a fixed header field has another value"; of a completion, "any other byte that no reply of document 01 with that
+    /// first byte has at its place"
     FixedField = 6,
     /// "not the structure asked for"
     Structure = 8,

@@ -4,9 +4,9 @@ use super::refusal::Refusal;
 use super::space::is_word_offset;
 
 /// The bytes of every packet before its data and its digest.
-const HEADER_BYTES: usize = 12;
+pub(super) const HEADER_BYTES: usize = 12;
 /// The bytes of a write's data, and also those of a digest.
-const TAIL_BYTES: usize = 4;
+pub(super) const TAIL_BYTES: usize = 4;
 
 /// What is asked of the word.
 #[derive(Clone, Copy, Debug, PartialEq, Eq)]
@@ -84,7 +84,7 @@ impl Request {
 
 /// "Six type codes are served: 04h and 44h (read, write, Type 0), 05h and 45h (read, write, Type 1), 1Bh and 5Bh
 /// (trusted read, write)." Bit 7 of the byte is "reserved and ignored". Answers the route, and whether it is a write.
-fn type_code(first: u8) -> Result<(Route, bool), Refusal> {
+pub(super) fn type_code(first: u8) -> Result<(Route, bool), Refusal> {
     match first & 0x7F {
         0x04 => Ok((Route::Type0, false)),
         0x44 => Ok((Route::Type0, true)),

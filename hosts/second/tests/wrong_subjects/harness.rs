@@ -2,12 +2,12 @@
 
 use second::compare::{Failure, Reference, ServeCall, Subject, Tally, run};
 use second::model::List;
-use thawribbon::raw::{Alternate, Capture, Dvsec, Part, Port, Routed, Served, Walked};
+use thawribbon::raw::{Alternate, Capture, Dvsec, Heard, Part, Parts, Port, Routed, Served, Walked, Written};
 
 /// The seed of every run here.
 const SEED: u64 = 20_050_701;
 /// The calls within which a wrong subject must be caught, and a right one must not.
-const CALLS: u64 = 60_000;
+const CALLS: u64 = 80_000;
 
 type ServeEntry = Box<dyn FnMut(ServeCall<'_>) -> Served>;
 type ResetEntry = Box<dyn FnMut(Capture) -> Capture>;
@@ -16,6 +16,8 @@ type DvsecEntry = Box<dyn FnMut(&[u8], usize) -> Dvsec>;
 type BodyEntry = Box<dyn FnMut(&[u8], usize) -> Part>;
 type DualEntry = Box<dyn FnMut(&[u8], usize) -> Alternate>;
 type RouteEntry = Box<dyn FnMut(&[Port], &[u8], &mut [u8]) -> Routed>;
+type WriteEntry = Box<dyn FnMut(Parts, &mut [u8]) -> Written>;
+type ReadEntry = Box<dyn FnMut(&[u8]) -> Heard>;
 
 /// The model, with entries that may be wrong.
 pub struct Wrong {
@@ -26,6 +28,8 @@ pub struct Wrong {
     body: BodyEntry,
     dual: DualEntry,
     route: RouteEntry,
+    write: WriteEntry,
+    read: ReadEntry,
 }
 
 impl Wrong {
@@ -39,6 +43,8 @@ impl Wrong {
             body: Box::new(|space, at| Reference.dvsec_body(space, at)),
             dual: Box::new(|space, at| Reference.dual_bdf(space, at)),
             route: Box::new(|ports, packet, leaving| Reference.route(ports, packet, leaving)),
+            write: Box::new(|parts, buffer| Reference.write_request(parts, buffer)),
+            read: Box::new(|completion| Reference.read_completion(completion)),
         }
     }
 
@@ -90,6 +96,20 @@ impl Wrong {
             ..Self::nothing()
         }
     }
+
+    pub fn write(entry: impl FnMut(Parts, &mut [u8]) -> Written + 'static) -> Self {
+        Self {
+            write: Box::new(entry),
+            ..Self::nothing()
+        }
+    }
+
+    pub fn read(entry: impl FnMut(&[u8]) -> Heard + 'static) -> Self {
+        Self {
+            read: Box::new(entry),
+            ..Self::nothing()
+        }
+    }
 }
 
 impl Subject for Wrong {
@@ -127,6 +147,14 @@ impl Subject for Wrong {
 
     fn route(&mut self, ports: &[Port], packet: &[u8], leaving: &mut [u8]) -> Routed {
         (self.route)(ports, packet, leaving)
+    }
+
+    fn write_request(&mut self, parts: Parts, buffer: &mut [u8]) -> Written {
+        (self.write)(parts, buffer)
+    }
+
+    fn read_completion(&mut self, completion: &[u8]) -> Heard {
+        (self.read)(completion)
     }
 }
 

@@ -4,27 +4,33 @@
 
 mod accessing;
 mod answering;
+mod asker;
 mod blanking;
+mod bounding;
 mod broken;
 mod capturing;
 mod emptying;
 mod exceeding;
 mod finding;
 mod harness;
+mod hearing;
 mod judging;
 mod leaving;
 mod looping;
 mod marking;
+mod measuring;
 mod ordering;
 mod placing;
 mod reading;
 mod refusing;
+mod repeating;
 mod router;
 mod routing;
 mod serving;
 mod telling;
 mod walker;
 mod walking;
+mod writing;
 
 use harness::{Wrong, expect_caught, expect_not_caught, run_fixed};
 use second::compare::{Failure, Library};
@@ -68,6 +74,17 @@ fn a_difference_at_the_router_is_told_in_full() {
         &failure,
         &["entry: route", "ports:", "packet", "buffer as lent", "buffer, place 2"],
     );
+}
+
+#[test]
+fn a_difference_of_the_asking_side_is_told_in_full() {
+    let failure = expect_caught(writing::with_the_tag_lost(), "write_request");
+    expect_told(
+        &failure,
+        &["entry: write_request", "parts: ", "buffer as lent", "buffer, place 6"],
+    );
+    let failure = expect_caught(repeating::with_the_tag_lost(), "read_completion");
+    expect_told(&failure, &["entry: read_completion", "completion: ", "tag: 0"]);
 }
 
 #[test]

@@ -1,0 +1,241 @@
+//! What the completion of a circle has to mean. Request 5/13 wants what is written to read back as the same request, and
+//! what the board replies as the same completion. So what is heard is held against the parts that were asked with and
+//! against the board before and after, without a look at the packet or the reply.
+
+use thawribbon::raw::{Description, Heard, Parts};
+
+use crate::generate::is_write;
+
+/// A circle: what was asked of which board, what was heard, and the spaces before and after.
+pub struct CircleView<'call> {
+    pub parts: Parts,
+    pub description: Description,
+    /// What was captured before and after.
+    pub capture: Option<(u8, u8)>,
+    pub captured_then: Option<(u8, u8)>,
+    pub heard: Heard,
+    pub ordinary: [&'call [u8]; 2],
+    pub ordinary_rules: &'call [u8],
+    pub trusted: [&'call [u8]; 2],
+    pub trusted_rules: &'call [u8],
+}
+
+impl CircleView<'_> {
+    pub fn is_trusted(&self) -> bool {
+        matches!(self.parts.kind, 0x1B | 0x5B)
+    }
+
+    pub fn is_at_a(&self) -> bool {
+        !self.is_trusted() && self.parts.offset == self.description.a
+    }
+
+    /// Whether no byte of either space changed.
+    fn nothing_changed(&self) -> bool {
+        self.ordinary[0] == self.ordinary[1] && self.trusted[0] == self.trusted[1]
+    }
+
+    /// The bytes, before and after, that a request at this place is about, and their rules.
+    pub fn bytes(&self) -> [[u8; 4]; 3] {
+        let at = self.parts.offset as usize;
+        let [before, after, rules] = if self.is_trusted() {
+            [self.trusted[0], self.trusted[1], self.trusted_rules]
+        } else {
+            [self.ordinary[0], self.ordinary[1], self.ordinary_rules]
+        };
+        [before, after, rules].map(|space| [space[at], space[at + 1], space[at + 2], space[at + 3]])
+    }
+}
+
+/// Whether what was heard answers what was asked: the requester and the tag are those of the request, and the completer
+/// is the board, by what it has captured then.
+pub fn is_answer(view: &CircleView<'_>) -> bool {
+    let heard = &view.heard;
+    let (bus, device) = view.captured_then.unwrap_or((0, 0));
+    heard.number == 0
+        && (heard.requester, heard.tag) == (view.parts.requester, view.parts.tag)
+        && heard.completer == [bus, 8 * device + view.description.function]
+}
+
+/// Whether what was heard is what became of the request. UR: nothing changed. Success with data: nothing changed, and
+/// the data are what the space shows. Success without: the enabled bits that may be written are as the data, and nothing
+/// else changed; at A nothing did.
+pub fn is_done(view: &CircleView<'_>, unsupported: bool) -> bool {
+    let target = Some((view.parts.bus, view.parts.device));
+    let captured = if !unsupported && view.parts.kind == 0x44 {
+        target
+    } else {
+        view.capture
+    };
+    let done = match (unsupported, is_write(view.parts.kind)) {
+        (true, _) => view.heard.said == 3 && view.nothing_changed(),
+        (false, false) => view.heard.said == 1 && view.nothing_changed() && view.heard.data == shown(view),
+        (false, true) => view.heard.said == 2 && has_landed(view),
+    };
+    let without_data = view.heard.said == 1 || view.heard.data == [0; 4];
+    done && without_data && view.captured_then == captured
+}
+
+/// What the space shows at the place that was asked for: at A the trusted bytes at B, and 00h where not enabled.
+fn shown(view: &CircleView<'_>) -> [u8; 4] {
+    let b = view.description.b as usize;
+    let [bytes, ..] = view.bytes();
+    [0, 1, 2, 3].map(|place| match view.parts.enables >> place & 1 {
+        0 => 0x00,
+        _ if view.is_at_a() => view.trusted[0][b + place],
+        _ => bytes[place],
+    })
+}
+
+/// Whether a write has landed, and nothing else.
+fn has_landed(view: &CircleView<'_>) -> bool {
+    if view.is_at_a() {
+        return view.nothing_changed();
+    }
+    let at = view.parts.offset as usize;
+    let (changed, other) = if view.is_trusted() {
+        (view.trusted, view.ordinary)
+    } else {
+        (view.ordinary, view.trusted)
+    };
+    let [before, after] = changed;
+    let [old, new, rules] = view.bytes();
+    let as_due = (0..4).all(|place| {
+        let open = if view.parts.enables >> place & 1 == 1 {
+            rules[place]
+        } else {
+            0
+        };
+        new[place] & open == view.parts.data[place] & open && new[place] & !open == old[place] & !open
+    });
+    as_due && before[..at] == after[..at] && before[at + 4..] == after[at + 4..] && other[0] == other[1]
+}
+
+#[cfg(test)]
+mod tests {
+    use super::{CircleView, Description, Heard, Parts, is_answer, is_done};
+
+    const BEFORE: [u8; 16] = [0x3C; 16];
+    const RULES: [u8; 16] = [0xF0; 16];
+    const TRUSTED: [u8; 16] = [0x99; 16];
+    const DATA: [u8; 4] = [0xAA, 0xBB, 0xCC, 0xDD];
+
+    /// An ordinary write at 004h, of all bytes but the first, to a board with function 1; A is 008h and B is 00Ch. Here
+    /// the space is as it was, so that nothing has landed yet.
+    fn asked<'call>(kind: u8, said: u8, ordinary: &'call [u8], trusted: &'call [u8]) -> CircleView<'call> {
+        let parts = Parts {
+            offset: 0x004,
+            kind,
+            requester: [1, 2],
+            tag: 3,
+            bus: 5,
+            device: 6,
+            function: 1,
+            enables: 0x0E,
+            data: DATA,
+        };
+        let heard = Heard {
+            number: 0,
+            said,
+            completer: [5, 0x31],
+            requester: [1, 2],
+            tag: 3,
+            data: [0; 4],
+        };
+        CircleView {
+            parts,
+            description: Description {
+                function: 1,
+                a: 0x008,
+                b: 0x00C,
+            },
+            capture: Some((5, 6)),
+            captured_then: Some((5, 6)),
+            heard,
+            ordinary: [&BEFORE, ordinary],
+            ordinary_rules: &RULES,
+            trusted: [&TRUSTED, trusted],
+            trusted_rules: &RULES,
+        }
+    }
+
+    /// The space with other bytes at an offset.
+    fn with<const N: usize>(space: [u8; 16], at: usize, bytes: [u8; N]) -> [u8; 16] {
+        let mut space = space;
+        space[at..at + N].copy_from_slice(&bytes);
+        space
+    }
+
+    #[test]
+    fn a_write_has_landed_where_it_may_and_nowhere_else() {
+        let landed = with(BEFORE, 0x004, [0x3C, 0xBC, 0xCC, 0xDC]);
+        assert!(is_done(&asked(0x44, 2, &landed, &TRUSTED), false));
+        assert!(!is_done(&asked(0x44, 3, &landed, &TRUSTED), false));
+        assert!(!is_done(&asked(0x44, 2, &BEFORE, &TRUSTED), false));
+        for wrong in [
+            with(BEFORE, 0x004, [0xAC, 0xBC, 0xCC, 0xDC]),
+            with(BEFORE, 0x004, DATA),
+            with(landed, 0x003, [0x3D]),
+            with(landed, 0x008, [0x3D]),
+            with(BEFORE, 0x008, [0x3C, 0xBC, 0xCC, 0xDC]),
+        ] {
+            assert!(!is_done(&asked(0x44, 2, &wrong, &TRUSTED), false));
+        }
+        let elsewhere = with(TRUSTED, 0x004, [0x3C, 0xBC, 0xCC, 0xDC]);
+        assert!(!is_done(&asked(0x44, 2, &landed, &elsewhere), false));
+        assert!(!is_done(&asked(0x44, 2, &BEFORE, &elsewhere), false));
+    }
+
+    #[test]
+    fn a_write_at_a_changes_nothing_and_every_ordinary_one_captures() {
+        let at_a = |ordinary| {
+            let mut view = asked(0x44, 2, ordinary, &TRUSTED);
+            view.parts.offset = 0x008;
+            is_done(&view, false)
+        };
+        assert!(at_a(&BEFORE));
+        assert!(!at_a(&with(BEFORE, 0x008, [0x3C, 0xBC, 0xCC, 0xDC])));
+        let landed = with(BEFORE, 0x004, [0x3C, 0xBC, 0xCC, 0xDC]);
+        for captured_then in [None, Some((5, 7)), Some((4, 6))] {
+            let mut view = asked(0x44, 2, &landed, &TRUSTED);
+            view.captured_then = captured_then;
+            assert!(!is_done(&view, false));
+        }
+    }
+
+    #[test]
+    fn a_read_shows_what_is_there_and_changes_nothing() {
+        let read = |offset, ordinary, data| {
+            let mut view = asked(0x04, 1, ordinary, &TRUSTED);
+            (view.parts.offset, view.heard.data) = (offset, data);
+            is_done(&view, false)
+        };
+        assert!(read(0x004, &BEFORE, [0x00, 0x3C, 0x3C, 0x3C]));
+        assert!(read(0x008, &BEFORE, [0x00, 0x99, 0x99, 0x99]));
+        assert!(!read(0x004, &BEFORE, [0x3C; 4]));
+        assert!(!read(0x008, &BEFORE, [0x00, 0x3C, 0x3C, 0x3C]));
+        assert!(!read(0x004, &with(BEFORE, 0x000, [0]), [0x00, 0x3C, 0x3C, 0x3C]));
+    }
+
+    #[test]
+    fn ur_changes_nothing() {
+        assert!(is_done(&asked(0x45, 3, &BEFORE, &TRUSTED), true));
+        assert!(!is_done(&asked(0x45, 2, &BEFORE, &TRUSTED), true));
+        assert!(!is_done(&asked(0x45, 3, &with(BEFORE, 0x004, DATA), &TRUSTED), true));
+        assert!(!is_done(&asked(0x45, 3, &BEFORE, &with(TRUSTED, 0x004, DATA)), true));
+    }
+
+    #[test]
+    fn an_answer_is_of_the_board_and_to_the_request() {
+        let changed = |change: fn(&mut Heard)| {
+            let mut view = asked(0x45, 3, &BEFORE, &TRUSTED);
+            change(&mut view.heard);
+            is_answer(&view)
+        };
+        assert!(changed(|_| {}));
+        assert!(!changed(|heard| heard.number = 6));
+        assert!(!changed(|heard| heard.tag = 4));
+        assert!(!changed(|heard| heard.requester = [2, 1]));
+        assert!(!changed(|heard| heard.completer = [5, 0x30]));
+        assert!(!changed(|heard| heard.completer = [0, 1]));
+    }
+}

@@ -1,0 +1,135 @@
+//! A board with a packet and a reply for it: served by the model and by the subject, and compared.
+
+use thawribbon::raw::{Capture, Description, Served};
+
+use super::difference::Difference;
+use super::reference::Reference;
+use super::subject::{ServeCall, Subject};
+use crate::generate::{Board, LONGEST_PACKET, LONGEST_REPLY, Random};
+use crate::twin::Twin;
+
+/// A board, and what is lent beside its spaces.
+pub struct Bench {
+    pub board: Board,
+    pub packet: Twin<u8>,
+    pub reply: Twin<u8>,
+}
+
+impl Bench {
+    /// A bench whose board's life is over, to be renewed.
+    pub fn spent() -> Self {
+        Self {
+            board: Board::spent(),
+            packet: Twin::new(LONGEST_PACKET),
+            reply: Twin::new(LONGEST_REPLY),
+        }
+    }
+
+    /// Uses up a call of the board's life. With a new board the buffers get other starts, and the answer is true.
+    pub fn live(&mut self, random: &mut Random) -> bool {
+        let is_new = self.board.live(random);
+        if is_new {
+            self.packet.shift(random.below(8));
+            self.reply.shift(random.below(8));
+        }
+        is_new
+    }
+
+    /// Lends a random reply of so many bytes, and remembers all that a call may write.
+    pub fn lend_reply(&mut self, length: usize, random: &mut Random) {
+        self.reply.refill(|bytes| random.fill(bytes));
+        self.reply.lend(length);
+        for written in [&mut self.board.ordinary, &mut self.board.trusted, &mut self.reply] {
+            written.remember();
+        }
+    }
+
+    /// Serves the packet by the model and by the subject, all as it is lent.
+    pub fn serve(
+        &mut self,
+        description: Description,
+        kept: Capture,
+        subject: &mut impl Subject,
+    ) -> Result<Served, Box<Difference>> {
+        let ours = self.serve_ours(description, kept);
+        let theirs = self.serve_theirs(description, kept, subject);
+        if ours == theirs && self.agrees() {
+            return Ok(ours);
+        }
+        Err(Box::new(self.difference(description, kept, ours, theirs)))
+    }
+
+    fn serve_ours(&mut self, description: Description, kept: Capture) -> Served {
+        Reference.serve(ServeCall {
+            description,
+            kept,
+            ordinary: self.board.ordinary.ours_mut(),
+            ordinary_rules: self.board.ordinary_rules.ours(),
+            trusted: self.board.trusted.ours_mut(),
+            trusted_rules: self.board.trusted_rules.ours(),
+            packet: self.packet.ours(),
+            reply: self.reply.ours_mut(),
+        })
+    }
+
+    fn serve_theirs(&mut self, description: Description, kept: Capture, subject: &mut impl Subject) -> Served {
+        subject.serve(ServeCall {
+            description,
+            kept,
+            ordinary: self.board.ordinary.theirs_mut(),
+            ordinary_rules: self.board.ordinary_rules.theirs(),
+            trusted: self.board.trusted.theirs_mut(),
+            trusted_rules: self.board.trusted_rules.theirs(),
+            packet: self.packet.theirs(),
+            reply: self.reply.theirs_mut(),
+        })
+    }
+
+    /// Whether every byte of every buffer is alike.
+    fn agrees(&self) -> bool {
+        let board = &self.board;
+        let buffers = [
+            &board.ordinary,
+            &board.ordinary_rules,
+            &board.trusted,
+            &board.trusted_rules,
+            &self.packet,
+            &self.reply,
+        ];
+        buffers.iter().all(|buffer| buffer.agrees())
+    }
+
+    fn difference(&self, description: Description, kept: Capture, ours: Served, theirs: Served) -> Difference {
+        let board = &self.board;
+        let offset = match self.packet.ours().get(10..12) {
+            Some(&[high, low]) => usize::from(high & 0x0F) << 8 | usize::from(low & 0xFC),
+            _ => 0,
+        };
+        let places = [offset, description.a as usize & !3, description.b as usize & !3];
+        Difference::new("serve", ours, theirs)
+            .input("description", description)
+            .input("kept", kept)
+            .bytes("packet", self.packet.ours())
+            .bytes("reply as lent", self.reply.before())
+            .bytes("reply of the model", self.reply.ours())
+            .bytes("reply of the subject", self.reply.theirs())
+            .words(
+                "ordinary words at the packet's offset, A and B",
+                board.ordinary.before(),
+                &places,
+            )
+            .words("ordinary rules there", board.ordinary_rules.ours(), &places)
+            .words("trusted words there", board.trusted.before(), &places)
+            .words("trusted rules there", board.trusted_rules.ours(), &places)
+            .space("ordinary", board.ordinary.before())
+            .space("ordinary rules", board.ordinary_rules.ours())
+            .space("trusted", board.trusted.before())
+            .space("trusted rules", board.trusted_rules.ours())
+            .look("ordinary", &board.ordinary)
+            .look("ordinary rules", &board.ordinary_rules)
+            .look("trusted", &board.trusted)
+            .look("trusted rules", &board.trusted_rules)
+            .look("packet", &self.packet)
+            .look("reply", &self.reply)
+    }
+}
