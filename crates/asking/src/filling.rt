@@ -55,7 +55,21 @@ pub(super) fn with_data(header: [u8; 12], new: [u8; 4]) -> [u8; 16]
     ensures { λ r. ⌜ r ≡ four header 0 ++ four header 4 ++ four header 8 ++ four new 0 ⌝ }
 {
     [
-        header[0], header[1], header[2], header[3], header[4], header[5], header[6], header[7],
-        header[8], header[9], header[10], header[11], new[0], new[1], new[2], new[3],
+        header[0],
+        header[1],
+        header[2],
+        header[3],
+        header[4],
+        header[5],
+        header[6],
+        header[7],
+        header[8],
+        header[9],
+        header[10],
+        header[11],
+        new[0],
+        new[1],
+        new[2],
+        new[3],
     ]
 }

@@ -107,7 +107,13 @@ fn read_begun(bytes: &[u8], data: bool) -> Heard
         return Heard::Refused(Refusal::WrongLength);
     }
     if is_never_sent(
-        data, bytes[1], bytes[2], bytes[3], bytes[6], bytes[7], bytes[11],
+        data,
+        bytes[1],
+        bytes[2],
+        bytes[3],
+        bytes[6],
+        bytes[7],
+        bytes[11],
     ) {
         return Heard::Refused(Refusal::WrongField);
     }

@@ -1,7 +1,7 @@
 -- THEOREM. Document 02, 5/13, "What we write must read back as the same request": every accepted request is read by the board's decoder as the
 -- same request. Every packet without digest and poison and with its reserved bits clear is what the writer writes for what the decoder reads, so
 -- the writer can write exactly these. Assumes nothing.
-use Prim.Native.Nat.{ℕ, zero, suc, _+_, _*_, _/_, _%_, _≤_, _<_}
+use Prim.Native.Nat.{ℕ, _+_, _*_, _/_, _%_, _≤_, _<_}
 use mathlib.Core.Bool.{Bool, true, false, not, cond}
 use mathlib.Core.List.{List, [], _∷_, _++_, List·Memᴰ.List·Memᴰ·head, List·Memᴰ.List·Memᴰ·tail}
 use mathlib.Core.Logic.{_↔_}

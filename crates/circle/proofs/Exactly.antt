@@ -1,7 +1,7 @@
 -- THEOREMS. The reader takes exactly the replies of document 01, and its check 6 is exactly "any other byte that no reply of document 01 with that first byte
 -- has at its place": where the length fits the first byte, it applies exactly if some byte is one that no reply has there. So every completer ID, requester
 -- ID, tag and data byte does occur, a reply with data has status 00h only, and one without has 00h or 20h. Assumes nothing.
-use Prim.Native.Nat.{ℕ, zero, suc, _+_, _≤_, _<_}
+use Prim.Native.Nat.{ℕ, _≤_, _<_}
 use mathlib.Core.Bool.{Bool, true, false, not, cond, _||_, _&&_}
 use mathlib.Core.List.{List, [], _∷_, List·Memᴰ.List·Memᴰ·head, List·Memᴰ.List·Memᴰ·tail}
 use mathlib.Core.Logic.{_↔_}

@@ -1,19 +1,17 @@
 -- Every completion that reads back is one that some board gives: a well-described board of real bytes and a packet for each, with any completer ID, any
 -- requester ID, any tag and any data. Assumes nothing.
-use Prim.Native.Nat.{ℕ, zero, suc, _+_, _*_, _/_, _%_, _≤_, _<_}
-use mathlib.Core.Bool.{Bool, true, false, cond}
-use mathlib.Core.List.{List, [], _∷_, _++_}
-use mathlib.Core.Path.{_≡_, refl, sym, ap, ap₂, _∙_, subst}
+use Prim.Native.Nat.{ℕ, zero, suc, _<_}
+use mathlib.Core.Bool.{false}
+use mathlib.Core.List.{List, [], _∷_}
+use mathlib.Core.Path.{_≡_, refl, ap, _∙_}
 use native.Mathlib.Nat.{zero-lt-suc}
 use native.Mathlib.Omega.{arith}
-use lib.Dec.{eqb}
-use lib.ListN.{length, getD, replicate, length-replicate}
+use lib.ListN.{length, replicate, length-replicate}
 use borrow.Author.Tests.{eq-eqb, le-ltb}
 use Rattle.words.specs.Bytes.{byte, four}
 use Rattle.words.specs.Places.{placed}
 use Rattle.registers.specs.Shown.{shown}
 use Rattle.packet.specs.declared.Id.{Id}
-use Rattle.packet.specs.declared.Request.{Request}
 use Rattle.packet.specs.declared.Status.the-variants.{Success, Unsupported}
 use Rattle.packet.specs.Fields.{typeOf, deviceOf, functionOf, dataOf}
 use Rattle.packet.specs.Request.{packetNumber, requestOf}
@@ -23,8 +21,8 @@ use Rattle.capture.specs.Kept.{completer}
 use Rattle.capture.proofs.Laws.{completer-exact}
 use Rattle.circle.specs.Plain.{Octets}
 use Rattle.board.specs.Description.{Board, WellDescribed}
-use Rattle.board.specs.Access.{unsupported, afterWrite, shownWord, readWord}
-use Rattle.board.specs.Serving.{Outcome, completerOf, respond, serve}
+use Rattle.board.specs.Access.{unsupported, afterWrite, shownWord}
+use Rattle.board.specs.Serving.{Outcome, respond, serve}
 use Rattle.board.proofs.Laws.{unsupported-type0, unsupported-type1}
 use Rattle.board.proofs.Outcomes.{respond-unsupported, respond-write, respond-read, served-is}
 use Rattle.circle.specs.Replies.{Reply}

@@ -1,10 +1,9 @@
 -- THEOREM. Everything that a board replies reads back as the completion that it means: completer, requester, tag, and what it says, with the data. From any
 -- board, of any bytes. Assumes nothing.
-use Prim.Native.Nat.{ℕ, zero, suc}
+use Prim.Native.Nat.{ℕ}
 use mathlib.Core.Bool.{Bool, true, false, cond}
-use mathlib.Core.List.{List, [], _∷_}
-use mathlib.Core.Path.{_≡_, refl, sym, ap, _∙_}
-use Rattle.words.specs.Bytes.{byte}
+use mathlib.Core.List.{List}
+use mathlib.Core.Path.{_≡_, refl, sym, _∙_}
 use Rattle.packet.specs.declared.Id.{Id}
 use Rattle.packet.specs.declared.Request.{Request}
 use Rattle.packet.specs.declared.Status.the-variants as status
@@ -17,7 +16,7 @@ use Rattle.asking.specs.declared.Said.the-variants.{Done, Unsupported}
 use Rattle.asking.specs.Reading.{readNumber, completionOf}
 use Rattle.board.specs.Description.{Board}
 use Rattle.board.specs.Access.{unsupported, afterWrite, readWord}
-use Rattle.board.specs.Serving.{Outcome, completerOf, respond, serveNumber, byNumber, serve}
+use Rattle.board.specs.Serving.{Outcome, completerOf, respond, serve}
 use Rattle.board.proofs.Outcomes.{respond-unsupported, respond-write, respond-read}
 use Rattle.board.proofs.Refusals.{outcome-number}
 use Rattle.circle.specs.Replies.{shownFour, meant}

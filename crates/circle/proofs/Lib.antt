@@ -3,3 +3,4 @@ pub mod Heard
 pub mod Given
 pub mod Exactly
 pub mod NightShift
+pub mod Bench

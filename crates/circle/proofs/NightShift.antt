@@ -2,7 +2,7 @@
 -- request that we wrote, served by any well-described board, and the completion read back. "Success without data": the enabled writable bits at that place
 -- of that space equal the data and nothing else changed (at A: nothing changed). "Success with data": the data is what the space shows there. UR: nothing
 -- changed. Assumes nothing.
-use Prim.Native.Nat.{ℕ, zero, suc, _+_, _≤_, _<_}
+use Prim.Native.Nat.{ℕ, zero, suc, _+_, _<_}
 use mathlib.Core.Bool.{Bool, true, false, cond}
 use mathlib.Core.List.{List, [], _∷_}
 use mathlib.Core.Logic.{inl, inr, ⊎-elim}
@@ -29,7 +29,7 @@ use Rattle.packet.specs.Completion.{statusByte, withoutData}
 use Rattle.asking.specs.declared.Parts.{Parts}
 use Rattle.asking.specs.declared.Written.{Written}
 use Rattle.asking.specs.declared.Said.{Said}
-use Rattle.asking.specs.declared.Said.the-variants.{Shown, Done, Unsupported}
+use Rattle.asking.specs.declared.Said.the-variants.{Done, Unsupported}
 use Rattle.asking.specs.declared.Completion.{Completion}
 use Rattle.asking.specs.declared.Heard.{Heard}
 use Rattle.asking.specs.declared.Heard.the-variants.{Says, Refused}
@@ -48,7 +48,7 @@ use Rattle.board.proofs.Keeps.{serve-keeps}
 use Rattle.board.proofs.Lands as lands
 use Rattle.board.proofs.Lands.{write-lands, others-keep}
 use Rattle.circle.specs.Replies.{shownFour, meant}
-use Rattle.circle.specs.Sentence.{asksTrusted, BitsLanded, Landed, shownThere, Means}
+use Rattle.circle.specs.Sentence.{BitsLanded, Landed, shownThere, Means}
 use Rattle.circle.proofs.Heard.{served, replies-read-back}
 
 -- what the caller of `board::serve` holds afterwards
@@ -76,13 +76,13 @@ abbrev pub held : {a : Parts} {new : List ℕ} {d : Board} → Asked a new d →
 held {d = d} s = holding d (s .served) (s .ordinary) (s .trusted)
 
 -- the sentence: the completion is for this request, and means what it says. What is refused instead of read changes nothing; a reply under 16 bytes was lent
-pub record Says-so (a : Parts) (new : List ℕ) (d : Board) (s : Asked a new d) : Type 0 where
+pub record Sentence (a : Parts) (new : List ℕ) (d : Board) (s : Asked a new d) : Type 0 where
   pub says : (c : Completion) → s .heard ≡ Says c
       → (c .requester ≡ a .requester) × (c .tag ≡ a .tag) × (c .completer ≡ completerOf (held s)) × Means d (held s) a new (c .said)
   pub silent : (refusal : Refusal) → s .heard ≡ Refused refusal → (held s ≡ d) × (length (s .reply) < 16)
 
 abbrev pub SuccessfulMeansLanded : Type 0
-SuccessfulMeansLanded = (a : Parts) (new : List ℕ) (d : Board) → WellDescribed d → (s : Asked a new d) → Says-so a new d s
+SuccessfulMeansLanded = (a : Parts) (new : List ℕ) (d : Board) → WellDescribed d → (s : Asked a new d) → Sentence a new d s
 
 -- ---- bits that land, by the merge
 
@@ -160,8 +160,7 @@ module _ (a : Parts) (new : List ℕ) (inside : any (outside a) ≡ false) (d : 
     means-done : unsupported (d .description) (d .capture) (requestOf p) ≡ false → requestOf p .writes ≡ true → Means d e a new Done
     means-done u w =
         let writes : asksWrite a ≡ true = sym (fields .2) ∙ w in
-        let l = write-lands d p size well n (status-done u w) w in
-        (
+        let l = write-lands d p size well n (status-done u w) w in (
           writes,
           landed d e a new
               (subst (λ (x : List ℕ). lands.Writes d e (asked a) x) (data-is a new inside writes)
@@ -212,12 +211,12 @@ module _ (a : Parts) (new : List ℕ) (d : Board) (well : WellDescribed d) (s : 
   held-is =
       let k = serve-keeps d packet room in
       λ i.
-          record {
-            description = sym (k .description) i;
-            capture = ap (λ (x : Seen). x .capture) called i;
-            ordinary = record { bytes = ap (λ (x : Seen). x .ordinary) called i; rules = sym (k .ordinaryRules) i };
-            trusted = record { bytes = ap (λ (x : Seen). x .trusted) called i; rules = sym (k .trustedRules) i };
-          }
+      record {
+        description = sym (k .description) i;
+        capture = ap (λ (x : Seen). x .capture) called i;
+        ordinary = record { bytes = ap (λ (x : Seen). x .ordinary) called i; rules = sym (k .ordinaryRules) i };
+        trusted = record { bytes = ap (λ (x : Seen). x .trusted) called i; rules = sym (k .trustedRules) i };
+      }
 
   -- the bytes that are read are those that the board wrote
   taken : take (s .served .length) (s .replied) ≡ serve d packet room .written
@@ -248,8 +247,7 @@ module _ (a : Parts) (new : List ℕ) (d : Board) (well : WellDescribed d) (s : 
   says-by false e c r =
       let n = served-by e in
       let same : c ≡ meant d packet room = r .1 ∙ replies-read-back d packet room n .same in
-      let f = fields a new inside d well room in
-      (
+      let f = fields a new inside d well room in (
         ap (λ (x : Completion). x .requester) same ∙ f .0,
         ap (λ (x : Completion). x .tag) same ∙ f .1,
         ap (λ (x : Completion). x .completer) same ∙ ap completerOf (sym held-is),
@@ -263,7 +261,7 @@ module _ (a : Parts) (new : List ℕ) (d : Board) (well : WellDescribed d) (s : 
   silent-by false e refusal r =
       absurd (number-positive refusal (sym r ∙ replies-read-back d packet room (served-by e) .number))
 
-  pub so : Says-so a new d s
+  pub so : Sentence a new d s
   so =
       record {
         says = λ c h. says-by _ refl c (subst (Reads (serve d packet room .written)) h read-by);

@@ -2,7 +2,6 @@
 use Prim.Native.Nat.{ℕ, zero, suc}
 use mathlib.Core.List.{List}
 use mathlib.Core.Path.{_≡_, refl, sym, ap, _∙_}
-use Rattle.answers.specs.declared.Refusal.{Refusal}
 use Rattle.answers.specs.Numbers.{numberOf}
 use Rattle.answers.proofs.Unique.{number-positive}
 use Rattle.asking.specs.declared.Parts.{Parts}
@@ -12,9 +11,9 @@ use Rattle.asking.specs.declared.Written.{Written}
 use Rattle.asking.specs.declared.Written.the-variants as written
 use Rattle.asking.specs.declared.Heard.{Heard}
 use Rattle.asking.specs.declared.Heard.the-variants as heard
-use Rattle.asking.specs.Writing.{SeenWritten, Writes} 
+use Rattle.asking.specs.Writing.{Writes}
 use Rattle.asking.specs.Writing as asked
-use Rattle.asking.specs.Reading.{readNumber, Reads}
+use Rattle.asking.specs.Reading.{Reads}
 use Rattle.tester.specs.declared.HostParts.{HostParts}
 use Rattle.tester.specs.declared.HostWritten.{HostWritten}
 use Rattle.tester.specs.declared.HostHeard.{HostHeard}

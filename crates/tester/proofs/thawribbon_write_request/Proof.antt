@@ -18,7 +18,7 @@ same-length : tie.Need-same-length
 same-length c = search needs
 
 returns : tie.Need-returns
-returns c = 
+returns c =
     let a = c .before .before .before .before .before .before .before .args in
     writes-told (a .parts) _ (now (a .buffer)) (c .before .before .before .write-request .result) _ _ (c .before .before .before .before .before .parts-by .ensures) (c .before .before .before .write-request .ensures) (c .told-written .ensures)
 

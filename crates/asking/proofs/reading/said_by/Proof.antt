@@ -1,7 +1,6 @@
 -- `asking::said_by` meets its contract: each way out is a case of `saidBy`. Assumes nothing.
 use native.Mathlib.Omega.{arith}
-use borrow.Author.Needs.{needs}
-use borrow.Author.Tests.{eq-eqb, ne-eqb}
+use borrow.Author.Tests.{ne-eqb}
 use Rattle.asking.proofs.Laws.{has-data, data-long}
 use Rattle.asking.proofs.reading.said_by.Statement.{statement}
 use Rattle.asking.proofs.reading.said_by.Tie as tie
