@@ -58,10 +58,10 @@ extern "C" {
 #endif
 
 /* The version of this header, and of the archive that came with it. */
-#define THAWRIBBON_VERSION "0.5.1"
+#define THAWRIBBON_VERSION "0.6.0"
 #define THAWRIBBON_VERSION_MAJOR 0
-#define THAWRIBBON_VERSION_MINOR 5
-#define THAWRIBBON_VERSION_PATCH 1
+#define THAWRIBBON_VERSION_MINOR 6
+#define THAWRIBBON_VERSION_PATCH 0
 
 /* An answer that is dropped is an answer that nobody looked at: compilers that can, warn. */
 #if defined(__GNUC__)
