@@ -74,7 +74,7 @@ module _ (a : Parts) (new buffer : List ℕ) where
   unfolding showsWritten
   number-shown = refl
 
-  served-shown : writeNumber a (length buffer) ≡ 0
+  pub served-shown : writeNumber a (length buffer) ≡ 0
       → showsWritten a new buffer ≡ record { number = 0; count = length (packetOf a new); buffer = packetOf a new ++ drop (length (packetOf a new)) buffer }
   unfolding showsWritten
   served-shown e = rw e

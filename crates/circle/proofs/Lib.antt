@@ -3,4 +3,5 @@ pub mod Heard
 pub mod Given
 pub mod Exactly
 pub mod NightShift
+pub mod Occurs
 pub mod Bench
