@@ -3,7 +3,7 @@
 # the archive that the kit itself writes. Where a tool is missing, what needs it is skipped, or failed where CI is set.
 . tests/common/host_tools.bash
 page=docs/LIBRARY.md
-least=93
+least=94
 here=$(uname -m)-unknown-linux-gnu
 
 # needs ARCHIVE: what the page says the archive needs of the C library
@@ -163,7 +163,7 @@ page_notices() {
     other_page_c "C program 4 of $page notices that it was not done" 4 's/THAWRIBBON_TYPE0_WRITE/THAWRIBBON_TYPE0_READ/' \
         'not done: Unsupported Request: the access was not done'
     other_page_c "C program 4 of $page notices that it has not landed" 4 's/\[0x010\] = 0xFF/[0x010] = 0xF0/' 'done, and not landed'
-    other_page_c "C program 4 of $page notices that an offset is not a multiple of 4" 4 's/\.offset = 0x010/.offset = 0x012/' \
+    other_page_c "C program 4 of $page notices that an offset is not a multiple of 4" 4 's/0, 0x010/0, 0x012/' \
         'an offset over FFCh or not a multiple of 4'
     other_page_c "C program 5 of $page notices a completion of another request" 5 's/\.tag = 8/.tag = 9/' \
         "not done: the completion is another request's"

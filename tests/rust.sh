@@ -5,7 +5,7 @@
 page=docs/LIBRARY.md
 sources=hosts/thawribbon/src
 # The tests and examples that there are at least.
-least_tests=117
+least_tests=118
 least_examples=36
 export CARGO_TERM_COLOR=never
 

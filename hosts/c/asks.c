@@ -62,6 +62,31 @@ static void bench_asked(void)
     hears(read_parts, THAWRIBBON_ASKED_DONE, p3, 3);
 }
 
+/* The parts of each kind, made and by their places: all bytes enabled, and requester and tag 0. A board that is asked for them answers. */
+static void parts_made(void)
+{
+    const thawribbon_heard p2 = {0, THAWRIBBON_SAID_DONE, {0x05, 0x18}, {0x01, 0x00}, 7, {0, 0, 0, 0}};
+    thawribbon_parts made;
+    size_t n;
+    for (n = 0; n < KINDS; n++) {
+        const thawribbon_parts read = {0xA9C, kinds[n], {0, 0}, 0, 0xB7, 0x1E, 5, 0x0F, {0, 0, 0, 0}};
+        const thawribbon_parts write = {0xA9C, kinds[n], {0, 0}, 0, 0xB7, 0x1E, 5, 0x0F, {0xD1, 0xD2, 0xD3, 0xD4}};
+        made = thawribbon_read_parts(kinds[n], 0xB7, 0x1E, 5, 0xA9C);
+        expect(memcmp(&made, &read, sizeof made) == 0, "other parts of a read", n);
+        made = thawribbon_write_parts(kinds[n], 0xB7, 0x1E, 5, 0xA9C, write.data);
+        expect(memcmp(&made, &write, sizeof made) == 0, "other parts of a write", n);
+    }
+    made = thawribbon_write_parts(write_parts.kind, 0x05, 3, 0, 0x004, write_parts.data);
+    made.requester[0] = 0x01;
+    made.tag = 7;
+    expect(memcmp(&made, &write_parts, sizeof made) == 0, "other parts than P2's", 0);
+    hold_board();
+    remember_all();
+    should_hold(&ordinary, 0x004, landed, 4);
+    hears(made, THAWRIBBON_ASKED_DONE, p2, 0);
+    hears(thawribbon_read_parts(0x04, 0x05, 3, 0, 0x1000), THAWRIBBON_ASKED_REFUSED, nothing_heard(1), 1);
+}
+
 /* Parts that are no request, a board that is badly described, and one that lacks a buffer: nothing has changed. */
 static void asked_in_vain(void)
 {
@@ -157,6 +182,7 @@ static void asked_texts(void)
 void asks(void)
 {
     group("ask, P1, P2 and P3", bench_asked);
+    group("ask, parts that are made", parts_made);
     group("ask, what is refused", asked_in_vain);
     group("ask, 4,000 drawn requests as the functions under it answer them", same_as_steps);
     group("ask, completions of other requests", others_requests);

@@ -209,7 +209,15 @@ typedef struct thawribbon_routed {
     uint8_t port;   /* the place in the list of the port that it leaves by, 0 to 31 */
 } thawribbon_routed;
 
-/* The parts of a request. Those that a program does not name are 0: thawribbon_parts parts = {.kind = THAWRIBBON_TYPE0_READ, ..}; */
+/*
+ * The parts of a request. Those that a program does not name are 0: thawribbon_parts parts = {.kind = THAWRIBBON_TYPE0_READ, ..};
+ * With enables 0 a write is answered "done" and changes nothing: name them, 0x0F for all four bytes. thawribbon_read_parts and
+ * thawribbon_write_parts of the helpers do.
+ *
+ * The kind, the bus, the device, the function and the enables are uint8_t: a larger number is cut by the C compiler before the library sees
+ * it, device 259 to 3. So check numbers that come from outside first. Two requests on their way with one requester and one tag have
+ * completions that cannot be told apart.
+ */
 typedef struct thawribbon_parts {
     uint32_t offset;      /* a multiple of 4 up to FFCh */
     uint8_t kind;         /* the type code: THAWRIBBON_TYPE0_READ to THAWRIBBON_TRUSTED_WRITE */
@@ -218,7 +226,7 @@ typedef struct thawribbon_parts {
     uint8_t bus;          /* whom it is for */
     uint8_t device;       /* 0 to 31 */
     uint8_t function;     /* 0 to 7 */
-    uint8_t enables;      /* the first enables, 0 to 15: bit 0 is the byte at the lowest address */
+    uint8_t enables;      /* the first enables, 0 to 15: bit 0 is the byte at the lowest address; 0x0F for all four, and not named it is 0 */
     uint8_t data[4];      /* what a write writes; for a read it is ignored */
 } thawribbon_parts;
 
@@ -695,6 +703,31 @@ THAWRIBBON_MUST_USE static inline const char *thawribbon_leaving_text(const thaw
         return thawribbon_text(leaving->number);
     }
     return leaving->verdict == THAWRIBBON_LEAVES ? "the packet leaves" : "Unsupported Request: no port has the packet's bus";
+}
+
+/*
+ * The parts of a read of all four bytes of the word at an offset: THAWRIBBON_TYPE0_READ, THAWRIBBON_TYPE1_READ or THAWRIBBON_TRUSTED_READ.
+ *
+ * Requester and tag are 0, for the caller to set, and so is the data: with the kind of a write the parts are those of a write of four 0
+ * bytes. Nothing is tested here; thawribbon_write_request tests the parts.
+ */
+THAWRIBBON_MUST_USE static inline thawribbon_parts thawribbon_read_parts(uint8_t kind, uint8_t bus, uint8_t device, uint8_t function,
+                                                                         uint32_t offset)
+{
+    const thawribbon_parts parts = {offset, kind, {0, 0}, 0, bus, device, function, 0x0F, {0, 0, 0, 0}};
+    return parts;
+}
+
+/*
+ * The parts of a write of all four bytes of the word at an offset: THAWRIBBON_TYPE0_WRITE, THAWRIBBON_TYPE1_WRITE or
+ * THAWRIBBON_TRUSTED_WRITE. The four bytes of the data, which is not NULL, are copied; with the kind of a read they are ignored. Requester
+ * and tag are 0, for the caller to set.
+ */
+THAWRIBBON_MUST_USE static inline thawribbon_parts thawribbon_write_parts(uint8_t kind, uint8_t bus, uint8_t device, uint8_t function,
+                                                                          uint32_t offset, const uint8_t data[4])
+{
+    const thawribbon_parts parts = {offset, kind, {0, 0}, 0, bus, device, function, 0x0F, {data[0], data[1], data[2], data[3]}};
+    return parts;
 }
 
 /* What is heard of a request. */

@@ -41,6 +41,8 @@ void drop_routed(const thawribbon_port *ports, thawribbon_leaving *leaving, cons
 void drop_asked(thawribbon_board *board, thawribbon_parts parts, thawribbon_heard *heard, const uint8_t *bytes, uint8_t *buffer)
 {
     thawribbon_board_ask(board, parts, heard);                                                                           /* dropped */
+    thawribbon_read_parts(THAWRIBBON_TYPE0_READ, 5, 3, 0, 0x004);                                                        /* dropped */
+    thawribbon_write_parts(THAWRIBBON_TYPE0_WRITE, 5, 3, 0, 0x004, bytes);                                               /* dropped */
     thawribbon_write_request(parts, buffer, 16);                                                                         /* dropped */
     thawribbon_read_completion(bytes, 12);                                                                               /* dropped */
     thawribbon_hear(parts, bytes, 12, heard);                                                                            /* dropped */

@@ -55,12 +55,6 @@ impl Id {
             function: rest & 7,
         }
     }
-
-    /// The two bytes that are sent, if device and function are in them.
-    #[inline]
-    pub(crate) fn bytes(self) -> Option<[u8; 2]> {
-        (self.device <= 31 && self.function <= 7).then_some([self.bus, self.device << 3 | self.function])
-    }
 }
 
 impl fmt::Display for Id {
@@ -181,7 +175,13 @@ impl Completion {
     #[must_use]
     #[inline]
     pub fn requester(&self) -> Id {
-        Id::of([self.reply[8], self.reply[9]])
+        Id::of(self.requester_bytes())
+    }
+
+    /// Who asked, as it is sent.
+    #[inline]
+    pub(crate) fn requester_bytes(&self) -> [u8; 2] {
+        [self.reply[8], self.reply[9]]
     }
 
     /// The packet's tag, by which the requester knows what is answered.

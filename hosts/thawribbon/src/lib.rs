@@ -38,7 +38,7 @@
 //!         Space { bytes: &mut ordinary, rules: &rules },
 //!         Space { bytes: &mut trusted, rules: &rules },
 //!     );
-//!     let host = Id { bus: 0x01, device: 0, function: 0 };
+//!     let host = [0x01, 0x00];
 //!     let target = Id { bus: 0x05, device: 3, function: 0 };
 //!     let data = [0x11, 0x22, 0x33, 0x44];
 //!

@@ -59,10 +59,13 @@ impl Kind {
 /// Any values may be given, and every field may be read and set; [`packet`](Request::packet) refuses those outside their
 /// range.
 ///
+/// A request that is not given `by` is from 00 00 with tag 0, and completions of such requests cannot be told apart: name
+/// requester and tag wherever more than one request may be on its way.
+///
 /// ```
 /// use thawribbon::{Id, Refusal, Request};
 ///
-/// let host = Id { bus: 0x01, device: 0, function: 0 };
+/// let host = [0x01, 0x00];
 /// let target = Id { bus: 0x05, device: 3, function: 0 };
 ///
 /// // P1's and P2's packets.
@@ -80,8 +83,8 @@ impl Kind {
 pub struct Request {
     /// Whether it reads or writes, and whether it is Type 0, Type 1 or trusted.
     pub kind: Kind,
-    /// Who asks.
-    pub requester: Id,
+    /// Who asks, as it is sent: the bus, then device × 8 + function. Any two bytes may be given.
+    pub requester: [u8; 2],
     /// By which the requester knows the completion.
     pub tag: u8,
     /// Whom it is for.
@@ -95,16 +98,11 @@ pub struct Request {
 }
 
 impl Request {
-    /// A request of a kind, with all four bytes enabled, by 00:00.0 with tag 0.
+    /// A request of a kind, with all four bytes enabled, from 00 00 with tag 0.
     const fn of(kind: Kind, target: Id, offset: Offset, data: [u8; 4]) -> Self {
-        let nobody = Id {
-            bus: 0,
-            device: 0,
-            function: 0,
-        };
         Request {
             kind,
-            requester: nobody,
+            requester: [0; 2],
             tag: 0,
             target,
             offset,
@@ -113,12 +111,12 @@ impl Request {
         }
     }
 
-    /// A Type 0 read of the word at an offset, with all four bytes enabled, by 00:00.0 with tag 0.
+    /// A Type 0 read of the word at an offset, with all four bytes enabled, from 00 00 with tag 0.
     pub const fn type0_read(target: Id, offset: Offset) -> Self {
         Request::of(Kind::Type0Read, target, offset, [0; 4])
     }
 
-    /// A Type 0 write of four bytes to the word at an offset, with all of them enabled, by 00:00.0 with tag 0.
+    /// A Type 0 write of four bytes to the word at an offset, with all of them enabled, from 00 00 with tag 0.
     pub const fn type0_write(target: Id, offset: Offset, data: [u8; 4]) -> Self {
         Request::of(Kind::Type0Write, target, offset, data)
     }
@@ -143,8 +141,9 @@ impl Request {
         Request::of(Kind::TrustedWrite, target, offset, data)
     }
 
-    /// The same request by this requester, with this tag: the completion says both, and is known by them.
-    pub const fn by(mut self, requester: Id, tag: u8) -> Self {
+    /// The same request by this requester, two bytes as they are sent, with this tag: the completion says both, and is known
+    /// by them.
+    pub const fn by(mut self, requester: [u8; 2], tag: u8) -> Self {
         self.requester = requester;
         self.tag = tag;
         self
@@ -162,25 +161,23 @@ impl Request {
     ///
     /// # Errors
     ///
-    /// [`Refusal::BadDescription`]: the device of the target or of the requester is over 31, or the function of one of them
-    /// over 7, the offset is over FFCh or not a multiple of 4, or the enables are over 15.
+    /// [`Refusal::BadDescription`]: the target's device is over 31, its function over 7, the offset over FFCh or not a
+    /// multiple of 4, or the enables over 15.
     #[inline]
     pub fn packet(&self) -> Result<Packet, Refusal> {
         let mut buffer = [0; REQUEST];
-        // The library takes the requester as two bytes, and another device or function would not be in them.
-        let requester = self.requester.bytes().ok_or(Refusal::BadDescription)?;
-        let written = raw::write_request(self.parts(requester), &mut buffer);
+        let written = raw::write_request(self.parts(), &mut buffer);
         served(written.number)?;
         Ok(Packet::written(buffer, written.length))
     }
 
     /// The parts as the linked functions take them.
     #[inline]
-    fn parts(&self, requester: [u8; 2]) -> raw::Parts {
+    fn parts(&self) -> raw::Parts {
         raw::Parts {
             offset: self.offset.into(),
             kind: self.kind.code(),
-            requester,
+            requester: self.requester,
             tag: self.tag,
             bus: self.target.bus,
             device: self.target.device,
@@ -195,10 +192,14 @@ impl Request {
     /// `Ok` means that the access was done, and `?` stops at one that was not. After a read the completion has
     /// [`data`](Completion::data).
     ///
+    /// It knows a completion by requester, tag and data alone. Requests that are not given [`by`](Request::by) are all from
+    /// 00 00 with tag 0, so the completion of one may pass for another's: name requester and tag wherever more than one
+    /// request may be on its way.
+    ///
     /// ```
     /// use thawribbon::{Id, NotAnswered, Refusal, Request, Said};
     ///
-    /// let host = Id { bus: 0x01, device: 0, function: 0 };
+    /// let host = [0x01, 0x00];
     /// let read = Request::trusted_read(Id { bus: 0x05, device: 3, function: 0 }, 0x004).by(host, 8);
     ///
     /// // P3's completion, and P1's, which is an Unsupported Request.
@@ -238,6 +239,6 @@ impl Request {
             Said::Done => self.kind.writes(),
             Said::Unsupported => true,
         };
-        fits && completion.requester() == self.requester && completion.tag() == self.tag
+        fits && completion.requester_bytes() == self.requester && completion.tag() == self.tag
     }
 }

@@ -6,7 +6,7 @@ mod common;
 
 use common::SPACE;
 use common::asking::{HOST, KINDS, TARGET, id, reads, request};
-use thawribbon::{Board, Completion, Description, Id, Kind, NotAnswered, NotDone, Refusal, Request, Said, Space};
+use thawribbon::{Board, Completion, Description, Kind, NotAnswered, NotDone, Refusal, Request, Said, Space};
 
 /// The board of the bench sheet, fresh, with rules FFh everywhere.
 fn with_board(run: impl FnOnce(&mut Board)) {
@@ -77,7 +77,7 @@ fn a_round_trip_of_each_kind() {
             with_board(|board| {
                 assert_eq!(ask(board, first), Ok(Said::Done));
                 let request = request(kind, TARGET, offset, [1, 2, 3, 4])
-                    .by(id(0xFF, 31, 7), 0xFE)
+                    .by([0xFF, 0xFF], 0xFE)
                     .enabling(enables);
                 let byte = if kind == Kind::TrustedRead { 0x72 } else { 0x51 };
                 let held = [0, 1, 2, 3].map(|at| if enables & 1 << at == 0 { 0x00 } else { byte });
@@ -105,7 +105,7 @@ fn a_completion_of_another_request() {
     let shown = [0x4A, 0, 0, 1, 5, 0x18, 0x00, 4, 0x12, 0xAB, 0x34, 0, 8, 0, 0, 0];
     let done = [0x0A, 0, 0, 0, 5, 0x18, 0x00, 4, 0x12, 0xAB, 0x34, 0];
     let unsupported = [0x0A, 0, 0, 0, 5, 0x18, 0x20, 4, 0x12, 0xAB, 0x34, 0];
-    let asker = id(0x12, 0x15, 3);
+    let asker = [0x12, 0xAB];
     for kind in KINDS {
         let own = request(kind, TARGET, 0x004, [0; 4]).by(asker, 0x34);
         let (mine, not_mine) = if kind.writes() {
@@ -123,11 +123,7 @@ fn a_completion_of_another_request() {
         ));
         assert!(matches!(own.answered_by(not_mine), Err(NotAnswered::Other(_))));
         for bit in 0..8 {
-            for other in [
-                id(0x12 ^ 1 << bit, 0x15, 3),
-                id(0x12, 0x15 ^ 1 << bit, 3),
-                id(0x12, 0x15, 3 ^ 1 << bit),
-            ] {
+            for other in [[0x12 ^ 1 << bit, 0xAB], [0x12, 0xAB ^ 1 << bit]] {
                 is_other(own.by(other, 0x34), [mine, &unsupported]);
             }
             is_other(own.by(asker, 0x34 ^ 1 << bit), [mine, &unsupported]);
@@ -169,7 +165,7 @@ fn what_is_refused() {
 #[test]
 fn why_it_is_not_answered_is_said() {
     let bytes = [0x0A, 0, 0, 0, 5, 0x18, 0x20, 4, 1, 0, 8, 0];
-    let ask = |requester: Id| Request::type0_read(TARGET, 0).by(requester, 8).answered_by(&bytes);
+    let ask = |requester: [u8; 2]| Request::type0_read(TARGET, 0).by(requester, 8).answered_by(&bytes);
     let says = |error: NotAnswered| {
         (
             error.to_string(),
@@ -181,7 +177,7 @@ fn why_it_is_not_answered_is_said() {
         format!("Unsupported Request: the access was not done {whose}"),
         format!("the completion is another request's {whose}"),
     ];
-    for (requester, text) in [HOST, TARGET].into_iter().zip(texts) {
+    for (requester, text) in [HOST, [0x05, 0x18]].into_iter().zip(texts) {
         assert_eq!(ask(requester).map_err(says), Err((text, Some(bytes.to_vec()))));
     }
     let refused = NotAnswered::from(Refusal::NoRoom);

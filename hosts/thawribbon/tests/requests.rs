@@ -128,9 +128,9 @@ fn a_request_of_each_kind() {
         let built = request(kind, id(0xB7, 0x1E, 5), 0xA9C, [0xD1, 0xD2, 0xD3, 0xD4]);
         assert_eq!(
             (built.kind, built.requester, built.tag, built.enables),
-            (kind, id(0, 0, 0), 0, 0x0F)
+            (kind, [0x00, 0x00], 0, 0x0F)
         );
-        let built = built.by(id(0xC3, 0x15, 6), 0xE8).enabling(0x06);
+        let built = built.by([0xC3, 0xAE], 0xE8).enabling(0x06);
         let expected = packet(Parts {
             offset: 0xA9C,
             kind: kind.code(),
@@ -151,15 +151,12 @@ fn a_request_of_each_kind() {
     }
 }
 
-/// The requester's device and function are looked at too, since they have to be in two bytes.
 #[test]
 fn a_request_that_is_refused() {
     let refused = |request: Request| assert_eq!(request.packet(), Err(Refusal::BadDescription), "{request:?}");
     for kind in KINDS {
         let good = request(kind, TARGET, 0x004, [0; 4]).by(HOST, 1);
         assert!(good.packet().is_ok());
-        refused(good.by(id(1, 32, 0), 1));
-        refused(good.by(id(1, 0, 8), 1));
         refused(good.enabling(16));
         refused(Request { offset: 0x1000, ..good });
         refused(Request { offset: 0x001, ..good });
@@ -175,6 +172,16 @@ fn a_request_that_is_refused() {
             target: id(5, 3, 8),
             ..good
         });
+    }
+}
+
+/// Any two bytes are a requester, and any byte a tag: they are sent as they are.
+#[test]
+fn every_byte_of_a_requester() {
+    for value in 0..=255 {
+        let read = Request::type1_read(TARGET, 0x004).by([!value, value], value ^ 0x5A);
+        let packet = read.packet().expect("the parts are in their ranges");
+        assert_eq!(packet[4..7], [!value, value, value ^ 0x5A]);
     }
 }
 

@@ -14,7 +14,7 @@ pub const KINDS: [Kind; 6] = [
 ];
 
 /// Who asks on the bench sheet, and who is asked.
-pub const HOST: Id = id(0x01, 0, 0);
+pub const HOST: [u8; 2] = [0x01, 0x00];
 pub const TARGET: Id = id(0x05, 3, 0);
 
 pub const fn id(bus: u8, device: u8, function: u8) -> Id {

@@ -56,7 +56,7 @@ pub fn drop_requests(target: Id, data: [u8; 4]) {
 
 pub fn drop_asked(request: fn() -> Request, packet: Packet, not_answered: NotAnswered) -> Result<(), Refusal> {
     request(); // dropped
-    request().by(request().requester, 7); // dropped
+    request().by([0x01, 0x00], 7); // dropped
     request().enabling(0x0F); // dropped
     request().packet(); // dropped
     request().packet()?; // dropped
