@@ -110,14 +110,16 @@ route 05 -> number 3, port 0 1|'1' is a number too many
 route 05 -> number 3, reply 0A|'reply' cannot be expected of this
 packet 1B -> number 3, leaves 1B|'leaves' cannot be expected of this
 ask 44 01 00 07 05 03 0 004|the line's end stands where a number is still wanted
+ask 44 01 00 07 05 03 0 004 F|the line's end stands where a number is still wanted
+ask 5B 01 00 07 05 03 0 004 F -> number 0|'->' stands where a number is still wanted
 ask 44 01 00 07 05 03 0 004 F 11 22 33|the line's end stands where a number is still wanted
 ask 44 01 00 07 05 03 0 004 F 11 -> number 0|'->' stands where a number is still wanted
 ask 44 01 00 07 05 03 0 004 F 11 22 33 44 55|'55' is a number too many
 ask 44 0100 07 05 03 0 004 F|'0100' is too large here
 ask 44 01 00 07 05 03 0 004 100|'100' is too large here
-ask 44 01 00 07 05 03 0 004 F -> writes 44|'writes' stands where the expected number is wanted first
-ask 44 01 00 07 05 03 0 004 F -> number 0, writes 44, writes 44|'writes' says again what is expected already
-ask 44 01 00 07 05 03 0 004 F -> number 0, done|'done' cannot be expected of this
+ask 04 01 00 07 05 03 0 004 F -> writes 04|'writes' stands where the expected number is wanted first
+ask 04 01 00 07 05 03 0 004 F -> number 0, writes 04, writes 04|'writes' says again what is expected already
+ask 04 01 00 07 05 03 0 004 F -> number 0, done|'done' cannot be expected of this
 packet 1B -> number 3, writes 1B|'writes' cannot be expected of this
 writes 1B|'writes' is not a statement; help lists them
 completion 0A 100|'100' is too large here

@@ -58,10 +58,10 @@ pub record ReadNumber (c : List ℕ) (r : Heard) : Type 0 where
 
 -- ---- the writer
 
-positive : (a : Parts) (size : ℕ) → Positive (writeChecks a size)
+pub positive : (a : Parts) (size : ℕ) → Positive (writeChecks a size)
 positive a size = omega arith
 
-rising : (a : Parts) (size : ℕ) → Rising (writeChecks a size)
+pub rising : (a : Parts) (size : ℕ) → Rising (writeChecks a size)
 rising a size = omega arith
 
 pub packet-length : (a : Parts) (new : List ℕ) → length (packetOf a new) ≡ wholeOf a
@@ -79,7 +79,7 @@ module _ (a : Parts) (new buffer : List ℕ) where
   unfolding showsWritten
   served-shown e = rw e
 
-  refused-shown : (n : ℕ) → writeNumber a (length buffer) ≡ suc n → showsWritten a new buffer ≡ record { number = suc n; count = 0; buffer = buffer }
+  pub refused-shown : (n : ℕ) → writeNumber a (length buffer) ≡ suc n → showsWritten a new buffer ≡ record { number = suc n; count = 0; buffer = buffer }
   unfolding showsWritten
   refused-shown n e = rw e
 
@@ -139,10 +139,10 @@ served-packet a new buffer w after e z =
 
 -- ---- the reader
 
-read-positive : (c : List ℕ) → Positive (readChecks c)
+pub read-positive : (c : List ℕ) → Positive (readChecks c)
 read-positive c = omega arith
 
-read-rising : (c : List ℕ) → Rising (readChecks c)
+pub read-rising : (c : List ℕ) → Rising (readChecks c)
 read-rising c = omega arith
 
 number-is : (c : List ℕ) (r : Heard) → Reads c r → readNumber c ≡ numberHeard r

@@ -4,4 +4,5 @@ pub mod Given
 pub mod Exactly
 pub mod NightShift
 pub mod Occurs
+pub mod Wrong
 pub mod Bench

@@ -1,5 +1,6 @@
--- The night shift's sentence is about something: every request that is accepted, of any parts and data, can be asked of every well-described board, and is answered with
--- a completion that reads back. Assumes nothing.
+-- The night shift's sentence is about something: every request that is accepted, of any parts and data, can be asked of every well-described board, and the completion that
+-- the board means is read back. So success without data is read for every write that is not unsupported, success with data for every such read, and UR for the rest (`meant` of
+-- specs/Replies.antt). Assumes nothing.
 use Prim.Native.Nat.{ℕ}
 use mathlib.Core.Bool.{false}
 use mathlib.Core.List.{List, _++_, append-nil}
@@ -12,7 +13,6 @@ use Rattle.answers.specs.declared.Answer.the-variants.{Done}
 use Rattle.answers.specs.Checks.{any}
 use Rattle.asking.specs.declared.Parts.{Parts}
 use Rattle.asking.specs.declared.Written.the-variants.{Bytes}
-use Rattle.asking.specs.declared.Completion.{Completion}
 use Rattle.asking.specs.declared.Heard.the-variants.{Says}
 use Rattle.asking.specs.Writing.{outside, wholeOf, writeNumber, packetOf, Writes}
 use Rattle.asking.specs.Reading.{readNumber, completionOf, Reads}
@@ -22,6 +22,7 @@ use Rattle.board.specs.Description.{Board, WellDescribed}
 use Rattle.board.specs.Serving.{Outcome, serve}
 use Rattle.board.specs.Promise.{over, shows, Serves}
 use Rattle.board.proofs.Refusals.{outcome-number}
+use Rattle.circle.specs.Replies.{meant}
 use Rattle.circle.proofs.Asked.{packet-number}
 use Rattle.circle.proofs.Heard.{replies-read-back}
 use Rattle.circle.proofs.NightShift.{Asked}
@@ -29,7 +30,7 @@ use Rattle.circle.proofs.NightShift.{Asked}
 -- the statement
 abbrev pub AnyMayBeAsked : Type 0
 AnyMayBeAsked =
-    (a : Parts) (new : List ℕ) (d : Board) → any (outside a) ≡ false → WellDescribed d → (s : Asked a new d) × (c : Completion) × (s .heard ≡ Says c)
+    (a : Parts) (new : List ℕ) (d : Board) → any (outside a) ≡ false → WellDescribed d → (s : Asked a new d) × (s .heard ≡ Says (meant d (packetOf a new) 16))
 
 nothing-behind : (l : List ℕ) → l ++ drop (length l) l ≡ l
 nothing-behind l = ap (λ (x : List ℕ). l ++ x) (drop-length l) ∙ append-nil l
@@ -61,14 +62,14 @@ module _ (a : Parts) (new : List ℕ) (inside : any (outside a) ≡ false) where
     unfolding shows served reply
     serves-it =
         λ i.
-            record {
-              number = sym served-it i;
-              count = length (o .written);
-              capture = o .after .capture;
-              ordinary = o .after .ordinary .bytes;
-              trusted = o .after .trusted .bytes;
-              reply = over (o .written) reply;
-            }
+        record {
+          number = sym served-it i;
+          count = length (o .written);
+          capture = o .after .capture;
+          ordinary = o .after .ordinary .bytes;
+          trusted = o .after .trusted .bytes;
+          reply = over (o .written) reply;
+        }
 
     reads-it : Reads (take (served .length) (over (o .written) reply)) (Says (completionOf (o .written)))
     unfolding served
@@ -98,4 +99,5 @@ module _ (a : Parts) (new : List ℕ) (inside : any (outside a) ≡ false) where
 
 pub any-may-be-asked : AnyMayBeAsked
 unfolding it-is
-any-may-be-asked a new d inside well = (it-is a new inside d well, completionOf (serve d (packetOf a new) 16 .written), refl)
+any-may-be-asked a new d inside well =
+    (it-is a new inside d well, ap Says (replies-read-back d (packetOf a new) 16 (served-it a new inside d well) .same))

@@ -270,24 +270,35 @@ fn fault_of_end(tokens: &Tokens, head: usize, place: usize) -> usize {
     if place < begin {
         return wanted_first(head, place);
     }
-    if is_short(tokens::word(tokens, head), place - begin) {
+    if is_short(tokens, tokens::word(tokens, head), place - begin) {
         return faults::TOO_FEW;
     }
     faults::NONE
 }
 
-// Whether a word wants more numbers than it has: a port has three, and a request has its data whole or not at all.
-fn is_short(word: usize, given: usize) -> bool {
+// Whether a word wants more numbers than it has: a port has three, and a request has its data whole, or not at all where it is no write.
+fn is_short(tokens: &Tokens, word: usize, given: usize) -> bool {
     let least = column(word, LEAST_NUMBERS, 2);
     if word == PORTS {
         return given % 3 != 0;
     }
     if word == ASK {
-        if least < given {
-            return given < column(word, MOST_NUMBERS, 2);
+        if given == least {
+            return is_write(tokens::byte(tokens, 1));
         }
+        return given < column(word, MOST_NUMBERS, 2);
     }
     given < least
+}
+
+// The kinds that bring data.
+fn is_write(kind: u8) -> bool {
+    match kind {
+        0x44 => true,
+        0x45 => true,
+        0x5b => true,
+        _ => false,
+    }
 }
 
 // An arrow or a comma.

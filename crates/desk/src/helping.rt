@@ -26,7 +26,7 @@ Questions:
   route b b ..       the switch is sent one
   ask K R R T B D F N E
                      the board is sent a request that is written from its parts: kind, requester in two bytes, tag, bus, device, function,
-                     offset, enables; four data bytes may follow, else they are 00. The reply is read back
+                     offset, enables; and of a write four data bytes, which a read does without. The reply is read back
   completion b b ..  a completion is read back
   reset              the board is reset
   walk LIST          compatible, extended or trusted

@@ -86,7 +86,7 @@ fn parts_of(tokens: &Tokens) -> Parts {
     }
 }
 
-// Data that is not given is 00.
+// Data that is not given, as for a read, is 00.
 fn data_of(tokens: &Tokens) -> [u8; 4] {
     if tokens::arrow(tokens) <= DATA {
         return [0; 4];

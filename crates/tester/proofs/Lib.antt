@@ -1,2 +1,3 @@
 pub mod Told
+pub mod Numbers
 pub mod Unique
