@@ -1,7 +1,7 @@
--- THEOREM. The night shift's sentence: a renewal that is answered "successful" has landed, as far as its enables and the rules let it. Over writer, board and reader together, as their promises tell it: a
--- request that we wrote, served by any well-described board, and the completion read back. "Success without data": the enabled writable bits at that place
--- of that space equal the data and nothing else changed (at A: nothing changed). "Success with data": the data is what the space shows there. UR: nothing
--- changed. Assumes nothing.
+-- THEOREM. The night shift's sentence: a renewal that is answered "successful" has landed, as far as its enables and the rules let it. Over writer, board and
+-- reader together, as their promises tell it: a request that we wrote, served by any well-described board, and the completion read back. "Success without
+-- data": the enabled writable bits at that place of that space equal the data and nothing else changed (at A: nothing changed). "Success with data": the
+-- data is what the space shows there. UR: nothing changed. Assumes nothing.
 use Prim.Native.Nat.{ℕ, zero, suc, _+_, _<_}
 use mathlib.Core.Bool.{Bool, true, false, cond}
 use mathlib.Core.List.{List, [], _∷_}
@@ -51,8 +51,8 @@ use Rattle.circle.specs.Replies.{shownFour, meant}
 use Rattle.circle.specs.Sentence.{BitsLanded, Landed, shownThere, Means}
 use Rattle.circle.proofs.Heard.{served, replies-read-back}
 
--- what the caller of `board::serve` holds afterwards: the capture that was handed back and the two spaces as the call left them; the description, which goes in by value, and the
--- rules, which are only read, are the caller's own
+-- what the caller of `board::serve` holds afterwards: the capture that was handed back and the two spaces as the call left them; the description, which
+-- goes in by value, and the rules, which are only read, are the caller's own
 abbrev pub holding : Board → Served → List ℕ → List ℕ → Board
 holding d r ordinary trusted = lent (d .description) (r .capture) ordinary (d .ordinary .rules) trusted (d .trusted .rules)
 

@@ -1,6 +1,6 @@
--- The night shift's sentence is about something: every request that is accepted, of any parts and data, can be asked of every well-described board, and the completion that
--- the board means is read back. So success without data is read for every write that is not unsupported, success with data for every such read, and UR for the rest (`meant` of
--- specs/Replies.antt). Assumes nothing.
+-- The night shift's sentence is about something: every request that is accepted, of any parts and data, can be asked of every well-described board, and
+-- the completion that the board means is read back. So success without data is read for every write that is not unsupported, success with data for every
+-- such read, and UR for the rest (`meant` of specs/Replies.antt). Assumes nothing.
 use Prim.Native.Nat.{ℕ}
 use mathlib.Core.Bool.{false}
 use mathlib.Core.List.{List, _++_, append-nil}

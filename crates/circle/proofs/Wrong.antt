@@ -1,5 +1,5 @@
--- THEOREMS. No writer and no reader with one of the faults that a newcomer makes meets its promise, whatever else it does; for each fault there is an input that shows it.
--- Assumes nothing.
+-- THEOREMS. No writer and no reader with one of the faults that a newcomer makes meets its promise, whatever else it does; for each fault there is an input
+-- that shows it. Assumes nothing.
 use Prim.Native.Nat.{ℕ, _%_, _<_}
 use mathlib.Core.Bool.{Bool, true, false, cond}
 use mathlib.Core.List.{List, [], _∷_}
@@ -19,8 +19,8 @@ use Rattle.asking.specs.Reading.{hasData, otherStatus, readNumber, Reads}
 use Rattle.asking.proofs.Numbers.{served-packet}
 use Rattle.circle.proofs.Exactly.{sound}
 
--- the statements, of whatever a writer answers and leaves. It writes for a device over 31, which spills into the bus or is cut, for enables over 15, which spill into the last
--- enables, for an offset that is no multiple of 4, which it may drop to one, or for a kind outside the six; it writes data for a read
+-- the statements, of whatever a writer answers and leaves. It writes for a device over 31, which spills into the bus or is cut, for enables over 15, which
+-- spill into the last enables, for an offset that is no multiple of 4, which it may drop to one, or for a kind outside the six; it writes data for a read
 pub record WrongWritersCaught (a : Parts) (new buffer : List ℕ) (w : Written) (after : List ℕ) (meets : Writes a new buffer w after) : Type 0 where
   pub device : 31 < a .device → toldWritten w after .number ≡ 0 → ⊥
   pub enables : 15 < a .enables → toldWritten w after .number ≡ 0 → ⊥

@@ -1,5 +1,5 @@
--- THEOREMS. What the number that a test host is told says: it is the lowest that applies, and no other is given. A refusal leaves the buffer as lent and tells nothing else.
--- Assumes nothing.
+-- THEOREMS. What the number that a test host is told says: it is the lowest that applies, and no other is given. A refusal leaves the buffer as lent and
+-- tells nothing else. Assumes nothing.
 use Prim.Native.Nat.{ℕ, zero, suc}
 use mathlib.Core.List.{List, [], _∷_, List·Memᴰ}
 use mathlib.Core.Path.{_≡_, refl, sym, ap, _∙_, subst}
