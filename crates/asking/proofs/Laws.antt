@@ -1,6 +1,6 @@
 -- Laws of the writer and the reader, one for each way through the code. Assumes nothing.
 use Prim.Native.Nat.{ℕ, _+_, _*_, _%_, _≤_, _<_}
-use mathlib.Core.Bool.{Bool, true, false, cond, _||_}
+use mathlib.Core.Bool.{Bool, true, false, not, cond, _||_, or-false}
 use mathlib.Core.List.{List, [], _++_}
 use mathlib.Core.Path.{_≡_, refl, sym, ap, _∙_, subst}
 use native.Mathlib.Nat.{zero-add, mod-eq-of-lt}
@@ -19,7 +19,7 @@ use Rattle.packet.specs.Fields.{typeOf}
 use Rattle.asking.specs.declared.Parts.{Parts}
 use Rattle.asking.specs.declared.Written.the-variants.{Bytes, Refused}
 use Rattle.asking.specs.Writing.{outOfRange, writeNumber, headerOf, packetOf, toldWritten, showsWritten, Writes}
-use Rattle.asking.specs.Reading.{hasData, neverSentAt, readNumber}
+use Rattle.asking.specs.Reading.{hasData, otherStatus, neverSentAt, readNumber}
 use Rattle.asking.specs.Inner.{Inside, showsPut, Begun, Whole}
 
 -- ---- the writer
@@ -109,6 +109,13 @@ module _ (c : List ℕ) where
 
   pub read-other : 12 ≤ length c → (byte c 0 ≡ 0x4a → ⊥) → (byte c 0 ≡ 0x0a → ⊥) → readNumber c ≡ 4
   read-other long h k = rw (le-ltb (length c) 12 long, ne-eqb (byte c 0) 0x4a h, ne-eqb (byte c 0) 0x0a k)
+
+-- where the bytes 1, 2, 3 and 6 are such as a reply has, the bytes 7 and 11 decide
+pub never-sent-rest : (withData : Bool) (one two three six seven eleven field : ℕ) (other : Bool) → one ≡ 0x00 → two ≡ 0x00 → three ≡ field
+    → field ≡ cond withData 1 0 → other ≡ otherStatus withData six → other ≡ false
+    → neverSentAt withData one two three six seven eleven ≡ (not (eqb seven 0x04) || not (eqb eleven 0x00))
+never-sent-rest withData one two three six seven eleven field other e f g h i j =
+    rw (eq-eqb one 0x00 e, eq-eqb two 0x00 f, eq-eqb three (cond withData 1 0) (g ∙ h), ← i, j, or-false (not (eqb eleven 0x00)))
 
 -- a completion with data begins with 4Ah
 pub has-data : (c : List ℕ) (withData : Bool) → byte c 0 ≡ cond withData 0x4a 0x0a → hasData c ≡ withData

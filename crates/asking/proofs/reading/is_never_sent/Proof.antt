@@ -1,8 +1,8 @@
 -- `asking::is_never_sent` meets its contract: the first byte that no completion has there decides. Assumes nothing.
 use mathlib.Core.Path.{refl, sym, _∙_}
-use mathlib.Core.Bool.{or-false}
 use borrow.Author.Needs.{needs}
 use Rattle.packet.proofs.Laws.{not-is, is}
+use Rattle.asking.proofs.Laws.{never-sent-rest}
 use Rattle.asking.proofs.reading.is_never_sent.Statement.{statement}
 use Rattle.asking.proofs.reading.is_never_sent.Tie as tie
 
@@ -44,11 +44,8 @@ returns-5 : tie.Need-returns-5
 returns-5 c =
     let a = c .before .before .before .before .before .before .before .args in
     rw (
-      is (a .one) _ 0x00 refl (c .before .before .before .before .before .before .if1 .left),
-      is (a .two) _ 0x00 refl (c .before .before .before .before .before .if2 .left),
-      is (a .three) _ _ refl (c .before .before .before .if3 .left ∙ c .before .before .before .before .length-field .ensures),
-      ← c .before .before .is-other-status .ensures,
-      c .before .if4 .left,
+      never-sent-rest (a .«data») (a .one) (a .two) (a .three) (a .six) (a .seven) (a .eleven) _ _ (c .before .before .before .before .before .before .if1 .left) (c .before .before .before .before .before .if2 .left)
+      (c .before .before .before .if3 .left) (c .before .before .before .before .length-field .ensures) (c .before .before .is-other-status .ensures) (c .before .if4 .left),
       not-is (a .seven) _ 0x04 refl (c .if5 .taken),
     )
 
@@ -56,13 +53,9 @@ returns-6 : tie.Need-returns-6
 returns-6 c =
     let a = c .before .before .before .before .before .before .before .args in
     rw (
-      is (a .one) _ 0x00 refl (c .before .before .before .before .before .before .if1 .left),
-      is (a .two) _ 0x00 refl (c .before .before .before .before .before .if2 .left),
-      is (a .three) _ _ refl (c .before .before .before .if3 .left ∙ c .before .before .before .before .length-field .ensures),
-      ← c .before .before .is-other-status .ensures,
-      c .before .if4 .left,
+      never-sent-rest (a .«data») (a .one) (a .two) (a .three) (a .six) (a .seven) (a .eleven) _ _ (c .before .before .before .before .before .before .if1 .left) (c .before .before .before .before .before .if2 .left)
+      (c .before .before .before .if3 .left) (c .before .before .before .before .length-field .ensures) (c .before .before .is-other-status .ensures) (c .before .if4 .left),
       is (a .seven) _ 0x04 refl (c .if5 .left),
-      or-false,
     )
 
 pub is-never-sent-spec : {M : Type 1} → statement M
