@@ -45,7 +45,7 @@ returns-5 c =
     let a = c .before .before .before .before .before .before .before .args in
     rw (
       never-sent-rest (a .«data») (a .one) (a .two) (a .three) (a .six) (a .seven) (a .eleven) _ _ (c .before .before .before .before .before .before .if1 .left) (c .before .before .before .before .before .if2 .left)
-      (c .before .before .before .if3 .left) (c .before .before .before .before .length-field .ensures) (c .before .before .is-other-status .ensures) (c .before .if4 .left),
+          (c .before .before .before .if3 .left) (c .before .before .before .before .length-field .ensures) (c .before .before .is-other-status .ensures) (c .before .if4 .left),
       not-is (a .seven) _ 0x04 refl (c .if5 .taken),
     )
 
@@ -54,7 +54,7 @@ returns-6 c =
     let a = c .before .before .before .before .before .before .before .args in
     rw (
       never-sent-rest (a .«data») (a .one) (a .two) (a .three) (a .six) (a .seven) (a .eleven) _ _ (c .before .before .before .before .before .before .if1 .left) (c .before .before .before .before .before .if2 .left)
-      (c .before .before .before .if3 .left) (c .before .before .before .before .length-field .ensures) (c .before .before .is-other-status .ensures) (c .before .if4 .left),
+          (c .before .before .before .if3 .left) (c .before .before .before .before .length-field .ensures) (c .before .before .is-other-status .ensures) (c .before .if4 .left),
       is (a .seven) _ 0x04 refl (c .if5 .left),
     )
 
