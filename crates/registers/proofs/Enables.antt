@@ -1,4 +1,4 @@
--- The enables as a mask of four bytes, and a rule under it: a merge without a test of an enable does what document 01 says. Assumes nothing.
+-- The enables as a mask of four bytes, and rule and marks under it: a merge without a test of an enable does what document 01 says. Assumes nothing.
 use Prim.Native.Nat.{ℕ, zero, suc, _+_, _*_, _/_, _%_, _^_, _≤_, _<_}
 use mathlib.Core.Bool.{Bool, true, false, cond}
 use mathlib.Core.List.{List, [], _∷_}
@@ -6,7 +6,7 @@ use mathlib.Core.Path.{_≡_, refl, sym, ap, ap₂, _∙_}
 use native.Mathlib.Nat.{mod-lt, zero-lt-suc, mul-le-mul, lt-of-le-of-lt}
 use native.Mathlib.Omega.{arith}
 use lib.Dec.{eqb}
-use lib.Bits.{bitAnd, bitOr, and-mask, and-high, and-block, and-le-r, and-zero-r, or-zero-r}
+use lib.Bits.{bitAnd, and-mask, and-high, and-block, and-le-l, and-le-r, and-zero-r, or-zero-r}
 use Rattle.words.specs.Fields.{bit, joined}
 use Rattle.registers.specs.Merge.{lowestSet, enabled, mergedByte}
 use Rattle.registers.specs.Inner.{maskOf, enabledBytes}
@@ -24,10 +24,10 @@ mask enables = bitAnd (enables % 16 * 0x00204081) 0x01010101 * 255
 abbrev pub MaskApart : Type 0
 MaskApart = (enables : ℕ) → apart (mask enables) ≡ enabledBytes enables
 
--- and a rule under such a mask gives the merged byte where it is enabled, and else leaves the old one
+-- and rule and marks under such a mask give the merged byte where it is enabled, and else leave the old one
 abbrev pub RuleUnderMask : Type 0
-RuleUnderMask = (old rule new : ℕ) → old < 256 → rule < 256 → new < 256 → (enable : Bool)
-    → mergedByte old (bitAnd rule (maskOf enable)) new ≡ cond enable (mergedByte old rule new) old
+RuleUnderMask = (old rule mark new : ℕ) → old < 256 → rule < 256 → mark < 256 → new < 256 → (enable : Bool)
+    → mergedByte old (bitAnd rule (maskOf enable)) (bitAnd mark (maskOf enable)) new ≡ cond enable (mergedByte old rule mark new) old
 
 -- of the four copies, each seven bits above the one before, the k-th keeps enable bit k: that is bit 8k of all
 lowest : (n : ℕ) → n < 128 → bitAnd (n * 0x00204081) 0x01010101 ≡ joined (bit 0 n) (bit 1 n) (bit 2 n) (bit 3 n)
@@ -112,7 +112,9 @@ all-bits : (n : ℕ) → n < 256 → bitAnd n 255 ≡ n
 all-bits n h = and-mask n 8 ∙ omega arith
 
 pub rule-under-mask : RuleUnderMask
-rule-under-mask old rule new ho hr hn true = ap (λ (r : ℕ). mergedByte old r new) (all-bits rule hr)
-rule-under-mask old rule new ho hr hn false =
-    ap (λ (r : ℕ). mergedByte old r new) (and-zero-r rule) ∙ sym (masks-merge old 0 new ho (omega arith) hn)
-    ∙ ap₂ bitOr (all-bits old ho) (and-zero-r new) ∙ or-zero-r old
+rule-under-mask old rule mark new ho hr hm hn true =
+    ap₂ (λ (r m : ℕ). mergedByte old r m new) (all-bits rule hr) (all-bits mark hm)
+rule-under-mask old rule mark new ho hr hm hn false =
+    ap₂ (λ (r m : ℕ). mergedByte old r m new) (and-zero-r rule) (and-zero-r mark)
+    ∙ sym (masks-merge old 0 0 new ho (omega arith) hn)
+    ∙ rw (and-zero-r, or-zero-r) (all-bits (bitAnd old 255) (lt-of-le-of-lt (and-le-l old 255) ho) ∙ all-bits old ho)

@@ -11,7 +11,7 @@ use lib.ListN.{length}
 use borrow.Author.Tests.{eq-eqb, ne-eqb}
 use Rattle.words.specs.Bytes.{byte, four}
 use Rattle.words.specs.Fields.{bit}
-use Rattle.registers.specs.Merge.{lowestSet, enabled, writtenByte, merged, mergedByte, mergedBit, fromBits}
+use Rattle.registers.specs.Merge.{lowestSet, enabled, writtenByte, merged, mergedByte, mergedBit, clearedBit, writtenBit, fromBits}
 use Rattle.registers.proofs.Masks.{from-low, bit-suc, bit-zero}
 
 -- the test that the code makes of the lowest enable
@@ -22,9 +22,9 @@ pub lowest-clear : (enables : ℕ) → (bitAnd enables 1 ≡ 1 → ⊥) → lowe
 lowest-clear e h = ne-eqb _ _ (λ k. h (and-mask e 1 ∙ k))
 
 -- four bytes stay four
-pub merged-length : (old rules new : List ℕ) (enables : ℕ) → length (merged old rules new enables) ≡ 4
+pub merged-length : (old rules marks new : List ℕ) (enables : ℕ) → length (merged old rules marks new enables) ≡ 4
 unfolding merged
-merged-length old rules new enables = refl
+merged-length old rules marks new enables = refl
 
 -- the number made of bits has those bits
 from-bits-bit : (f : ℕ → ℕ) → ((k : ℕ) → f k < 2) → (n k : ℕ) → k < n → bit k (fromBits f n) ≡ f k
@@ -44,11 +44,22 @@ merged-bit-small : (r o d : ℕ) → o < 2 → d < 2 → mergedBit r o d < 2
 merged-bit-small zero o d ho hd = ho
 merged-bit-small (suc r) o d ho hd = hd
 
--- bit by bit, the merged byte is what document 01 says: the data bit where the rule bit is 1, else the old bit
-pub merged-byte-bit : (old rule new k : ℕ) → k < 8 → bit k (mergedByte old rule new) ≡ mergedBit (bit k rule) (bit k old) (bit k new)
+cleared-bit-small : (m d x : ℕ) → x < 2 → clearedBit m d x < 2
+cleared-bit-small zero d x hx = hx
+cleared-bit-small (suc m) zero x hx = hx
+cleared-bit-small (suc m) (suc d) x hx = omega arith
+
+written-bit-small : (old rule mark new j : ℕ) → writtenBit (bit j rule) (bit j mark) (bit j old) (bit j new) < 2
+written-bit-small old rule mark new j =
+    cleared-bit-small (bit j mark) (bit j new) (mergedBit (bit j rule) (bit j old) (bit j new))
+    (merged-bit-small (bit j rule) (bit j old) (bit j new) (bit-small j old) (bit-small j new))
+
+-- bit by bit, the merged byte is what the documents say
+pub merged-byte-bit : (old rule mark new k : ℕ) → k < 8
+    → bit k (mergedByte old rule mark new) ≡ writtenBit (bit k rule) (bit k mark) (bit k old) (bit k new)
 unfolding mergedByte
-merged-byte-bit old rule new k h =
-    from-bits-bit (λ j. mergedBit (bit j rule) (bit j old) (bit j new)) (λ j. merged-bit-small (bit j rule) (bit j old) (bit j new) (bit-small j old) (bit-small j new)) 8 k h
+merged-byte-bit old rule mark new k h =
+    from-bits-bit (λ j. writtenBit (bit j rule) (bit j mark) (bit j old) (bit j new)) (written-bit-small old rule mark new) 8 k h
 
 from-bits-lt : (f : ℕ → ℕ) → ((k : ℕ) → f k < 2) → (n : ℕ) → fromBits f n < 2 ^ n
 from-bits-lt f small zero = omega arith
@@ -56,43 +67,67 @@ from-bits-lt f small (suc n) =
     rw (from-low f n, pow-suc) (omega (arith, from-bits-lt (λ j. f (suc j)) (λ j. small (suc j)) n, small 0))
 
 -- and it has no other bits
-pub merged-byte-lt : (old rule new : ℕ) → mergedByte old rule new < 256
+pub merged-byte-lt : (old rule mark new : ℕ) → mergedByte old rule mark new < 256
 unfolding mergedByte
-merged-byte-lt old rule new =
-    from-bits-lt (λ j. mergedBit (bit j rule) (bit j old) (bit j new)) (λ j. merged-bit-small (bit j rule) (bit j old) (bit j new) (bit-small j old) (bit-small j new)) 8
+merged-byte-lt old rule mark new =
+    from-bits-lt (λ j. writtenBit (bit j rule) (bit j mark) (bit j old) (bit j new)) (written-bit-small old rule mark new) 8
 
 -- the four bytes of a merge are the merge
-pub merged-four : (old rules new : List ℕ) (enables : ℕ) → four (merged old rules new enables) 0 ≡ merged old rules new enables
+pub merged-four : (old rules marks new : List ℕ) (enables : ℕ) → four (merged old rules marks new enables) 0 ≡ merged old rules marks new enables
 unfolding merged
-merged-four old rules new enables = refl
+merged-four old rules marks new enables = refl
 
 -- ---- a merge, bit by bit
 
--- the byte at each place of a merge
-merged-at : (old rules new : List ℕ) (enables k : ℕ) → k < 4 → byte (merged old rules new enables) k ≡ writtenByte enables old rules new k
-unfolding merged
-merged-at old rules new enables zero h = refl
-merged-at old rules new enables (suc zero) h = refl
-merged-at old rules new enables (suc (suc zero)) h = refl
-merged-at old rules new enables (suc (suc (suc zero))) h = refl
-merged-at old rules new enables (suc (suc (suc (suc k)))) h = absurd (omega arith)
+-- where the data bit is 0, a mark moves nothing
+unmoved : (mark b : ℕ) → clearedBit mark 0 b ≡ b
+unmoved zero b = refl
+unmoved (suc mark) b = refl
 
-module _ (old rules new : List ℕ) (enables k j : ℕ) (h : k < 4) (i : j < 8) where
-  merged-bit : enabled k enables ≡ true
-      → bit j (byte (merged old rules new enables) k) ≡ mergedBit (bit j (byte rules k)) (bit j (byte old k)) (bit j (byte new k))
-  merged-bit e =
-      ap (bit j) (merged-at old rules new enables k h ∙ rw e) ∙ merged-byte-bit (byte old k) (byte rules k) (byte new k) j i
+module _ (old rules marks new : List ℕ) (enables : ℕ) where
+  -- the byte at each place of a merge
+  merged-at : (k : ℕ) → k < 4 → byte (merged old rules marks new enables) k ≡ writtenByte enables old rules marks new k
+  unfolding merged
+  merged-at zero h = refl
+  merged-at (suc zero) h = refl
+  merged-at (suc (suc zero)) h = refl
+  merged-at (suc (suc (suc zero))) h = refl
+  merged-at (suc (suc (suc (suc k)))) h = absurd (omega arith)
 
-  -- an enabled writable bit is the data's
-  pub merged-taken : enabled k enables ≡ true → bit j (byte rules k) ≡ 1 → bit j (byte (merged old rules new enables) k) ≡ bit j (byte new k)
-  merged-taken e w = merged-bit e ∙ rw w
+  module _ (k j : ℕ) (h : k < 4) (i : j < 8) where
+    after : ℕ
+    after = bit j (byte (merged old rules marks new enables) k)
 
-  kept-by : (enable : Bool) → enabled k enables ≡ enable → (enable ≡ false) ⊎ (bit j (byte rules k) ≡ 0)
-      → bit j (byte (merged old rules new enables) k) ≡ bit j (byte old k)
-  kept-by false e c = ap (bit j) (merged-at old rules new enables k h ∙ rw e)
-  kept-by true e (inl f) = let z : _≡_ {A = ℕ} 0 1 = cc in absurd (omega arith)
-  kept-by true e (inr w) = merged-bit e ∙ rw w
+    merged-bit : enabled k enables ≡ true
+        → after ≡ writtenBit (bit j (byte rules k)) (bit j (byte marks k)) (bit j (byte old k)) (bit j (byte new k))
+    unfolding after
+    merged-bit e =
+        ap (bit j) (merged-at k h ∙ rw e) ∙ merged-byte-bit (byte old k) (byte rules k) (byte marks k) (byte new k) j i
 
-  -- and every other bit stays
-  pub merged-kept : (enabled k enables ≡ false) ⊎ (bit j (byte rules k) ≡ 0) → bit j (byte (merged old rules new enables) k) ≡ bit j (byte old k)
-  merged-kept c = kept-by _ refl c
+    -- a byte that is not enabled stays
+    pub merged-disabled : enabled k enables ≡ false → bit j (byte (merged old rules marks new enables) k) ≡ bit j (byte old k)
+    merged-disabled e = ap (bit j) (merged-at k h ∙ rw e)
+
+    -- of one that is, a writable bit without a mark is the data's
+    pub merged-taken : enabled k enables ≡ true → bit j (byte rules k) ≡ 1 → bit j (byte marks k) ≡ 0
+        → bit j (byte (merged old rules marks new enables) k) ≡ bit j (byte new k)
+    unfolding after
+    merged-taken e w m = merged-bit e ∙ rw (w, m)
+
+    -- a marked bit is 0 where the data's is 1
+    pub merged-cleared : enabled k enables ≡ true → bit j (byte marks k) ≡ 1 → bit j (byte new k) ≡ 1
+        → bit j (byte (merged old rules marks new enables) k) ≡ 0
+    unfolding after
+    merged-cleared e m d = merged-bit e ∙ rw (m, d)
+
+    kept-by : (enable : Bool) → enabled k enables ≡ enable → bit j (byte rules k) ≡ 0 → (bit j (byte marks k) ≡ 0) ⊎ (bit j (byte new k) ≡ 0)
+        → bit j (byte (merged old rules marks new enables) k) ≡ bit j (byte old k)
+    unfolding after
+    kept-by false e w c = merged-disabled e
+    kept-by true e w (inl m) = merged-bit e ∙ rw (w, m)
+    kept-by true e w (inr d) = merged-bit e ∙ rw (w, d, unmoved (bit j (byte marks k)) (bit j (byte old k)))
+
+    -- and a bit that is not writable stays where it has no mark, or the data's is 0
+    pub merged-kept : bit j (byte rules k) ≡ 0 → (bit j (byte marks k) ≡ 0) ⊎ (bit j (byte new k) ≡ 0)
+        → bit j (byte (merged old rules marks new enables) k) ≡ bit j (byte old k)
+    merged-kept w c = kept-by _ refl w c

@@ -5,9 +5,9 @@ use mathlib.Core.Path.{_≡_, sym, _∙_}
 use Rattle.registers.specs.Merge.{merged}
 use Rattle.registers.specs.Shown.{shown}
 
-pub merge-unique : (old rules new : List ℕ) (enables : ℕ) (r q : List ℕ) → r ≡ merged old rules new enables
-    → q ≡ merged old rules new enables → r ≡ q
-merge-unique old rules new enables r q e f = e ∙ sym f
+pub merge-unique : (old rules marks new : List ℕ) (enables : ℕ) (r q : List ℕ) → r ≡ merged old rules marks new enables
+    → q ≡ merged old rules marks new enables → r ≡ q
+merge-unique old rules marks new enables r q e f = e ∙ sym f
 
 pub show-unique : (bytes : List ℕ) (enables : ℕ) (r q : List ℕ) → r ≡ shown bytes enables → q ≡ shown bytes enables → r ≡ q
 show-unique bytes enables r q e f = e ∙ sym f

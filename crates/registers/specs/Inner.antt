@@ -15,6 +15,6 @@ enabledBytes enables =
     let at : ℕ → ℕ = λ k. maskOf (enabled k enables) in
     at 0 ∷ at 1 ∷ at 2 ∷ at 3 ∷ []
 
--- a byte after a write, under the mask of any enable: the mask, the old byte, the rule byte, the data byte, and what it becomes
-abbrev pub UnderMask : ℕ → ℕ → ℕ → ℕ → ℕ → Type 0
-UnderMask mask old rule new r = (enable : Bool) → mask ≡ maskOf enable → r ≡ cond enable (mergedByte old rule new) old
+-- a byte after a write, under the mask of any enable: the mask, the old byte, the rule byte, the marks, the data byte, and what it becomes
+abbrev pub UnderMask : ℕ → ℕ → ℕ → ℕ → ℕ → ℕ → Type 0
+UnderMask mask old rule mark new r = (enable : Bool) → mask ≡ maskOf enable → r ≡ cond enable (mergedByte old rule mark new) old

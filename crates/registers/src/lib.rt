@@ -6,11 +6,11 @@ ghost use Rattle.registers.specs.Merge.{lowestSet, mergedByte, merged};
 ghost use Rattle.registers.specs.Inner.{enabledBytes, UnderMask};
 ghost use Rattle.registers.specs.Shown.{shown};
 
-// The data bit where the rule bit is 1, the old bit where it is 0.
-fn merge_byte(old: u8, rule: u8, new: u8) -> u8
-    ensures { λ r. ⌜ r ≡ mergedByte old rule new ⌝ }
+// The data bit where the rule bit is 1, the old bit where it is 0; then 0 where the mark and the data bit are 1.
+fn merge_byte(old: u8, rule: u8, mark: u8, new: u8) -> u8
+    ensures { λ r. ⌜ r ≡ mergedByte old rule mark new ⌝ }
 {
-    (old & !rule) | (new & rule)
+    ((old & !rule) | (new & rule)) & !(new & mark)
 }
 
 // FFh for each of the four bytes that is enabled, 00h for each that is not. Of four copies of the enables, each seven bits above the
@@ -28,11 +28,11 @@ fn enabled_bytes(enables: u8) -> [u8; 4]
     ]
 }
 
-// A byte after a write, under the mask of its enable: without it, no bit is writable.
-fn write_byte(mask: u8, old: u8, rule: u8, new: u8) -> u8
-    ensures { λ r. ⌜ UnderMask mask old rule new r ⌝ }
+// A byte after a write, under the mask of its enable: without it, no bit is writable and none is marked.
+fn write_byte(mask: u8, old: u8, rule: u8, mark: u8, new: u8) -> u8
+    ensures { λ r. ⌜ UnderMask mask old rule mark new r ⌝ }
 {
-    merge_byte(old, rule & mask, new)
+    merge_byte(old, rule & mask, mark & mask, new)
 }
 
 // A byte as a read returns it, under the lowest of these enables.
@@ -43,15 +43,21 @@ fn show_byte(enables: u8, byte: u8) -> u8
 }
 
 // Four bytes after a write.
-pub fn merge(old: [u8; 4], rules: [u8; 4], new: [u8; 4], enables: u8) -> [u8; 4]
-    ensures { λ r. ⌜ r ≡ merged old rules new enables ⌝ }
+pub fn merge(
+    old: [u8; 4],
+    rules: [u8; 4],
+    marks: [u8; 4],
+    new: [u8; 4],
+    enables: u8,
+) -> [u8; 4]
+    ensures { λ r. ⌜ r ≡ merged old rules marks new enables ⌝ }
 {
     let mask = enabled_bytes(enables);
     [
-        write_byte(mask[0], old[0], rules[0], new[0]),
-        write_byte(mask[1], old[1], rules[1], new[1]),
-        write_byte(mask[2], old[2], rules[2], new[2]),
-        write_byte(mask[3], old[3], rules[3], new[3]),
+        write_byte(mask[0], old[0], rules[0], marks[0], new[0]),
+        write_byte(mask[1], old[1], rules[1], marks[1], new[1]),
+        write_byte(mask[2], old[2], rules[2], marks[2], new[2]),
+        write_byte(mask[3], old[3], rules[3], marks[3], new[3]),
     ]
 }
 

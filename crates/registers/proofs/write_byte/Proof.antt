@@ -1,4 +1,4 @@
--- `registers::write_byte` meets its contract, by the law on a rule under its mask. Assumes nothing.
+-- `registers::write_byte` meets its contract, by the law on rule and marks under a mask. Assumes nothing.
 use Prim.Native.Nat.{ℕ}
 use mathlib.Core.Path.{ap, _∙_}
 use lib.Bits.{bitAnd}
@@ -14,8 +14,8 @@ merge-byte-requires c κs = search needs
 returns : tie.Need-returns
 returns c enable e =
     let a = c .before .args in
-    c .merge-byte .ensures ∙ ap (λ (m : ℕ). mergedByte (a .old) (bitAnd (a .rule) m) (a .new)) e
-    ∙ rule-under-mask (a .old) (a .rule) (a .new) (search needs) (search needs) (search needs) enable
+    c .merge-byte .ensures ∙ ap (λ (m : ℕ). mergedByte (a .old) (bitAnd (a .rule) m) (bitAnd (a .mark) m) (a .new)) e
+    ∙ rule-under-mask (a .old) (a .rule) (a .mark) (a .new) (search needs) (search needs) (search needs) (search needs) enable
 
 pub write-byte-spec : {M : Type 1} → statement M
 write-byte-spec = tie.close (tie.spec merge-byte-requires returns)
