@@ -1,4 +1,4 @@
--- What serving keeps: the description and the rules always, and a well-described board well described. Assumes nothing.
+-- What serving keeps: the description, the rules and the marks always, and a well-described board well described. Assumes nothing.
 use Prim.Native.Nat.{ℕ, zero, suc, _+_, _≤_}
 use mathlib.Core.Bool.{Bool, true, false}
 use mathlib.Core.List.{List}
@@ -15,19 +15,19 @@ use Rattle.packet.specs.Fields.{dataOf}
 use Rattle.packet.specs.Request.{isTrusted, requestOf}
 use Rattle.packet.proofs.Laws.{offset-inside, device-inside}
 use Rattle.capture.specs.declared.Capture.{Capture}
-use Rattle.capture.specs.Kept.{captured}
+use Rattle.capture.specs.Kept.{captured, forgotten}
 use Rattle.board.specs.declared.Description.{Description}
-use Rattle.board.specs.Description.{Board, ranges, outOfRange, WellDescribed, afterReset}
-use Rattle.board.specs.Access.{unsupported, storedBytes, storedOrdinary, afterWrite}
+use Rattle.board.specs.Description.{Space, Board, ranges, outOfRange, WellDescribed, afterReset}
+use Rattle.board.specs.Access.{unsupported, storedBytes, storedOrdinary, withBytes, afterWrite}
 use Rattle.board.specs.Serving.{respond, serveNumber, byNumber, serve}
-use Rattle.board.proofs.Laws.{Well, well-described}
+use Rattle.board.proofs.Laws.{WellSpace, Well, well-described, described-well}
 use Rattle.board.proofs.Outcomes.{respond-unsupported, respond-write, respond-read}
 
--- what serving keeps, stated of the board before and the board after
+-- what serving keeps, stated of the board before and the board after: of a space all but its bytes
 pub record Keeping (d e : Board) : Type 0 where
   pub description : e .description ≡ d .description
-  pub ordinaryRules : e .ordinary .rules ≡ d .ordinary .rules
-  pub trustedRules : e .trusted .rules ≡ d .trusted .rules
+  pub ordinary : e .ordinary ≡ withBytes (d .ordinary) (e .ordinary .bytes)
+  pub trusted : e .trusted ≡ withBytes (d .trusted) (e .trusted .bytes)
 
 abbrev pub ServeKeeps : Type 0
 ServeKeeps = (d : Board) (p : List ℕ) (size : ℕ) → Keeping d (serve d p size .after)
@@ -53,16 +53,16 @@ module _ (P : Board → Type 0) (d : Board) where
   unfolding serve
   after-serving p size same changed = after-number (serveNumber d p size) p same changed
 
--- ---- the description and the rules
+-- ---- the description, the rules and the marks
 
 kept-write : (d : Board) (q : Request) (new : List ℕ) (trusted : Bool) → isTrusted (q .target) ≡ trusted → Keeping d (afterWrite d q new)
 unfolding afterWrite
-kept-write d q new true t = rw t (record { description = refl; ordinaryRules = refl; trustedRules = refl })
-kept-write d q new false t = rw t (record { description = refl; ordinaryRules = refl; trustedRules = refl })
+kept-write d q new true t = rw t (record { description = refl; ordinary = refl; trusted = refl })
+kept-write d q new false t = rw t (record { description = refl; ordinary = refl; trusted = refl })
 
 pub serve-keeps : ServeKeeps
 serve-keeps d p size =
-    after-serving (Keeping d) d p size (record { description = refl; ordinaryRules = refl; trustedRules = refl }) (kept-write d (requestOf p) (dataOf p) _ refl)
+    after-serving (Keeping d) d p size (record { description = refl; ordinary = refl; trusted = refl }) (kept-write d (requestOf p) (dataOf p) _ refl)
 
 -- ---- well described
 
@@ -72,31 +72,36 @@ captured-range d kept bus device h e =
     let n = none-of (ranges d kept) e in
     rw (le-ltb 31 device h, n .1 .0, n .1 .1 .0, n .1 .1 .1 .0)
 
-stored-length : (space rules : List ℕ) (q : Request) (new : List ℕ) → length space ≡ 4096 → q .offset + 4 ≤ 4096
-    → length (storedBytes space rules q new) ≡ 4096
-unfolding storedBytes
-stored-length space rules q new e h = put-length space (q .offset) _ (rw merged-length (omega arith)) ∙ e
+-- a space with other bytes, as many
+with-bytes : (s : Space) (bytes : List ℕ) → WellSpace s → length bytes ≡ 4096 → WellSpace (withBytes s bytes)
+with-bytes s bytes w e = record { bytes = e; rules = w .rules; marks = w .marks; once = w .once }
 
-besides-length : (a : ℕ) (space rules : List ℕ) (q : Request) (new : List ℕ) (at : Bool) → eqb (q .offset) a ≡ at → length space ≡ 4096
-    → q .offset + 4 ≤ 4096 → length (storedOrdinary a space rules q new) ≡ 4096
-unfolding storedOrdinary
-besides-length a space rules q new true at e h = rw at e
-besides-length a space rules q new false at e h = rw at (stored-length space rules q new e h)
+module _ (s : Space) (q : Request) (new : List ℕ) (w : WellSpace s) (inside : q .offset + 4 ≤ 4096) where
+  stored-length : length (storedBytes s q new) ≡ 4096
+  unfolding storedBytes
+  stored-length = put-length (s .bytes) (q .offset) _ (rw merged-length (omega (arith, w .bytes))) ∙ w .bytes
+
+  besides-length : (a : ℕ) (at : Bool) → eqb (q .offset) a ≡ at → length (storedOrdinary a s q new) ≡ 4096
+  unfolding storedOrdinary
+  besides-length a true at = rw at (w .bytes)
+  besides-length a false at = rw at stored-length
 
 well-write : (d : Board) (q : Request) (new : List ℕ) (trusted : Bool) → isTrusted (q .target) ≡ trusted → q .offset + 4 ≤ 4096 → q .device ≤ 31
     → Well d → WellDescribed (afterWrite d q new)
 unfolding afterWrite
 well-write d q new true t h k w =
-    rw (t, w .ordinaryBytes, w .ordinaryRules, stored-length (d .trusted .bytes) (d .trusted .rules) q new (w .trustedBytes) h, w .trustedRules, w .inRange)
+    rw t
+    (described-well (d .description) (d .capture) (d .ordinary) (withBytes (d .trusted) (storedBytes (d .trusted) q new))
+    (w .ordinary)
+    (with-bytes (d .trusted) (storedBytes (d .trusted) q new) (w .trusted) (stored-length (d .trusted) q new (w .trusted) h))
+    (w .inRange))
 well-write d q new false t h k w =
-    rw (
-      t,
-      besides-length (d .description .a) (d .ordinary .bytes) (d .ordinary .rules) q new _ refl (w .ordinaryBytes) h,
-      w .ordinaryRules,
-      w .trustedBytes,
-      w .trustedRules,
-      captured-range (d .description) (d .capture) (q .bus) (q .device) k (w .inRange),
-    )
+    let stored = storedOrdinary (d .description .a) (d .ordinary) q new in
+    rw t
+    (described-well (d .description) (captured (d .capture) (q .bus) (q .device)) (withBytes (d .ordinary) stored) (d .trusted)
+    (with-bytes (d .ordinary) stored (w .ordinary) (besides-length (d .ordinary) q new (w .ordinary) h (d .description .a) _ refl))
+    (w .trusted)
+    (captured-range (d .description) (d .capture) (q .bus) (q .device) k (w .inRange)))
 
 pub serve-keeps-well : ServeKeepsWell
 serve-keeps-well d p size e =
@@ -107,4 +112,4 @@ pub reset-keeps-well : (d : Board) → WellDescribed d → WellDescribed (afterR
 reset-keeps-well d e =
     let w = well-described d e in
     let n = none-of (ranges (d .description) (d .capture)) (w .inRange) in
-    rw (w .ordinaryBytes, w .ordinaryRules, w .trustedBytes, w .trustedRules, n .1 .0, n .1 .1 .0, n .1 .1 .1 .0)
+    described-well (d .description) (forgotten (d .capture)) (d .ordinary) (d .trusted) (w .ordinary) (w .trusted) (rw (n .1 .0, n .1 .1 .0, n .1 .1 .1 .0))

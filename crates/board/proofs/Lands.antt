@@ -1,4 +1,4 @@
--- A write that is answered "successful" lands. It leaves the merge of what stood there, the rules and the data in the four bytes at its
+-- A write that is answered "successful" lands. It leaves the merge of what stood there, the rules, the marks and the data in the four bytes at its
 -- offset, and every other byte and word of both spaces as it was, so that no two offsets reach the same byte; an ordinary write at A leaves
 -- every byte as it was. An ordinary write captures, a trusted one does not. Nothing else that a packet can ask for, and no refusal, changes a
 -- byte or the capture. Assumes nothing.
@@ -22,19 +22,21 @@ use Rattle.packet.specs.Completion.{statusByte, withData, withoutData}
 use Rattle.packet.proofs.Laws.{offset-inside, offset-aligned}
 use Rattle.capture.specs.declared.Capture.the-variants.{Number}
 use Rattle.board.specs.Description.{Space, Board, WellDescribed}
-use Rattle.board.specs.Access.{unsupported, storedBytes, afterWrite}
+use Rattle.board.specs.Access.{unsupported, storedBytes, withBytes, afterWrite}
 use Rattle.board.specs.Serving.{Outcome, respond, serveNumber, byNumber, serve}
 use Rattle.board.proofs.Laws.{well-described, stored-at-a, stored-ordinary}
 use Rattle.board.proofs.Outcomes.{respond-unsupported, respond-write, respond-read, refused-is}
 use Rattle.board.proofs.Refusals.{outcome-number}
 
--- a space after a write: its size, the four bytes, every other byte, every other word, and the rules
+-- a space after a write: its size, the four bytes, every other byte, every other word, and the rules and marks
 pub record Landed (before after : Space) (q : Request) (new : List ℕ) : Type 0 where
   pub size : length (after .bytes) ≡ length (before .bytes)
-  pub there : four (after .bytes) (q .offset) ≡ merged (four (before .bytes) (q .offset)) (four (before .rules) (q .offset)) new (q .enables)
+  pub there : four (after .bytes) (q .offset)
+      ≡ merged (four (before .bytes) (q .offset)) (four (before .rules) (q .offset)) (four (before .marks) (q .offset)) new (q .enables)
   pub elsewhere : (k : ℕ) → (k < q .offset) ⊎ (q .offset + 4 ≤ k) → byte (after .bytes) k ≡ byte (before .bytes) k
   pub words : (o : ℕ) → o % 4 ≡ 0 → (o ≡ q .offset → ⊥) → four (after .bytes) o ≡ four (before .bytes) o
   pub rules : after .rules ≡ before .rules
+  pub marks : after .marks ≡ before .marks
 
 -- a trusted write, an ordinary one at A, any other ordinary one: the capture, and what is left of the two spaces
 pub record Writes (d e : Board) (q : Request) (new : List ℕ) : Type 0 where
@@ -59,12 +61,12 @@ OthersKeep =
 
 -- ---- a store
 
-module _ (space rules : List ℕ) (q : Request) (new : List ℕ) (whole : length space ≡ 4096) (inside : q .offset + 4 ≤ 4096)
-    (aligned : q .offset % 4 ≡ 0) where
+module _ (s : Space) (q : Request) (new : List ℕ) (whole : length (s .bytes) ≡ 4096) (inside : q .offset + 4 ≤ 4096) (aligned : q .offset % 4 ≡ 0)
+    where
   word : List ℕ
-  word = merged (four space (q .offset)) (four rules (q .offset)) new (q .enables)
+  word = merged (four (s .bytes) (q .offset)) (four (s .rules) (q .offset)) (four (s .marks) (q .offset)) new (q .enables)
 
-  fits : q .offset + length word ≤ length space
+  fits : q .offset + length word ≤ length (s .bytes)
   unfolding word
   fits = rw merged-length (omega arith)
 
@@ -72,33 +74,34 @@ module _ (space rules : List ℕ) (q : Request) (new : List ℕ) (whole : length
   unfolding word
   small k h = rw merged-length h
 
-  stored-there : four (storedBytes space rules q new) (q .offset) ≡ word
+  stored-there : four (storedBytes s q new) (q .offset) ≡ word
   unfolding storedBytes word
   stored-there =
       (λ i.
-      (ap (byte (put space (q .offset) word)) (sym (add-zero (q .offset))) ∙ put-there space (q .offset) word fits 0 (small 0 (omega arith))) i
-      ∷ put-there space (q .offset) word fits 1 (small 1 (omega arith)) i
-      ∷ put-there space (q .offset) word fits 2 (small 2 (omega arith)) i
-      ∷ put-there space (q .offset) word fits 3 (small 3 (omega arith)) i
+      (ap (byte (put (s .bytes) (q .offset) word)) (sym (add-zero (q .offset))) ∙ put-there (s .bytes) (q .offset) word fits 0 (small 0 (omega arith))) i
+      ∷ put-there (s .bytes) (q .offset) word fits 1 (small 1 (omega arith)) i
+      ∷ put-there (s .bytes) (q .offset) word fits 2 (small 2 (omega arith)) i
+      ∷ put-there (s .bytes) (q .offset) word fits 3 (small 3 (omega arith)) i
       ∷ [])
-      ∙ merged-four (four space (q .offset)) (four rules (q .offset)) new (q .enables)
+      ∙ merged-four (four (s .bytes) (q .offset)) (four (s .rules) (q .offset)) (four (s .marks) (q .offset)) new (q .enables)
 
-  stored-elsewhere : (k : ℕ) → (k < q .offset) ⊎ (q .offset + 4 ≤ k) → byte (storedBytes space rules q new) k ≡ byte space k
+  stored-elsewhere : (k : ℕ) → (k < q .offset) ⊎ (q .offset + 4 ≤ k) → byte (storedBytes s q new) k ≡ byte (s .bytes) k
   unfolding storedBytes word
   stored-elsewhere k =
       ⊎-elim
-      (λ h. put-before space (q .offset) word fits k h)
-      (λ h. put-after space (q .offset) word fits k (rw merged-length h))
+      (λ h. put-before (s .bytes) (q .offset) word fits k h)
+      (λ h. put-after (s .bytes) (q .offset) word fits k (rw merged-length h))
 
-  landed : Landed (record { bytes = space; rules = rules }) (record { bytes = storedBytes space rules q new; rules = rules }) q new
+  landed : Landed s (withBytes s (storedBytes s q new)) q new
   unfolding word storedBytes
   landed =
       record {
-        size = put-length space (q .offset) word fits;
+        size = put-length (s .bytes) (q .offset) word fits;
         there = stored-there;
         elsewhere = stored-elsewhere;
-        words = λ o a h. four-elsewhere space (q .offset) word o fits (merged-length _ _ _ _) aligned a h;
+        words = λ o a h. four-elsewhere (s .bytes) (q .offset) word o fits (merged-length _ _ _ _ _) aligned a h;
         rules = refl;
+        marks = refl;
       }
 
 -- ---- the write of a request
@@ -109,11 +112,11 @@ unfolding afterWrite
 written d q new e inside aligned =
     let w = well-described d e in
     record {
-      trusted = λ t. rw t (refl, landed (d .trusted .bytes) (d .trusted .rules) q new (w .trustedBytes) inside aligned, refl);
-      atA = λ t a. rw (t, stored-at-a (d .description .a) (d .ordinary .bytes) (d .ordinary .rules) q new a) (refl, refl, refl);
+      trusted = λ t. rw t (refl, landed (d .trusted) q new (w .trusted .bytes) inside aligned, refl);
+      atA = λ t a. rw (t, stored-at-a (d .description .a) (d .ordinary) q new a) (refl, refl, refl);
       ordinary = λ t h.
-          rw (t, stored-ordinary (d .description .a) (d .ordinary .bytes) (d .ordinary .rules) q new h)
-          (refl, landed (d .ordinary .bytes) (d .ordinary .rules) q new (w .ordinaryBytes) inside aligned, refl);
+          rw (t, stored-ordinary (d .description .a) (d .ordinary) q new h)
+          (refl, landed (d .ordinary) q new (w .ordinary .bytes) inside aligned, refl);
     }
 
 -- ---- by the answer

@@ -1,15 +1,15 @@
 -- Laws of the definitions of this crate, one for each way through the code and for the proofs above. Assumes nothing.
 use Prim.Native.Nat.{ℕ, _%_, _≤_}
 use mathlib.Core.Bool.{Bool, true, false, not, _&&_, or-false, or-true}
-use mathlib.Core.List.{List}
-use mathlib.Core.Path.{_≡_, ap, ap₂, _∙_}
+use mathlib.Core.List.{List, [], _∷_}
+use mathlib.Core.Path.{_≡_, ap, _∙_}
 use native.Mathlib.Nat.{zero-add}
 use native.Mathlib.Omega.{arith}
 use lib.Dec.{eqb}
 use lib.ListN.{length}
 use borrow.Author.Tests.{eq-eqb, ne-eqb, eqb-true, not-false}
 use Rattle.answers.proofs.Checks.{none-of}
-use Rattle.words.specs.Bytes.{four, fourOrZero, put, Puts}
+use Rattle.words.specs.Bytes.{four, fourOrZero, Puts}
 use Rattle.words.proofs.Laws.{four-inside, puts-is, placed-true}
 use Rattle.registers.specs.Merge.{merged}
 use Rattle.registers.specs.Shown.{shown}
@@ -24,42 +24,57 @@ use Rattle.capture.specs.declared.Capture.the-variants.{Nothing, Number}
 use Rattle.capture.specs.declared.Identified.{Identified}
 use Rattle.capture.specs.Kept.{completer, identified}
 use Rattle.board.specs.declared.Description.{Description}
-use Rattle.board.specs.Description.{Board, outOfRange, ranges, wrongSize, causes, WellDescribed}
+use Rattle.board.specs.Description.{Space, Board, outOfRange, ranges, wrongSize, wrongSizes, doublyMarked, causes, WellDescribed}
 use Rattle.board.specs.Access.{addressed, unsupported, storedBytes, storedOrdinary, shownWord}
 use Rattle.board.specs.Promise.{over}
 use Rattle.board.specs.Inner.{Sized, Readable, done}
 
 -- ---- a well-described board
 
-right-size : (n : ℕ) → wrongSize n ≡ false → n ≡ 4096
-right-size n e = eqb-true n 4096 (not-false (eqb n 4096) e)
+pub record WellSpace (s : Space) : Type 0 where
+  pub bytes : length (s .bytes) ≡ 4096
+  pub rules : length (s .rules) ≡ 4096
+  pub marks : length (s .marks) ≡ 4096
+  pub once : doublyMarked (s .rules) (s .marks) ≡ false
 
 pub record Well (d : Board) : Type 0 where
-  pub ordinaryBytes : length (d .ordinary .bytes) ≡ 4096
-  pub ordinaryRules : length (d .ordinary .rules) ≡ 4096
-  pub trustedBytes : length (d .trusted .bytes) ≡ 4096
-  pub trustedRules : length (d .trusted .rules) ≡ 4096
+  pub ordinary : WellSpace (d .ordinary)
+  pub trusted : WellSpace (d .trusted)
   pub inRange : outOfRange (d .description) (d .capture) ≡ false
   pub atAAligned : d .description .a % 4 ≡ 0
   pub register : d .description .b ≤ 0xffc
 
+right-size : (buffer : List ℕ) → wrongSize buffer ≡ false → length buffer ≡ 4096
+right-size buffer e = eqb-true (length buffer) 4096 (not-false (eqb (length buffer) 4096) e)
+
+right-sizes : (s : Space) → wrongSizes s ≡ false → doublyMarked (s .rules) (s .marks) ≡ false → WellSpace s
+right-sizes s e once =
+    let n = none-of (wrongSize (s .bytes) ∷ wrongSize (s .rules) ∷ wrongSize (s .marks) ∷ []) e in
+    record { bytes = right-size (s .bytes) (n .0); rules = right-size (s .rules) (n .1 .0); marks = right-size (s .marks) (n .1 .1 .0); once = once }
+
 pub well-described : (d : Board) → WellDescribed d → Well d
 well-described d e =
-    let n =
-    none-of
-    (causes (length (d .ordinary .bytes)) (length (d .ordinary .rules)) (length (d .trusted .bytes)) (length (d .trusted .rules))
-    (d .description) (d .capture))
-    e in
-    let r = none-of (ranges (d .description) (d .capture)) (n .1 .1 .1 .1 .0) in
+    let n = none-of (causes d) e in
+    let r = none-of (ranges (d .description) (d .capture)) (n .1 .1 .0) in
     record {
-      ordinaryBytes = right-size _ (n .0);
-      ordinaryRules = right-size _ (n .1 .0);
-      trustedBytes = right-size _ (n .1 .1 .0);
-      trustedRules = right-size _ (n .1 .1 .1 .0);
-      inRange = n .1 .1 .1 .1 .0;
+      ordinary = right-sizes (d .ordinary) (n .0) (n .1 .1 .1 .0);
+      trusted = right-sizes (d .trusted) (n .1 .0) (n .1 .1 .1 .1 .0);
+      inRange = n .1 .1 .0;
       atAAligned = placed-true _ 0x104 0xffc (not-false _ (r .1 .1 .0)) .aligned;
       register = placed-true _ 0x00c 0xffc (not-false _ (r .1 .1 .1 .0)) .below;
     }
+
+-- and the other way
+pub described-well : (e : Description) (kept : Capture) (o t : Space) → WellSpace o → WellSpace t → outOfRange e kept ≡ false
+    → WellDescribed (record { description = e; capture = kept; ordinary = o; trusted = t })
+described-well e kept o t wo wt inRange =
+    rw (wo .bytes, wo .rules, wo .marks, wt .bytes, wt .rules, wt .marks, inRange, wo .once, wt .once)
+
+-- three whole buffers, by the test that the code makes
+pub whole : (s : Space) → wrongSizes s ≡ false → (length (s .rules) ≡ 4096) × (length (s .marks) ≡ 4096)
+whole s e =
+    let n = none-of (wrongSize (s .bytes) ∷ wrongSize (s .rules) ∷ wrongSize (s .marks) ∷ []) e in
+    (right-size (s .rules) (n .1 .0), right-size (s .marks) (n .1 .1 .0))
 
 -- ---- unsupported requests
 
@@ -85,25 +100,26 @@ unsupported-trusted d (Number bus device) q clean t = simp (clean, t, or-false)
 
 -- ---- writes and reads, inside a space
 
-pub stored-is : (space rules : List ℕ) (q : Request) (new old rule word : List ℕ) (said : Bool) (after : List ℕ) → Sized space rules q
-    → old ≡ fourOrZero space (q .offset) → rule ≡ fourOrZero rules (q .offset) → word ≡ merged old rule new (q .enables)
-    → Puts space (q .offset) word said after → after ≡ storedBytes space rules q new
+pub stored-is : (s : Space) (q : Request) (new old rule mark word : List ℕ) (said : Bool) (after : List ℕ) → Sized s q
+    → old ≡ fourOrZero (s .bytes) (q .offset) → rule ≡ fourOrZero (s .rules) (q .offset) → mark ≡ fourOrZero (s .marks) (q .offset)
+    → word ≡ merged old rule mark new (q .enables) → Puts (s .bytes) (q .offset) word said after → after ≡ storedBytes s q new
 unfolding storedBytes
-stored-is space rules q new old rule word said after sized o r w p =
-    puts-is space (q .offset) word p (rw w (rw merged-length (omega (arith, sized))))
-    ∙ ap (put space (q .offset))
-    (w ∙ ap₂ (λ (x y : List ℕ). merged x y new (q .enables))
-    (o ∙ four-inside space (q .offset) (omega (arith, sized)))
-    (r ∙ four-inside rules (q .offset) (omega (arith, sized))))
+stored-is s q new old rule mark word said after sized o r m w p =
+    puts-is (s .bytes) (q .offset) word p (rw w (rw merged-length (omega (arith, sized))))
+    ∙ rw (
+      w,
+      o ∙ four-inside (s .bytes) (q .offset) (omega (arith, sized)),
+      r ∙ four-inside (s .rules) (q .offset) (omega (arith, sized)),
+      m ∙ four-inside (s .marks) (q .offset) (omega (arith, sized)),
+    )
 
-pub stored-at-a : (a : ℕ) (space rules : List ℕ) (q : Request) (new : List ℕ) → q .offset ≡ a → storedOrdinary a space rules q new ≡ space
+pub stored-at-a : (a : ℕ) (s : Space) (q : Request) (new : List ℕ) → q .offset ≡ a → storedOrdinary a s q new ≡ s .bytes
 unfolding storedOrdinary
-stored-at-a a space rules q new e = rw (eq-eqb (q .offset) a e)
+stored-at-a a s q new e = rw (eq-eqb (q .offset) a e)
 
-pub stored-ordinary : (a : ℕ) (space rules : List ℕ) (q : Request) (new : List ℕ) → (q .offset ≡ a → ⊥)
-    → storedOrdinary a space rules q new ≡ storedBytes space rules q new
+pub stored-ordinary : (a : ℕ) (s : Space) (q : Request) (new : List ℕ) → (q .offset ≡ a → ⊥) → storedOrdinary a s q new ≡ storedBytes s q new
 unfolding storedOrdinary
-stored-ordinary a space rules q new h = rw (ne-eqb (q .offset) a h)
+stored-ordinary a s q new h = rw (ne-eqb (q .offset) a h)
 
 -- the three words that a read can show
 module _ (d : Description) (ordinary trusted : List ℕ) (q : Request) (ready : Readable d ordinary trusted q) where

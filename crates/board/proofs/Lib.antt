@@ -1,3 +1,4 @@
+pub mod MarkedTwice
 pub mod Laws
 pub mod Outcomes
 pub mod Keeps

@@ -24,12 +24,12 @@ use Rattle.capture.specs.declared.Capture.{Capture}
 use Rattle.capture.specs.Kept.{captured, completer}
 use Rattle.board.specs.declared.Description.{Description}
 use Rattle.board.specs.declared.Served.{Served}
-use Rattle.board.specs.Description.{Board, badlyDescribed}
+use Rattle.board.specs.Description.{Space, Board, badlyDescribed}
 use Rattle.board.specs.Access.{unsupported, storedBytes, storedOrdinary, afterWrite, readWord}
 use Rattle.board.specs.Serving.{Outcome, completerOf, replies, repliesData, respond, serveNumber, refused, byNumber, serve}
-use Rattle.board.specs.Promise.{lent, seen, shows, over, Serves}
-use Rattle.board.specs.Inner.{Ready, done, refusing}
-use Rattle.board.proofs.Laws.{well-described}
+use Rattle.board.specs.Promise.{spaceOf, lent, seen, shows, over, Serves}
+use Rattle.board.specs.Inner.{Sized, Ready, done, refusing}
+use Rattle.board.proofs.Laws.{WellSpace, well-described}
 
 -- ---- a completion, and the board as it then is
 
@@ -47,22 +47,22 @@ module _ (d : Board) (q : Request) (reply : List ℕ) (r : Served) (after : List
 
 -- ---- the write
 
-module _ (d : Description) (kept : Capture) (o or t tr p : List ℕ) (q : Request) (reply : List ℕ) (long : 16 ≤ length p)
+module _ (d : Description) (kept : Capture) (o or om t tr tm p : List ℕ) (q : Request) (reply : List ℕ) (long : 16 ≤ length p)
     (new : List ℕ) (w : new ≡ fourOrZero p 12) (r : Served) (after : List ℕ) where
-  pub written-trusted : (t′ : List ℕ) → isTrusted (q .target) ≡ true → t′ ≡ storedBytes t tr q new → r ≡ done 12 kept
+  pub written-trusted : (t′ : List ℕ) → isTrusted (q .target) ≡ true → t′ ≡ storedBytes (spaceOf t tr tm) q new → r ≡ done 12 kept
       → after ≡ over (withoutData (completer kept (d .function)) Success (q .requester) (q .tag)) reply
-      → seen r o t′ after ≡ shows (replies (afterWrite (lent d kept o or t tr) q (dataOf p)) Success q) reply
+      → seen r o t′ after ≡ shows (replies (afterWrite (lent d kept o or om t tr tm) q (dataOf p)) Success q) reply
   unfolding afterWrite
   written-trusted t′ is st e f =
-      rw (is, ← (four-inside p 12 (omega arith)), ← w, ← st) (replies-seen (lent d kept o or t′ tr) q reply r after Success e f)
+      rw (is, ← (four-inside p 12 (omega arith)), ← w, ← st) (replies-seen (lent d kept o or om t′ tr tm) q reply r after Success e f)
 
-  pub written-ordinary : (o′ : List ℕ) (state : Capture) → isTrusted (q .target) ≡ false → o′ ≡ storedOrdinary (d .a) o or q new
+  pub written-ordinary : (o′ : List ℕ) (state : Capture) → isTrusted (q .target) ≡ false → o′ ≡ storedOrdinary (d .a) (spaceOf o or om) q new
       → state ≡ captured kept (q .bus) (q .device) → r ≡ done 12 state
       → after ≡ over (withoutData (completer state (d .function)) Success (q .requester) (q .tag)) reply
-      → seen r o′ t after ≡ shows (replies (afterWrite (lent d kept o or t tr) q (dataOf p)) Success q) reply
+      → seen r o′ t after ≡ shows (replies (afterWrite (lent d kept o or om t tr tm) q (dataOf p)) Success q) reply
   unfolding afterWrite
   written-ordinary o′ state is st c e f =
-      rw (is, ← (four-inside p 12 (omega arith)), ← w, ← st, ← c) (replies-seen (lent d state o′ or t tr) q reply r after Success e f)
+      rw (is, ← (four-inside p 12 (omega arith)), ← w, ← st, ← c) (replies-seen (lent d state o′ or om t tr tm) q reply r after Success e f)
 
 -- ---- the three ways to respond
 
@@ -118,15 +118,18 @@ module _ (d : Board) (p reply : List ℕ) where
 
 -- ---- a packet without a fault, on a well-described board with room for the reply
 
-module _ (d : Description) (kept : Capture) (o or t tr p reply : List ℕ) (well : badlyDescribed (lent d kept o or t tr) ≡ false)
+module _ (d : Description) (kept : Capture) (o or om t tr tm p reply : List ℕ) (well : badlyDescribed (lent d kept o or om t tr tm) ≡ false)
     (room : 16 ≤ length reply) (q : Request) (asks : Decodes p (Asks q)) where
-  pub ready : Ready d o or t tr q reply × (q .writes ≡ true → 16 ≤ length p)
+  sized : (s : Space) → WellSpace s → q .offset + 4 ≤ 4096 → Sized s q
+  sized s w inside = record { wholeBytes = w .bytes; wholeRules = w .rules; wholeMarks = w .marks; inside = inside }
+
+  pub ready : Ready (lent d kept o or om t tr tm) q reply × (q .writes ≡ true → 16 ≤ length p)
   ready =
-      let w = well-described (lent d kept o or t tr) well in
+      let w = well-described (lent d kept o or om t tr tm) well in
       let inside : q .offset + 4 ≤ 4096 = rw (asks .1) (offset-inside p) in (
         record {
-          sizedOrdinary = record { wholeBytes = w .ordinaryBytes; wholeRules = w .ordinaryRules; inside = inside };
-          sizedTrusted = record { wholeBytes = w .trustedBytes; wholeRules = w .trustedRules; inside = inside };
+          sizedOrdinary = sized (spaceOf o or om) (w .ordinary) inside;
+          sizedTrusted = sized (spaceOf t tr tm) (w .trusted) inside;
           register = omega (arith, w .register);
           room = room;
         },
@@ -134,8 +137,8 @@ module _ (d : Description) (kept : Capture) (o or t tr p reply : List ℕ) (well
       )
 
   pub served-seen : (r : Served) (o′ t′ after : List ℕ)
-      → seen r o′ t′ after ≡ shows (respond (lent d kept o or t tr) q (dataOf p)) reply → Serves (lent d kept o or t tr) p reply r o′ t′ after
+      → seen r o′ t′ after ≡ shows (respond (lent d kept o or om t tr tm) q (dataOf p)) reply → Serves (lent d kept o or om t tr tm) p reply r o′ t′ after
   served-seen r o′ t′ after e =
       e ∙ ap (λ (x : Outcome). shows x reply)
-      (ap (λ (x : Request). respond (lent d kept o or t tr) x (dataOf p)) (asks .1)
-      ∙ sym (served-is (lent d kept o or t tr) p reply well room (asks .0)))
+      (ap (λ (x : Request). respond (lent d kept o or om t tr tm) x (dataOf p)) (asks .1)
+      ∙ sym (served-is (lent d kept o or om t tr tm) p reply well room (asks .0)))

@@ -17,7 +17,7 @@ use Rattle.packet.specs.Fields.{dataOf}
 use Rattle.packet.specs.Request.{isTrusted, requestOf}
 use Rattle.packet.proofs.Laws.{offset-inside, offset-aligned}
 use Rattle.board.specs.Description.{Board, WellDescribed}
-use Rattle.board.specs.Access.{unsupported, storedBytes, storedOrdinary, afterWrite, shownWord}
+use Rattle.board.specs.Access.{unsupported, storedBytes, storedOrdinary, withBytes, afterWrite, shownWord}
 use Rattle.board.specs.Serving.{Outcome, respond, serveNumber, byNumber, serve}
 use Rattle.board.proofs.Laws.{Well, well-described, stored-at-a, stored-ordinary}
 use Rattle.board.proofs.Outcomes.{respond-unsupported, respond-write, respond-read}
@@ -33,6 +33,7 @@ pub record ButAtA (d e : Board) : Type 0 where
   pub capture : d .capture ≡ e .capture
   pub bytes : SameBut (d .description .a) (d .ordinary .bytes) (e .ordinary .bytes)
   pub rules : d .ordinary .rules ≡ e .ordinary .rules
+  pub marks : d .ordinary .marks ≡ e .ordinary .marks
   pub trusted : d .trusted ≡ e .trusted
 
 -- two outcomes that a caller could not tell apart but by reading the bytes at A in its own buffer
@@ -49,7 +50,7 @@ StaleNeverShown = (d e : Board) (p : List ℕ) (size : ℕ) → WellDescribed d 
 
 abbrev withOrdinary : Board → List ℕ → Board
 withOrdinary d bytes =
-    record { description = d .description; capture = d .capture; ordinary = record { bytes = bytes; rules = d .ordinary .rules }; trusted = d .trusted }
+    record { description = d .description; capture = d .capture; ordinary = withBytes (d .ordinary) bytes; trusted = d .trusted }
 
 is-with : (d e : Board) → ButAtA d e → withOrdinary d (e .ordinary .bytes) ≡ e
 is-with d e b =
@@ -57,12 +58,12 @@ is-with d e b =
     record {
       description = b .description i;
       capture = b .capture i;
-      ordinary = record { bytes = e .ordinary .bytes; rules = b .rules i };
+      ordinary = record { bytes = e .ordinary .bytes; rules = b .rules i; marks = b .marks i };
       trusted = b .trusted i;
     }
 
 but : (d : Board) (bytes : List ℕ) → SameBut (d .description .a) (d .ordinary .bytes) bytes → ButAtA d (withOrdinary d bytes)
-but d bytes s = record { description = refl; capture = refl; bytes = s; rules = refl; trusted = refl }
+but d bytes s = record { description = refl; capture = refl; bytes = s; rules = refl; marks = refl; trusted = refl }
 
 -- ---- the access, at an offset that is a multiple of 4 inside the space
 
@@ -79,13 +80,13 @@ module _ (d : Board) (other : List ℕ) (w : Well d) (s : SameBut (d .descriptio
   read-same false false t e = rw (t, e, four-same (eqb-false (q .offset) (d .description .a) e))
 
   put-same : (new : List ℕ) → (q .offset ≡ d .description .a → ⊥)
-      → SameBut (d .description .a) (storedBytes (d .ordinary .bytes) (d .ordinary .rules) q new) (storedBytes other (d .ordinary .rules) q new)
+      → SameBut (d .description .a) (storedBytes (d .ordinary) q new) (storedBytes (withBytes (d .ordinary) other) q new)
   unfolding storedBytes
   put-same new h =
-      let word = merged (four other (q .offset)) (four (d .ordinary .rules) (q .offset)) new (q .enables) in
-      let n : length word ≡ 4 = merged-length _ _ _ _ in
-      let f : q .offset + length word ≤ length (d .ordinary .bytes) = omega (arith, w .ordinaryBytes) in
-      let g : q .offset + length word ≤ length other = omega (arith, w .ordinaryBytes, s .sizes) in
+      let word = merged (four other (q .offset)) (four (d .ordinary .rules) (q .offset)) (four (d .ordinary .marks) (q .offset)) new (q .enables) in
+      let n : length word ≡ 4 = merged-length _ _ _ _ _ in
+      let f : q .offset + length word ≤ length (d .ordinary .bytes) = omega (arith, w .ordinary .bytes) in
+      let g : q .offset + length word ≤ length other = omega (arith, w .ordinary .bytes, s .sizes) in
       rw (four-same h)
       (record {
         sizes = put-length (d .ordinary .bytes) (q .offset) word f ∙ s .sizes ∙ sym (put-length other (q .offset) word g);
@@ -93,26 +94,26 @@ module _ (d : Board) (other : List ℕ) (w : Well d) (s : SameBut (d .descriptio
       })
 
   stored-same : (new : List ℕ) (at : Bool) → eqb (q .offset) (d .description .a) ≡ at
-      → SameBut (d .description .a) (storedOrdinary (d .description .a) (d .ordinary .bytes) (d .ordinary .rules) q new)
-      (storedOrdinary (d .description .a) other (d .ordinary .rules) q new)
+      → SameBut (d .description .a) (storedOrdinary (d .description .a) (d .ordinary) q new)
+      (storedOrdinary (d .description .a) (withBytes (d .ordinary) other) q new)
   stored-same new true e =
       let h = eqb-true (q .offset) (d .description .a) e in
       rw (
-        stored-at-a (d .description .a) (d .ordinary .bytes) (d .ordinary .rules) q new h,
-        stored-at-a (d .description .a) other (d .ordinary .rules) q new h,
+        stored-at-a (d .description .a) (d .ordinary) q new h,
+        stored-at-a (d .description .a) (withBytes (d .ordinary) other) q new h,
       ) s
   stored-same new false e =
       let h = eqb-false (q .offset) (d .description .a) e in
       rw (
-        stored-ordinary (d .description .a) (d .ordinary .bytes) (d .ordinary .rules) q new h,
-        stored-ordinary (d .description .a) other (d .ordinary .rules) q new h,
+        stored-ordinary (d .description .a) (d .ordinary) q new h,
+        stored-ordinary (d .description .a) (withBytes (d .ordinary) other) q new h,
       ) (put-same new h)
 
   write-same : (new : List ℕ) (t : Bool) → isTrusted (q .target) ≡ t → ButAtA (afterWrite d q new) (afterWrite (withOrdinary d other) q new)
   unfolding afterWrite
-  write-same new true t = rw t (record { description = refl; capture = refl; bytes = s; rules = refl; trusted = refl })
+  write-same new true t = rw t (record { description = refl; capture = refl; bytes = s; rules = refl; marks = refl; trusted = refl })
   write-same new false t =
-      rw t (record { description = refl; capture = refl; bytes = stored-same new _ refl; rules = refl; trusted = refl })
+      rw t (record { description = refl; capture = refl; bytes = stored-same new _ refl; rules = refl; marks = refl; trusted = refl })
 
   -- ---- a response
 

@@ -16,7 +16,7 @@ use Rattle.capture.specs.declared.Capture.{Capture}
 use Rattle.capture.specs.declared.Capture.the-variants.{Nothing, Number}
 use Rattle.capture.specs.Kept.{captured}
 use Rattle.board.specs.declared.Description.{Description}
-use Rattle.board.specs.Description.{Board}
+use Rattle.board.specs.Description.{Space, Board}
 
 abbrev pub isType0 : Target → Bool
 isType0 Type0 = true
@@ -51,13 +51,20 @@ unsupported description kept q =
     ∷ (q .writes && q .poisoned)
     ∷ [])
 
--- a write to a space: four data bytes merged with those at the request's offset, under the rules there and the enables
-unfoldable pub storedBytes : List ℕ → List ℕ → Request → List ℕ → List ℕ
-storedBytes bytes rules q new = put bytes (q .offset) (merged (four bytes (q .offset)) (four rules (q .offset)) new (q .enables))
+-- a write to a space: four data bytes merged with those at the request's offset, under the rules and the marks there and the enables
+unfoldable pub storedBytes : Space → Request → List ℕ → List ℕ
+storedBytes s q new =
+    put (s .bytes) (q .offset)
+    (merged (four (s .bytes) (q .offset)) (four (s .rules) (q .offset)) (four (s .marks) (q .offset)) new (q .enables))
 
--- "An ordinary write [at A] succeeds, captures, and changes no byte.": A, and the rest as above
-unfoldable pub storedOrdinary : ℕ → List ℕ → List ℕ → Request → List ℕ → List ℕ
-storedOrdinary a bytes rules q new = cond (eqb (q .offset) a) bytes (storedBytes bytes rules q new)
+-- "An ordinary write [at A] succeeds, captures, and changes no byte.", and 02, 6/13: "An ordinary write at A still changes nothing.": A, and the
+-- rest as above
+unfoldable pub storedOrdinary : ℕ → Space → Request → List ℕ → List ℕ
+storedOrdinary a s q new = cond (eqb (q .offset) a) (s .bytes) (storedBytes s q new)
+
+-- a space with other bytes
+abbrev pub withBytes : Space → List ℕ → Space
+withBytes s bytes = record { bytes = bytes; rules = s .rules; marks = s .marks }
 
 -- "A successful Type 0 write captures its bus and device number before the reply is written, also with no byte enabled. No trusted
 -- request captures."
@@ -68,16 +75,12 @@ afterWrite d q new =
       description = d .description;
       capture = d .capture;
       ordinary = d .ordinary;
-      trusted = record { bytes = storedBytes (d .trusted .bytes) (d .trusted .rules) q new; rules = d .trusted .rules };
+      trusted = withBytes (d .trusted) (storedBytes (d .trusted) q new);
     })
     (record {
       description = d .description;
       capture = captured (d .capture) (q .bus) (q .device);
-      ordinary =
-          record {
-            bytes = storedOrdinary (d .description .a) (d .ordinary .bytes) (d .ordinary .rules) q new;
-            rules = d .ordinary .rules;
-          };
+      ordinary = withBytes (d .ordinary) (storedOrdinary (d .description .a) (d .ordinary) q new);
       trusted = d .trusted;
     })
 

@@ -1,8 +1,10 @@
--- Document 01, "What the board software covers": a board, and when it is well described. Assumes nothing.
+-- Document 01, "What the board software covers": a board, and when it is well described; with document 02, 6/13, "Bits cleared by writing one".
+-- Assumes nothing.
 use Prim.Native.Nat.{ℕ}
-use mathlib.Core.Bool.{Bool, false, not}
+use mathlib.Core.Bool.{Bool, true, false, not, cond}
 use mathlib.Core.List.{List, [], _∷_}
 use mathlib.Core.Path.{_≡_}
+use lib.Bits.{bitAnd}
 use lib.Dec.{ltb, eqb}
 use lib.ListN.{length}
 use Rattle.answers.specs.Checks.{any}
@@ -11,10 +13,12 @@ use Rattle.capture.specs.declared.Capture.{Capture}
 use Rattle.capture.specs.Kept.{forgotten, deviceOver}
 use Rattle.board.specs.declared.Description.{Description}
 
--- "two spaces of 4,096 bytes (ordinary and trusted), a rule space of 4,096 bytes for each"
+-- "two spaces of 4,096 bytes (ordinary and trusted), a rule space of 4,096 bytes for each". 02, 6/13: "Each space gets a third buffer of 4,096
+-- bytes that marks [the bits that are cleared by writing 1]."
 pub record Space : Type 0 where
   pub bytes : List ℕ
   pub rules : List ℕ
+  pub marks : List ℕ
 
 -- "A board has its function number (0 to 7), two spaces [with their rules], and two offsets [A and B: `Description`]. The board also
 -- keeps the captured bus and device number between packets, or the fact that none is captured."
@@ -37,22 +41,31 @@ ranges description kept =
 abbrev pub outOfRange : Description → Capture → Bool
 outOfRange description kept = any (ranges description kept)
 
--- "a space or rule space isn't 4,096 bytes"
-abbrev pub wrongSize : ℕ → Bool
-wrongSize size = not (eqb size 4096)
+-- "a space or rule space isn't 4,096 bytes"; 02, 6/13, of the marks: "so does another buffer length"
+abbrev pub wrongSize : List ℕ → Bool
+wrongSize buffer = not (eqb (length buffer) 4096)
 
--- the causes of answer 1: the sizes of the ordinary bytes and rules and of the trusted bytes and rules, and the ranges
-abbrev pub causes : ℕ → ℕ → ℕ → ℕ → Description → Capture → List Bool
-causes bytes rules trustedBytes trustedRules description kept =
-    wrongSize bytes ∷ wrongSize rules ∷ wrongSize trustedBytes ∷ wrongSize trustedRules ∷ outOfRange description kept ∷ []
+abbrev pub wrongSizes : Space → Bool
+wrongSizes s = any (wrongSize (s .bytes) ∷ wrongSize (s .rules) ∷ wrongSize (s .marks) ∷ [])
 
-abbrev pub badly : ℕ → ℕ → ℕ → ℕ → Description → Capture → Bool
-badly bytes rules trustedBytes trustedRules description kept = any (causes bytes rules trustedBytes trustedRules description kept)
+-- 02, 6/13: "A bit marked both here and as writable makes the board badly described": the rules, the marks
+unfoldable pub doublyMarked : List ℕ → List ℕ → Bool
+doublyMarked [] marks = false
+doublyMarked (rule ∷ rules) [] = false
+doublyMarked (rule ∷ rules) (mark ∷ marks) = cond (eqb (bitAnd rule mark) 0) (doublyMarked rules marks) true
+
+-- the causes of answer 1
+abbrev pub causes : Board → List Bool
+causes d =
+    wrongSizes (d .ordinary)
+    ∷ wrongSizes (d .trusted)
+    ∷ outOfRange (d .description) (d .capture)
+    ∷ doublyMarked (d .ordinary .rules) (d .ordinary .marks)
+    ∷ doublyMarked (d .trusted .rules) (d .trusted .marks)
+    ∷ []
 
 abbrev pub badlyDescribed : Board → Bool
-badlyDescribed d =
-    badly (length (d .ordinary .bytes)) (length (d .ordinary .rules)) (length (d .trusted .bytes)) (length (d .trusted .rules))
-    (d .description) (d .capture)
+badlyDescribed d = any (causes d)
 
 -- a well-described board
 abbrev pub WellDescribed : Board → Type 0

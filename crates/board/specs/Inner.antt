@@ -9,11 +9,13 @@ use Rattle.answers.specs.declared.Answer.the-variants.{Done, Refused}
 use Rattle.capture.specs.declared.Capture.{Capture}
 use Rattle.board.specs.declared.Description.{Description}
 use Rattle.board.specs.declared.Served.{Served}
+use Rattle.board.specs.Description.{Space, Board}
 
--- a space and its rules, with room for the request's four bytes
-pub record Sized (bytes rules : List ℕ) (q : Request) : Type 0 where
-  pub wholeBytes : length bytes ≡ 4096
-  pub wholeRules : length rules ≡ 4096
+-- a space, its rules and its marks, with room for the request's four bytes
+pub record Sized (s : Space) (q : Request) : Type 0 where
+  pub wholeBytes : length (s .bytes) ≡ 4096
+  pub wholeRules : length (s .rules) ≡ 4096
+  pub wholeMarks : length (s .marks) ≡ 4096
   pub inside : q .offset + 4 ≤ 4096
 
 pub record Readable (description : Description) (ordinary trusted : List ℕ) (q : Request) : Type 0 where
@@ -31,8 +33,8 @@ abbrev pub refusing : Capture → Refusal → Served
 refusing kept refusal = record { answer = Refused refusal; length = 0; capture = kept }
 
 -- what the checks 1 and 2 leave: whole spaces, offsets inside, and a reply with room
-pub record Ready (description : Description) (ordinary ordinaryRules trusted trustedRules : List ℕ) (q : Request) (reply : List ℕ) : Type 0 where
-  pub sizedOrdinary : Sized ordinary ordinaryRules q
-  pub sizedTrusted : Sized trusted trustedRules q
-  pub register : description .b + 4 ≤ 4096
+pub record Ready (d : Board) (q : Request) (reply : List ℕ) : Type 0 where
+  pub sizedOrdinary : Sized (d .ordinary) q
+  pub sizedTrusted : Sized (d .trusted) q
+  pub register : d .description .b + 4 ≤ 4096
   pub room : 16 ≤ length reply

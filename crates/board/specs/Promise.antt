@@ -7,7 +7,7 @@ use Rattle.answers.specs.Numbers.{answerOf}
 use Rattle.capture.specs.declared.Capture.{Capture}
 use Rattle.board.specs.declared.Description.{Description}
 use Rattle.board.specs.declared.Served.{Served}
-use Rattle.board.specs.Description.{Board}
+use Rattle.board.specs.Description.{Space, Board}
 use Rattle.board.specs.Serving.{Outcome, serve}
 
 -- as answered: the number, the count of reply bytes written, the capture; and the three lent buffers that can be written
@@ -19,14 +19,18 @@ pub record Seen : Type 0 where
   pub trusted : List ℕ
   pub reply : List ℕ
 
--- the board that a caller lends: its description and capture, and the four buffers as they are
-abbrev pub lent : Description → Capture → List ℕ → List ℕ → List ℕ → List ℕ → Board
-lent description kept ordinary ordinaryRules trusted trustedRules =
+-- a space that a caller lends: its bytes, its rules, its marks
+abbrev pub spaceOf : List ℕ → List ℕ → List ℕ → Space
+spaceOf bytes rules marks = record { bytes = bytes; rules = rules; marks = marks }
+
+-- the board that a caller lends: its description and capture, and the six buffers as they are
+abbrev pub lent : Description → Capture → List ℕ → List ℕ → List ℕ → List ℕ → List ℕ → List ℕ → Board
+lent description kept ordinary ordinaryRules ordinaryMarks trusted trustedRules trustedMarks =
     record {
       description = description;
       capture = kept;
-      ordinary = record { bytes = ordinary; rules = ordinaryRules };
-      trusted = record { bytes = trusted; rules = trustedRules };
+      ordinary = spaceOf ordinary ordinaryRules ordinaryMarks;
+      trusted = spaceOf trusted trustedRules trustedMarks;
     }
 
 -- what a call has shown: its result, and the ordinary space, the trusted space and the reply at its end

@@ -2,6 +2,7 @@
 ghost use mathlib.Core.Path.{_≡_};
 ghost use mathlib.Core.Bool.{_&&_};
 ghost use Rattle.board.specs.Access.{addressed, unsupported, storedBytes, storedOrdinary, shownWord};
+ghost use Rattle.board.specs.Promise.{spaceOf};
 ghost use Rattle.board.specs.Inner.{Sized, Readable};
 use super::Description;
 use capture::Capture;
@@ -48,31 +49,33 @@ pub(super) fn is_unsupported(description: Description, kept: Capture, request: R
 }
 
 // A write to a space: the data merged into the four bytes at the request's offset.
-pub(super) fn store(space: &mut [u8], rules: &[u8], request: Request, new: [u8; 4])
-    requires { ⌜ Sized (now space) (now rules) request ⌝ }
-    ensures { λ _. ⌜ now (space .exit) ≡ storedBytes (now (space .entry)) (now (rules .entry)) request new ⌝ }
+pub(super) fn store(bytes: &mut [u8], rules: &[u8], marks: &[u8], request: Request, new: [u8; 4])
+    requires { ⌜ Sized (spaceOf (now bytes) (now rules) (now marks)) request ⌝ }
+    ensures { λ _. ⌜ now (bytes .exit) ≡ storedBytes (spaceOf (now (bytes .entry)) (now (rules .entry)) (now (marks .entry))) request new ⌝ }
 {
     let offset = request.offset;
-    let old = words::four(space, offset);
+    let old = words::four(bytes, offset);
     let rule = words::four(rules, offset);
-    let merged = registers::merge(old, rule, new, request.enables);
-    words::put(space, offset, &merged);
+    let mark = words::four(marks, offset);
+    let merged = registers::merge(old, rule, mark, new, request.enables);
+    words::put(bytes, offset, &merged);
 }
 
 // An ordinary write, which changes no byte at the correlation word's place.
 pub(super) fn store_ordinary(
     a: usize,
-    space: &mut [u8],
+    bytes: &mut [u8],
     rules: &[u8],
+    marks: &[u8],
     request: Request,
     new: [u8; 4],
 )
-    requires { ⌜ Sized (now space) (now rules) request ⌝ }
-    ensures { λ _. ⌜ now (space .exit) ≡ storedOrdinary a (now (space .entry)) (now (rules .entry)) request new ⌝ }
+    requires { ⌜ Sized (spaceOf (now bytes) (now rules) (now marks)) request ⌝ }
+    ensures { λ _. ⌜ now (bytes .exit) ≡ storedOrdinary a (spaceOf (now (bytes .entry)) (now (rules .entry)) (now (marks .entry))) request new ⌝ }
 {
     let offset = request.offset;
     if offset != a {
-        store(space, rules, request, new);
+        store(bytes, rules, marks, request, new);
     }
 }
 

@@ -1,8 +1,10 @@
-// Whether a board's numbers are in their ranges.
+// Whether a board is badly described: its buffers, its numbers, and the bits that are marked.
 ghost use mathlib.Core.Path.{_≡_};
-ghost use Rattle.board.specs.Description.{outOfRange, wrongSize, badly};
+ghost use Rattle.board.specs.Description.{outOfRange, wrongSize, wrongSizes, badlyDescribed};
+ghost use Rattle.board.specs.Promise.{spaceOf, lent};
 ghost use Rattle.capture.specs.Kept.{deviceOver};
 use super::Description;
+use super::marking;
 use capture::Capture;
 
 // The lowest places of A and of B, and the highest of both.
@@ -36,34 +38,49 @@ fn out_of_range(description: Description, kept: Capture) -> bool
     !words::placed(description.b, LOWEST_B, HIGHEST)
 }
 
-fn is_wrong_size(size: usize) -> bool
-    ensures { λ r. ⌜ r ≡ wrongSize size ⌝ }
+fn is_wrong_size(buffer: &[u8]) -> bool
+    ensures { λ r. ⌜ r ≡ wrongSize (now (buffer .entry)) ⌝ }
 {
-    size != words::SPACE
+    buffer.len() != words::SPACE
 }
 
-// Answer 1: from the sizes of the four buffers, and the board's numbers.
+// One of a space's three buffers has another size.
+fn has_wrong_size(bytes: &[u8], rules: &[u8], marks: &[u8]) -> bool
+    ensures { λ r. ⌜ r ≡ wrongSizes (spaceOf (now (bytes .entry)) (now (rules .entry)) (now (marks .entry))) ⌝ }
+{
+    if is_wrong_size(bytes) {
+        return true;
+    }
+    if is_wrong_size(rules) {
+        return true;
+    }
+    is_wrong_size(marks)
+}
+
+// Answer 1: the sizes and the board's numbers first, which are soon looked at, and then every bit of the rules and marks.
 pub(super) fn is_badly_described(
-    ordinary: usize,
-    ordinary_rules: usize,
-    trusted: usize,
-    trusted_rules: usize,
     description: Description,
     kept: Capture,
+    ordinary: &[u8],
+    ordinary_rules: &[u8],
+    ordinary_marks: &[u8],
+    trusted: &[u8],
+    trusted_rules: &[u8],
+    trusted_marks: &[u8],
 ) -> bool
-    ensures { λ r. ⌜ r ≡ badly ordinary «ordinary_rules» trusted «trusted_rules» description kept ⌝ }
+    ensures { λ r. ⌜ r ≡ badlyDescribed (lent description kept (now (ordinary .entry)) (now («ordinary_rules» .entry)) (now («ordinary_marks» .entry)) (now (trusted .entry)) (now («trusted_rules» .entry)) (now («trusted_marks» .entry))) ⌝ }
 {
-    if is_wrong_size(ordinary) {
+    if has_wrong_size(ordinary, ordinary_rules, ordinary_marks) {
         return true;
     }
-    if is_wrong_size(ordinary_rules) {
+    if has_wrong_size(trusted, trusted_rules, trusted_marks) {
         return true;
     }
-    if is_wrong_size(trusted) {
+    if out_of_range(description, kept) {
         return true;
     }
-    if is_wrong_size(trusted_rules) {
+    if marking::is_doubly_marked(ordinary_rules, ordinary_marks) {
         return true;
     }
-    out_of_range(description, kept)
+    marking::is_doubly_marked(trusted_rules, trusted_marks)
 }

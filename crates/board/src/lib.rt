@@ -3,6 +3,7 @@
 mod access;
 mod completing;
 mod describing;
+mod marking;
 mod serving;
 
 use answers::Answer;

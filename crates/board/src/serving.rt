@@ -41,23 +41,32 @@ fn write(
     kept: Capture,
     ordinary: &mut [u8],
     ordinary_rules: &[u8],
+    ordinary_marks: &[u8],
     trusted: &mut [u8],
     trusted_rules: &[u8],
+    trusted_marks: &[u8],
     packet: &[u8],
     request: Request,
     reply: &mut [u8],
 ) -> Served
-    requires { ⌜ Ready description (now ordinary) (now «ordinary_rules») (now trusted) (now «trusted_rules») request (now reply) ⌝ }
+    requires { ⌜ Ready (lent description kept (now ordinary) (now «ordinary_rules») (now «ordinary_marks») (now trusted) (now «trusted_rules») (now «trusted_marks»)) request (now reply) ⌝ }
     requires { ⌜ 16 ≤ length (now packet) ⌝ }
-    ensures { λ r. ⌜ seen r (now (ordinary .exit)) (now (trusted .exit)) (now (reply .exit)) ≡ shows (replies (afterWrite (lent description kept (now (ordinary .entry)) (now («ordinary_rules» .entry)) (now (trusted .entry)) (now («trusted_rules» .entry))) request (dataOf (now (packet .entry)))) Success request) (now (reply .entry)) ⌝ }
+    ensures { λ r. ⌜ seen r (now (ordinary .exit)) (now (trusted .exit)) (now (reply .exit)) ≡ shows (replies (afterWrite (lent description kept (now (ordinary .entry)) (now («ordinary_rules» .entry)) (now («ordinary_marks» .entry)) (now (trusted .entry)) (now («trusted_rules» .entry)) (now («trusted_marks» .entry))) request (dataOf (now (packet .entry)))) Success request) (now (reply .entry)) ⌝ }
 {
     let new = words::four(packet, 12);
     let target = request.target;
     if target.is_trusted() {
-        access::store(trusted, trusted_rules, request, new);
+        access::store(trusted, trusted_rules, trusted_marks, request, new);
         return completing::reply_status(description, kept, Status::Success, request, reply);
     }
-    access::store_ordinary(description.a, ordinary, ordinary_rules, request, new);
+    access::store_ordinary(
+        description.a,
+        ordinary,
+        ordinary_rules,
+        ordinary_marks,
+        request,
+        new,
+    );
     let state = kept.capture(request.bus, request.device);
     completing::reply_status(description, state, Status::Success, request, reply)
 }
@@ -68,15 +77,17 @@ fn respond_to(
     kept: Capture,
     ordinary: &mut [u8],
     ordinary_rules: &[u8],
+    ordinary_marks: &[u8],
     trusted: &mut [u8],
     trusted_rules: &[u8],
+    trusted_marks: &[u8],
     packet: &[u8],
     request: Request,
     reply: &mut [u8],
 ) -> Served
-    requires { ⌜ Ready description (now ordinary) (now «ordinary_rules») (now trusted) (now «trusted_rules») request (now reply) ⌝ }
+    requires { ⌜ Ready (lent description kept (now ordinary) (now «ordinary_rules») (now «ordinary_marks») (now trusted) (now «trusted_rules») (now «trusted_marks»)) request (now reply) ⌝ }
     requires { ⌜ (request .writes ≡ true → 16 ≤ length (now packet)) ⌝ }
-    ensures { λ r. ⌜ seen r (now (ordinary .exit)) (now (trusted .exit)) (now (reply .exit)) ≡ shows (respond (lent description kept (now (ordinary .entry)) (now («ordinary_rules» .entry)) (now (trusted .entry)) (now («trusted_rules» .entry))) request (dataOf (now (packet .entry)))) (now (reply .entry)) ⌝ }
+    ensures { λ r. ⌜ seen r (now (ordinary .exit)) (now (trusted .exit)) (now (reply .exit)) ≡ shows (respond (lent description kept (now (ordinary .entry)) (now («ordinary_rules» .entry)) (now («ordinary_marks» .entry)) (now (trusted .entry)) (now («trusted_rules» .entry)) (now («trusted_marks» .entry))) request (dataOf (now (packet .entry)))) (now (reply .entry)) ⌝ }
 {
     if access::is_unsupported(description, kept, request) {
         return completing::reply_status(description, kept, Status::Unsupported, request, reply);
@@ -88,8 +99,10 @@ fn respond_to(
             kept,
             ordinary,
             ordinary_rules,
+            ordinary_marks,
             trusted,
             trusted_rules,
+            trusted_marks,
             packet,
             request,
             reply,
@@ -105,20 +118,24 @@ pub fn serve(
     kept: Capture,
     ordinary: &mut [u8],
     ordinary_rules: &[u8],
+    ordinary_marks: &[u8],
     trusted: &mut [u8],
     trusted_rules: &[u8],
+    trusted_marks: &[u8],
     packet: &[u8],
     reply: &mut [u8],
 ) -> Served
-    ensures { λ r. ⌜ Serves (lent description kept (now (ordinary .entry)) (now («ordinary_rules» .entry)) (now (trusted .entry)) (now («trusted_rules» .entry))) (now (packet .entry)) (now (reply .entry)) r (now (ordinary .exit)) (now (trusted .exit)) (now (reply .exit)) ⌝ }
+    ensures { λ r. ⌜ Serves (lent description kept (now (ordinary .entry)) (now («ordinary_rules» .entry)) (now («ordinary_marks» .entry)) (now (trusted .entry)) (now («trusted_rules» .entry)) (now («trusted_marks» .entry))) (now (packet .entry)) (now (reply .entry)) r (now (ordinary .exit)) (now (trusted .exit)) (now (reply .exit)) ⌝ }
 {
     if describing::is_badly_described(
-        ordinary.len(),
-        ordinary_rules.len(),
-        trusted.len(),
-        trusted_rules.len(),
         description,
         kept,
+        ordinary,
+        ordinary_rules,
+        ordinary_marks,
+        trusted,
+        trusted_rules,
+        trusted_marks,
     ) {
         return refuse(kept, Refusal::BadDescription);
     }
@@ -132,8 +149,10 @@ pub fn serve(
             kept,
             ordinary,
             ordinary_rules,
+            ordinary_marks,
             trusted,
             trusted_rules,
+            trusted_marks,
             packet,
             request,
             reply,

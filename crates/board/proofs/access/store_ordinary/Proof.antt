@@ -12,10 +12,10 @@ same-length : tie.Need-same-length
 same-length c = search needs
 
 returns : tie.Need-returns
-returns c = c .before .before .store .ensures ∙ sym (stored-ordinary _ _ _ _ _ (c .before .before .before .before .if1 .taken))
+returns c = c .before .before .store .ensures ∙ sym (stored-ordinary _ _ _ _ (c .before .before .before .before .if1 .taken))
 
 returns-2 : tie.Need-returns-2
-returns-2 c = sym (stored-at-a _ _ _ _ _ (c .if1 .left))
+returns-2 c = sym (stored-at-a _ _ _ _ (c .if1 .left))
 
 pub store-ordinary-spec : {M : Type 1} → statement M
 store-ordinary-spec = tie.close (tie.spec store-requires same-length returns returns-2)

@@ -20,11 +20,11 @@ same-length c = search needs
 
 returns : tie.Need-returns
 returns c =
-    let a = c .before .before .before .before .before .before .before .before .before .before .before .before .args in
-    rw (respond-unsupported (lent (a .description) (a .kept) (now (a .ordinary)) (now (a .ordinary-rules)) (now (a .trusted)) (now (a .trusted-rules))) (a .request) (dataOf (now (a .packet))) (sym (c .before .before .before .before .before .is-unsupported .ensures) ∙ c .before .before .before .before .if1 .taken)) (replies-seen (lent (a .description) (a .kept) (now (a .ordinary)) (now (a .ordinary-rules)) (now (a .trusted)) (now (a .trusted-rules))) (a .request) (now (a .reply)) _ _ Unsupported (c .before .before .reply-status .ensures .0) (c .before .before .reply-status .ensures .1))
+    let a = c .before .before .before .before .before .before .before .before .before .before .before .before .before .before .args in
+    rw (respond-unsupported (lent (a .description) (a .kept) (now (a .ordinary)) (now (a .ordinary-rules)) (now (a .ordinary-marks)) (now (a .trusted)) (now (a .trusted-rules)) (now (a .trusted-marks))) (a .request) (dataOf (now (a .packet))) (sym (c .before .before .before .before .before .is-unsupported .ensures) ∙ c .before .before .before .before .if1 .taken)) (replies-seen (lent (a .description) (a .kept) (now (a .ordinary)) (now (a .ordinary-rules)) (now (a .ordinary-marks)) (now (a .trusted)) (now (a .trusted-rules)) (now (a .trusted-marks))) (a .request) (now (a .reply)) _ _ Unsupported (c .before .before .reply-status .ensures .0) (c .before .before .reply-status .ensures .1))
 
 write-requires : tie.Need-write-requires
-write-requires c κs = (c .before .before .before .before .before .before .before .before .before .before .before .before .pre .0, c .before .before .before .before .before .before .before .before .before .before .before .before .pre .1 (c .before .before .before .if2 .taken))
+write-requires c κs = (c .before .before .before .before .before .before .before .before .before .before .before .before .before .before .pre .0, c .before .before .before .before .before .before .before .before .before .before .before .before .before .before .pre .1 (c .before .before .before .if2 .taken))
 
 same-length-2 : tie.Need-same-length-2
 same-length-2 c = search needs
@@ -37,8 +37,8 @@ same-length-4 c = search needs
 
 returns-2 : tie.Need-returns-2
 returns-2 c =
-    let a = c .before .before .before .before .before .before .before .before .before .before .before .before .before .before .before .before .before .before .before .args in
-    rw (respond-write (lent (a .description) (a .kept) (now (a .ordinary)) (now (a .ordinary-rules)) (now (a .trusted)) (now (a .trusted-rules))) (a .request) (dataOf (now (a .packet))) (sym (c .before .before .before .before .before .before .before .before .before .before .before .before .is-unsupported .ensures) ∙ c .before .before .before .before .before .before .before .before .before .before .before .if1 .left) (c .before .before .before .before .before .before .before .before .before .before .if2 .taken)) (c .before .before .before .before .before .before .write .ensures)
+    let a = c .before .before .before .before .before .before .before .before .before .before .before .before .before .before .before .before .before .before .before .before .before .args in
+    rw (respond-write (lent (a .description) (a .kept) (now (a .ordinary)) (now (a .ordinary-rules)) (now (a .ordinary-marks)) (now (a .trusted)) (now (a .trusted-rules)) (now (a .trusted-marks))) (a .request) (dataOf (now (a .packet))) (sym (c .before .before .before .before .before .before .before .before .before .before .before .before .is-unsupported .ensures) ∙ c .before .before .before .before .before .before .before .before .before .before .before .if1 .left) (c .before .before .before .before .before .before .before .before .before .before .if2 .taken)) (c .before .before .before .before .before .before .write .ensures)
 
 read-word-requires : tie.Need-read-word-requires
 read-word-requires c κs = search needs
@@ -57,8 +57,8 @@ same-length-7 c = search needs
 
 returns-3 : tie.Need-returns-3
 returns-3 c =
-    let a = c .before .before .before .before .before .before .before .before .before .before .before .before .before .before .before .before .args in
-    rw (respond-read (lent (a .description) (a .kept) (now (a .ordinary)) (now (a .ordinary-rules)) (now (a .trusted)) (now (a .trusted-rules))) (a .request) (dataOf (now (a .packet))) (sym (c .before .before .before .before .before .before .before .before .before .is-unsupported .ensures) ∙ c .before .before .before .before .before .before .before .before .if1 .left) (c .before .before .before .before .before .before .before .if2 .left)) (data-seen (lent (a .description) (a .kept) (now (a .ordinary)) (now (a .ordinary-rules)) (now (a .trusted)) (now (a .trusted-rules))) (a .request) (now (a .reply)) _ _ _ (c .before .before .before .before .read-word .ensures) (c .before .before .reply-data .ensures .0) (c .before .before .reply-data .ensures .1))
+    let a = c .before .before .before .before .before .before .before .before .before .before .before .before .before .before .before .before .before .before .args in
+    rw (respond-read (lent (a .description) (a .kept) (now (a .ordinary)) (now (a .ordinary-rules)) (now (a .ordinary-marks)) (now (a .trusted)) (now (a .trusted-rules)) (now (a .trusted-marks))) (a .request) (dataOf (now (a .packet))) (sym (c .before .before .before .before .before .before .before .before .before .is-unsupported .ensures) ∙ c .before .before .before .before .before .before .before .before .if1 .left) (c .before .before .before .before .before .before .before .if2 .left)) (data-seen (lent (a .description) (a .kept) (now (a .ordinary)) (now (a .ordinary-rules)) (now (a .ordinary-marks)) (now (a .trusted)) (now (a .trusted-rules)) (now (a .trusted-marks))) (a .request) (now (a .reply)) _ _ _ (c .before .before .before .before .read-word .ensures) (c .before .before .reply-data .ensures .0) (c .before .before .reply-data .ensures .1))
 
 pub respond-to-spec : {M : Type 1} → statement M
 respond-to-spec =

@@ -14,19 +14,31 @@ is-badly-described-requires c κs = search needs
 refuse-requires : tie.Need-refuse-requires
 refuse-requires c κs = search needs
 
+same-length : tie.Need-same-length
+same-length c = search needs
+
+same-length-2 : tie.Need-same-length-2
+same-length-2 c = search needs
+
 returns : tie.Need-returns
 returns c =
-    let a = c .before .before .before .before .before .before .before .before .before .args in
-    let d = (lent (a .description) (a .kept) (now (a .ordinary)) (now (a .ordinary-rules)) (now (a .trusted)) (now (a .trusted-rules))) in
+    let a = c .before .before .before .before .before .before .before .before .before .before .before .before .before .args in
+    let d = (lent (a .description) (a .kept) (now (a .ordinary)) (now (a .ordinary-rules)) (now (a .ordinary-marks)) (now (a .trusted)) (now (a .trusted-rules)) (now (a .trusted-marks))) in
     refused-seen d (now (a .packet)) (now (a .reply)) _ _ (bad-number d (now (a .packet)) (now (a .reply)) (sym (c .before .before .is-badly-described .ensures) ∙ c .before .if1 .taken)) (c .refuse .ensures)
 
 refuse-requires-2 : tie.Need-refuse-requires-2
 refuse-requires-2 c κs = search needs
 
+same-length-3 : tie.Need-same-length-3
+same-length-3 c = search needs
+
+same-length-4 : tie.Need-same-length-4
+same-length-4 c = search needs
+
 returns-2 : tie.Need-returns-2
 returns-2 c =
-    let a = c .before .before .before .before .before .before .before .before .before .before .args in
-    let d = (lent (a .description) (a .kept) (now (a .ordinary)) (now (a .ordinary-rules)) (now (a .trusted)) (now (a .trusted-rules))) in
+    let a = c .before .before .before .before .before .before .before .before .before .before .before .before .before .before .args in
+    let d = (lent (a .description) (a .kept) (now (a .ordinary)) (now (a .ordinary-rules)) (now (a .ordinary-marks)) (now (a .trusted)) (now (a .trusted-rules)) (now (a .trusted-marks))) in
     refused-seen d (now (a .packet)) (now (a .reply)) _ _ (room-number d (now (a .packet)) (now (a .reply)) (sym (c .before .before .before .is-badly-described .ensures) ∙ c .before .before .if1 .left) (c .before .if2 .taken)) (c .refuse2 .ensures)
 
 decode-requires : tie.Need-decode-requires
@@ -43,28 +55,34 @@ enum-known-request c = search needs
 
 respond-to-requires : tie.Need-respond-to-requires
 respond-to-requires c κs =
-    let a = c .before .before .before .before .before .before .before .before .before .before .before .before .before .before .before .before .args in
-    ready (a .description) (a .kept) (now (a .ordinary)) (now (a .ordinary-rules)) (now (a .trusted)) (now (a .trusted-rules)) (now (a .packet)) (now (a .reply)) (sym (c .before .before .before .before .before .before .before .before .before .is-badly-described .ensures) ∙ c .before .before .before .before .before .before .before .before .if1 .left) (c .before .before .before .before .before .before .before .if2 .left) _ (subst (Decodes (now (a .packet))) (c .before .before .before .before .request .given .1) (c .before .before .before .before .before .before .decode .ensures))
+    let a = c .before .before .before .before .before .before .before .before .before .before .before .before .before .before .before .before .before .before .before .before .args in
+    ready (a .description) (a .kept) (now (a .ordinary)) (now (a .ordinary-rules)) (now (a .ordinary-marks)) (now (a .trusted)) (now (a .trusted-rules)) (now (a .trusted-marks)) (now (a .packet)) (now (a .reply)) (sym (c .before .before .before .before .before .before .before .before .before .is-badly-described .ensures) ∙ c .before .before .before .before .before .before .before .before .if1 .left) (c .before .before .before .before .before .before .before .if2 .left) _ (subst (Decodes (now (a .packet))) (c .before .before .before .before .request .given .1) (c .before .before .before .before .before .before .decode .ensures))
+
+same-length-5 : tie.Need-same-length-5
+same-length-5 c = search needs
+
+same-length-6 : tie.Need-same-length-6
+same-length-6 c = search needs
 
 returns-3 : tie.Need-returns-3
 returns-3 c =
-    let a = c .before .before .before .before .before .before .before .before .before .before .before .before .before .before .args in
-    let d = (lent (a .description) (a .kept) (now (a .ordinary)) (now (a .ordinary-rules)) (now (a .trusted)) (now (a .trusted-rules))) in
+    let a = c .before .before .before .before .before .before .before .before .before .before .before .before .before .before .before .before .before .before .args in
+    let d = (lent (a .description) (a .kept) (now (a .ordinary)) (now (a .ordinary-rules)) (now (a .ordinary-marks)) (now (a .trusted)) (now (a .trusted-rules)) (now (a .trusted-marks))) in
     refused-seen d (now (a .packet)) (now (a .reply)) _ _ (packet-number d (now (a .packet)) (now (a .reply)) (sym (c .before .before .before .before .before .before .before .is-badly-described .ensures) ∙ c .before .before .before .before .before .before .if1 .left) (c .before .before .before .before .before .if2 .left) ∙ subst (Decodes (now (a .packet))) (c .before .before .refusal .given .1) (c .before .before .before .before .decode .ensures)) (c .refuse3 .ensures)
 
-same-length : tie.Need-same-length
-same-length c = search needs
+same-length-7 : tie.Need-same-length-7
+same-length-7 c = search needs
 
-same-length-2 : tie.Need-same-length-2
-same-length-2 c = search needs
+same-length-8 : tie.Need-same-length-8
+same-length-8 c = search needs
 
-same-length-3 : tie.Need-same-length-3
-same-length-3 c = search needs
+same-length-9 : tie.Need-same-length-9
+same-length-9 c = search needs
 
 returns-4 : tie.Need-returns-4
 returns-4 c =
-    let a = c .before .before .before .before .before .before .before .before .before .before .before .before .before .before .before .before .before .before .before .before .before .before .before .args in
-    served-seen (a .description) (a .kept) (now (a .ordinary)) (now (a .ordinary-rules)) (now (a .trusted)) (now (a .trusted-rules)) (now (a .packet)) (now (a .reply)) (sym (c .before .before .before .before .before .before .before .before .before .before .before .before .before .before .before .before .is-badly-described .ensures) ∙ c .before .before .before .before .before .before .before .before .before .before .before .before .before .before .before .if1 .left) (c .before .before .before .before .before .before .before .before .before .before .before .before .before .before .if2 .left) _ (subst (Decodes (now (a .packet))) (c .before .before .before .before .before .before .before .before .before .before .before .request .given .1) (c .before .before .before .before .before .before .before .before .before .before .before .before .before .decode .ensures)) (c .before .before .before .before .before .before .respond-to .result) _ _ _ (c .before .before .before .before .before .before .respond-to .ensures)
+    let a = c .before .before .before .before .before .before .before .before .before .before .before .before .before .before .before .before .before .before .before .before .before .before .before .before .before .before .before .args in
+    served-seen (a .description) (a .kept) (now (a .ordinary)) (now (a .ordinary-rules)) (now (a .ordinary-marks)) (now (a .trusted)) (now (a .trusted-rules)) (now (a .trusted-marks)) (now (a .packet)) (now (a .reply)) (sym (c .before .before .before .before .before .before .before .before .before .before .before .before .before .before .before .before .is-badly-described .ensures) ∙ c .before .before .before .before .before .before .before .before .before .before .before .before .before .before .before .if1 .left) (c .before .before .before .before .before .before .before .before .before .before .before .before .before .before .if2 .left) _ (subst (Decodes (now (a .packet))) (c .before .before .before .before .before .before .before .before .before .before .before .request .given .1) (c .before .before .before .before .before .before .before .before .before .before .before .before .before .decode .ensures)) (c .before .before .before .before .before .before .respond-to .result) _ _ _ (c .before .before .before .before .before .before .respond-to .ensures)
 
 pub serve-spec : {M : Type 1} → statement M
 serve-spec =
@@ -72,16 +90,22 @@ serve-spec =
     (tie.spec
     is-badly-described-requires
     refuse-requires
+    same-length
+    same-length-2
     returns
     refuse-requires-2
+    same-length-3
+    same-length-4
     returns-2
     decode-requires
     enum-known-refusal
     refuse-requires-3
     enum-known-request
     respond-to-requires
+    same-length-5
+    same-length-6
     returns-3
-    same-length
-    same-length-2
-    same-length-3
+    same-length-7
+    same-length-8
+    same-length-9
     returns-4)

@@ -26,8 +26,8 @@ same-length-2 c = search needs
 
 returns : tie.Need-returns
 returns c =
-    let a = c .before .before .before .before .before .before .before .before .before .before .before .before .before .before .before .before .before .args in
-    written-trusted (a .description) (a .kept) (now (a .ordinary)) (now (a .ordinary-rules)) (now (a .trusted)) (now (a .trusted-rules)) (now (a .packet)) (a .request) (now (a .reply)) (c .before .before .before .before .before .before .before .before .before .before .before .before .before .before .before .before .before .pre .1) _ (c .before .before .before .before .before .before .before .before .before .before .four .ensures) _ _ _ (sym (c .before .before .before .before .before .before .before .before .before .is-trusted .ensures) ∙ c .before .before .before .before .before .before .before .before .if1 .taken) (c .before .before .before .before .before .before .store .ensures) (c .before .before .reply-status .ensures .0) (c .before .before .reply-status .ensures .1)
+    let a = c .before .before .before .before .before .before .before .before .before .before .before .before .before .before .before .before .before .before .before .args in
+    written-trusted (a .description) (a .kept) (now (a .ordinary)) (now (a .ordinary-rules)) (now (a .ordinary-marks)) (now (a .trusted)) (now (a .trusted-rules)) (now (a .trusted-marks)) (now (a .packet)) (a .request) (now (a .reply)) (c .before .before .before .before .before .before .before .before .before .before .before .before .before .before .before .before .before .before .before .pre .1) _ (c .before .before .before .before .before .before .before .before .before .before .four .ensures) _ _ _ (sym (c .before .before .before .before .before .before .before .before .before .is-trusted .ensures) ∙ c .before .before .before .before .before .before .before .before .if1 .taken) (c .before .before .before .before .before .before .store .ensures) (c .before .before .reply-status .ensures .0) (c .before .before .reply-status .ensures .1)
 
 store-ordinary-requires : tie.Need-store-ordinary-requires
 store-ordinary-requires c κs = search needs
@@ -46,8 +46,8 @@ same-length-4 c = search needs
 
 returns-2 : tie.Need-returns-2
 returns-2 c =
-    let a = c .before .before .before .before .before .before .before .before .before .before .before .before .before .before .before .before .before .before .args in
-    written-ordinary (a .description) (a .kept) (now (a .ordinary)) (now (a .ordinary-rules)) (now (a .trusted)) (now (a .trusted-rules)) (now (a .packet)) (a .request) (now (a .reply)) (c .before .before .before .before .before .before .before .before .before .before .before .before .before .before .before .before .before .before .pre .1) _ (c .before .before .before .before .before .before .before .before .before .before .before .four .ensures) _ _ _ _ (sym (c .before .before .before .before .before .before .before .before .before .before .is-trusted .ensures) ∙ c .before .before .before .before .before .before .before .before .before .if1 .left) (c .before .before .before .before .before .before .before .store-ordinary .ensures) (c .before .before .before .before .capture .ensures) (c .before .before .reply-status2 .ensures .0) (c .before .before .reply-status2 .ensures .1)
+    let a = c .before .before .before .before .before .before .before .before .before .before .before .before .before .before .before .before .before .before .before .before .args in
+    written-ordinary (a .description) (a .kept) (now (a .ordinary)) (now (a .ordinary-rules)) (now (a .ordinary-marks)) (now (a .trusted)) (now (a .trusted-rules)) (now (a .trusted-marks)) (now (a .packet)) (a .request) (now (a .reply)) (c .before .before .before .before .before .before .before .before .before .before .before .before .before .before .before .before .before .before .before .before .pre .1) _ (c .before .before .before .before .before .before .before .before .before .before .before .four .ensures) _ _ _ _ (sym (c .before .before .before .before .before .before .before .before .before .before .is-trusted .ensures) ∙ c .before .before .before .before .before .before .before .before .before .if1 .left) (c .before .before .before .before .before .before .before .store-ordinary .ensures) (c .before .before .before .before .capture .ensures) (c .before .before .reply-status2 .ensures .0) (c .before .before .reply-status2 .ensures .1)
 
 pub write-spec : {M : Type 1} → statement M
 write-spec =
