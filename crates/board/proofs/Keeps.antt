@@ -2,7 +2,7 @@
 use Prim.Native.Nat.{ℕ, zero, suc, _+_, _≤_}
 use mathlib.Core.Bool.{Bool, true, false}
 use mathlib.Core.List.{List}
-use mathlib.Core.Path.{_≡_, refl, _∙_}
+use mathlib.Core.Path.{_≡_, refl, sym, ap, _∙_}
 use native.Mathlib.Omega.{arith}
 use lib.Dec.{eqb}
 use lib.ListN.{length}
@@ -17,8 +17,10 @@ use Rattle.packet.proofs.Laws.{offset-inside, device-inside}
 use Rattle.capture.specs.declared.Capture.{Capture}
 use Rattle.capture.specs.Kept.{captured, forgotten}
 use Rattle.board.specs.declared.Description.{Description}
-use Rattle.board.specs.Description.{Space, Board, ranges, outOfRange, WellDescribed, afterReset}
-use Rattle.board.specs.Access.{unsupported, storedBytes, storedOrdinary, withBytes, afterWrite}
+use Rattle.board.specs.declared.Served.{Served}
+use Rattle.board.specs.Promise.{Seen, afterCall, shows, Serves}
+use Rattle.board.specs.Description.{Space, withBytes, Board, ranges, outOfRange, WellDescribed, afterReset}
+use Rattle.board.specs.Access.{unsupported, storedBytes, storedOrdinary, afterWrite}
 use Rattle.board.specs.Serving.{respond, serveNumber, byNumber, serve}
 use Rattle.board.proofs.Laws.{WellSpace, Well, well-described, described-well}
 use Rattle.board.proofs.Outcomes.{respond-unsupported, respond-write, respond-read}
@@ -31,6 +33,12 @@ pub record Keeping (d e : Board) : Type 0 where
 
 abbrev pub ServeKeeps : Type 0
 ServeKeeps = (d : Board) (p : List ℕ) (size : ℕ) → Keeping d (serve d p size .after)
+
+-- what a caller holds after a call is the board after serving
+abbrev pub CallHolds : Type 0
+CallHolds =
+    (d : Board) (p reply : List ℕ) (r : Served) (o t after : List ℕ) → Serves d p reply r o t after
+    → afterCall d (r .capture) o t ≡ serve d p (length reply) .after
 
 abbrev pub ServeKeepsWell : Type 0
 ServeKeepsWell = (d : Board) (p : List ℕ) (size : ℕ) → WellDescribed d → WellDescribed (serve d p size .after)
@@ -63,6 +71,18 @@ kept-write d q new false t = rw t (record { description = refl; ordinary = refl;
 pub serve-keeps : ServeKeeps
 serve-keeps d p size =
     after-serving (Keeping d) d p size (record { description = refl; ordinary = refl; trusted = refl }) (kept-write d (requestOf p) (dataOf p) _ refl)
+
+pub call-holds : CallHolds
+unfolding shows
+call-holds d p reply r o t after e =
+    let k = serve-keeps d p (length reply) in
+    λ i.
+    record {
+      description = sym (k .description) i;
+      capture = (ap (λ (x : Seen). x .capture) e) i;
+      ordinary = (ap (λ (x : Seen). withBytes (d .ordinary) (x .ordinary)) e ∙ sym (k .ordinary)) i;
+      trusted = (ap (λ (x : Seen). withBytes (d .trusted) (x .trusted)) e ∙ sym (k .trusted)) i;
+    }
 
 -- ---- well described
 

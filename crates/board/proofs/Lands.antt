@@ -21,8 +21,8 @@ use Rattle.packet.specs.declared.Status.the-variants.{Success, Unsupported}
 use Rattle.packet.specs.Completion.{statusByte, withData, withoutData}
 use Rattle.packet.proofs.Laws.{offset-inside, offset-aligned}
 use Rattle.capture.specs.declared.Capture.the-variants.{Number}
-use Rattle.board.specs.Description.{Space, Board, WellDescribed}
-use Rattle.board.specs.Access.{unsupported, storedBytes, withBytes, afterWrite}
+use Rattle.board.specs.Description.{Space, withBytes, Board, WellDescribed}
+use Rattle.board.specs.Access.{unsupported, storedBytes, afterWrite}
 use Rattle.board.specs.Serving.{Outcome, respond, serveNumber, byNumber, serve}
 use Rattle.board.proofs.Laws.{well-described, stored-at-a, stored-ordinary}
 use Rattle.board.proofs.Outcomes.{respond-unsupported, respond-write, respond-read, refused-is}

@@ -16,8 +16,8 @@ use Rattle.packet.specs.declared.Request.{Request}
 use Rattle.packet.specs.Fields.{dataOf}
 use Rattle.packet.specs.Request.{isTrusted, requestOf}
 use Rattle.packet.proofs.Laws.{offset-inside, offset-aligned}
-use Rattle.board.specs.Description.{Board, WellDescribed}
-use Rattle.board.specs.Access.{unsupported, storedBytes, storedOrdinary, withBytes, afterWrite, shownWord}
+use Rattle.board.specs.Description.{withBytes, Board, WellDescribed}
+use Rattle.board.specs.Access.{unsupported, storedBytes, storedOrdinary, afterWrite, shownWord}
 use Rattle.board.specs.Serving.{Outcome, respond, serveNumber, byNumber, serve}
 use Rattle.board.proofs.Laws.{Well, well-described, stored-at-a, stored-ordinary}
 use Rattle.board.proofs.Outcomes.{respond-unsupported, respond-write, respond-read}

@@ -16,7 +16,7 @@ use Rattle.capture.specs.declared.Capture.{Capture}
 use Rattle.capture.specs.declared.Capture.the-variants.{Nothing, Number}
 use Rattle.capture.specs.Kept.{captured}
 use Rattle.board.specs.declared.Description.{Description}
-use Rattle.board.specs.Description.{Space, Board}
+use Rattle.board.specs.Description.{Space, withBytes, Board}
 
 abbrev pub isType0 : Target → Bool
 isType0 Type0 = true
@@ -61,10 +61,6 @@ storedBytes s q new =
 -- rest as above
 unfoldable pub storedOrdinary : ℕ → Space → Request → List ℕ → List ℕ
 storedOrdinary a s q new = cond (eqb (q .offset) a) (s .bytes) (storedBytes s q new)
-
--- a space with other bytes
-abbrev pub withBytes : Space → List ℕ → Space
-withBytes s bytes = record { bytes = bytes; rules = s .rules; marks = s .marks }
 
 -- "A successful Type 0 write captures its bus and device number before the reply is written, also with no byte enabled. No trusted
 -- request captures."

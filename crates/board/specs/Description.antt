@@ -20,6 +20,10 @@ pub record Space : Type 0 where
   pub rules : List ℕ
   pub marks : List ℕ
 
+-- a space with other bytes
+abbrev pub withBytes : Space → List ℕ → Space
+withBytes s bytes = record { bytes = bytes; rules = s .rules; marks = s .marks }
+
 -- "A board has its function number (0 to 7), two spaces [with their rules], and two offsets [A and B: `Description`]. The board also
 -- keeps the captured bus and device number between packets, or the fact that none is captured."
 pub record Board : Type 0 where

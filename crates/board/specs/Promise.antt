@@ -7,7 +7,7 @@ use Rattle.answers.specs.Numbers.{answerOf}
 use Rattle.capture.specs.declared.Capture.{Capture}
 use Rattle.board.specs.declared.Description.{Description}
 use Rattle.board.specs.declared.Served.{Served}
-use Rattle.board.specs.Description.{Space, Board}
+use Rattle.board.specs.Description.{Space, withBytes, Board}
 use Rattle.board.specs.Serving.{Outcome, serve}
 
 -- as answered: the number, the count of reply bytes written, the capture; and the three lent buffers that can be written
@@ -31,6 +31,16 @@ lent description kept ordinary ordinaryRules ordinaryMarks trusted trustedRules 
       capture = kept;
       ordinary = spaceOf ordinary ordinaryRules ordinaryMarks;
       trusted = spaceOf trusted trustedRules trustedMarks;
+    }
+
+-- the board that the caller holds after a call: the capture that was handed back, and the ordinary and the trusted bytes as they then are
+abbrev pub afterCall : Board → Capture → List ℕ → List ℕ → Board
+afterCall d kept ordinary trusted =
+    record {
+      description = d .description;
+      capture = kept;
+      ordinary = withBytes (d .ordinary) ordinary;
+      trusted = withBytes (d .trusted) trusted;
     }
 
 -- what a call has shown: its result, and the ordinary space, the trusted space and the reply at its end

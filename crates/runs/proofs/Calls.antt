@@ -1,14 +1,10 @@
 -- Calling the entries packet by packet gives the run: what the caller holds at the end is the run's board, and each call showed the
 -- run's outcome for its packet. The start is any board, fresh or not, well described or not. Assumes nothing.
 use mathlib.Core.List.{List, [], _∷_}
-use mathlib.Core.Path.{_≡_, refl, sym, ap, _∙_, subst}
-use Prim.Native.Nat.{ℕ}
-use lib.ListN.{length}
-use Rattle.board.specs.declared.Served.{Served}
+use mathlib.Core.Path.{_≡_, refl, ap, _∙_, subst}
 use Rattle.board.specs.Description.{Board, WellDescribed, afterReset}
 use Rattle.board.specs.Serving.{serve}
-use Rattle.board.specs.Promise.{Seen, shows, Serves}
-use Rattle.board.proofs.Keeps.{serve-keeps, serve-keeps-well, reset-keeps-well}
+use Rattle.board.proofs.Keeps.{call-holds, serve-keeps-well, reset-keeps-well}
 use Rattle.runs.specs.Run.{Event, packet, reset, next, after, outcomes}
 use Rattle.runs.specs.Calls.{Call, called, wasReset, eventOf, eventsOf, holds, held, Meets, AllMeet, Show}
 
@@ -20,22 +16,8 @@ CallsGiveRun = (d : Board) (cs : List Call) → AllMeet d cs → (held d cs ≡ 
 abbrev pub RunKeepsWell : Type 0
 RunKeepsWell = (d : Board) (es : List Event) → WellDescribed d → WellDescribed (after d es)
 
--- what the caller holds after a call of `serve` is the board after serving
-held-served : (d : Board) (bytes reply : List ℕ) (r : Served) (o t replied : List ℕ) → Serves d bytes reply r o t replied
-    → holds d (called bytes reply r o t replied) ≡ serve d bytes (length reply) .after
-unfolding shows
-held-served d bytes reply r o t replied e =
-    let k = serve-keeps d bytes (length reply) in
-    λ i.
-    record {
-      description = sym (k .description) i;
-      capture = (ap (λ (x : Seen). x .capture) e) i;
-      ordinary = record { bytes = (ap (λ (x : Seen). x .ordinary) e) i; rules = sym (k .ordinaryRules) i };
-      trusted = record { bytes = (ap (λ (x : Seen). x .trusted) e) i; rules = sym (k .trustedRules) i };
-    }
-
 held-next : (d : Board) (c : Call) → Meets d c → holds d c ≡ next d (eventOf c)
-held-next d (called bytes reply r o t replied) e = held-served d bytes reply r o t replied e
+held-next d (called bytes reply r o t replied) e = call-holds d bytes reply r o t replied e
 held-next d (wasReset kept) e =
     λ i. record { description = d .description; capture = e i; ordinary = d .ordinary; trusted = d .trusted }
 

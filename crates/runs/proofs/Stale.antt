@@ -30,4 +30,4 @@ stale-never-shown-in-run d e (packet bytes size ∷ es) w b =
     (λ i. record { number = s .numbers i; written = s .written i } ∷ rest .0 i, rest .1)
 stale-never-shown-in-run d e (reset ∷ es) w b =
     stale-never-shown-in-run (afterReset d) (afterReset e) es (reset-keeps-well d w)
-    (record { description = b .description; capture = refl; bytes = b .bytes; rules = b .rules; trusted = b .trusted })
+    (record { description = b .description; capture = refl; bytes = b .bytes; rules = b .rules; marks = b .marks; trusted = b .trusted })

@@ -8,7 +8,7 @@ use Rattle.capture.specs.Kept.{forgotten}
 use Rattle.board.specs.declared.Served.{Served}
 use Rattle.board.specs.Description.{Board}
 use Rattle.board.specs.Serving.{Outcome}
-use Rattle.board.specs.Promise.{lent, seen, shows, Serves}
+use Rattle.board.specs.Promise.{afterCall, seen, shows, Serves}
 use Rattle.runs.specs.Run.{Event, packet, reset}
 
 -- a call of `board::serve`: the packet and the reply as lent, the result, and the two spaces and the reply at its end; or a call of
@@ -28,8 +28,7 @@ eventsOf (call ∷ calls) = eventOf call ∷ eventsOf calls
 
 -- what the caller holds after a call: the capture that was handed back, and the spaces as the call left them
 abbrev pub holds : Board → Call → Board
-holds d (called bytes reply result ordinary trusted replied) =
-    lent (d .description) (result .capture) ordinary (d .ordinary .rules) trusted (d .trusted .rules)
+holds d (called bytes reply result ordinary trusted replied) = afterCall d (result .capture) ordinary trusted
 holds d (wasReset kept) = record { description = d .description; capture = kept; ordinary = d .ordinary; trusted = d .trusted }
 
 abbrev pub held : Board → List Call → Board

@@ -15,7 +15,7 @@ use Rattle.packet.specs.Completion.{statusByte}
 use Rattle.capture.specs.declared.Capture.the-variants.{Nothing, Number}
 use Rattle.board.specs.Description.{Board}
 use Rattle.board.specs.Serving.{serve}
-use Rattle.board.specs.Promise.{Seen, lent, shows}
+use Rattle.board.specs.Promise.{Seen, afterCall, shows}
 use Rattle.runs.specs.Bench.{changed}
 
 -- any server: the board, the packet and the reply as lent, and what is seen afterwards
@@ -69,7 +69,7 @@ StoresOnce m =
 
 -- what the caller holds after a packet, and what is seen over a sequence of packets: of such a server, and as promised
 abbrev pub boardAfter : Board → Seen → Board
-boardAfter d x = lent (d .description) (x .capture) (x .ordinary) (d .ordinary .rules) (x .trusted) (d .trusted .rules)
+boardAfter d x = afterCall d (x .capture) (x .ordinary) (x .trusted)
 
 abbrev pub seenOver : (m : Remembering) → m .Memory → Board → List (List ℕ) → List Seen
 seenOver m memory d [] = []
