@@ -12,6 +12,7 @@ use Rattle.packet.specs.Request.{trusted, isTrusted, requestOf}
 use Rattle.board.specs.Description.{Board, WellDescribed, afterReset}
 use Rattle.board.specs.Access.{afterWrite, correlation, readWord, shownWord}
 use Rattle.board.specs.Serving.{serve}
+use Rattle.board.specs.Promise.{spaceOf}
 use Rattle.board.proofs.Keeps.{after-serving}
 use Rattle.runs.specs.Run.{Event, packet, reset, next}
 use Rattle.shares.specs.Views.{OrdinaryState, ordinaryState, ordinaryPacket, trustedPacket, outcome, register}
@@ -28,7 +29,7 @@ image s register =
       description = record { function = s .function; a = s .a; b = 0 };
       capture = s .capture;
       ordinary = s .space;
-      trusted = record { bytes = register; rules = [] };
+      trusted = spaceOf register [] [];
     }
 
 -- ---- the access

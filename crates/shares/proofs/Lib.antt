@@ -7,6 +7,7 @@ pub mod AtEach
 pub mod SecondHalf
 pub mod Half
 pub mod Entries
+pub mod Quickly
 pub mod Examples
 pub mod Needed
 pub mod Bite

@@ -14,14 +14,14 @@ use Rattle.capture.specs.declared.Capture.{Capture}
 use Rattle.capture.specs.declared.Capture.the-variants.{Nothing, Number}
 use Rattle.board.specs.Description.{Space, Board, WellDescribed}
 use Rattle.runs.specs.Run.{Event, packet, reset, after}
-use Rattle.runs.specs.Bench.{zeros, holding, benchRules, p1, p2, readAt}
+use Rattle.runs.specs.Bench.{zeros, holding, benchRules, p1, p2, readAt, changed}
 use Rattle.board.proofs.Computing.{computing}
 use Rattle.shares.specs.Kinds.{only}
 use Rattle.shares.specs.Views.{OrdinaryState, TrustedState, Sight, ordinaryState, trustedState, ordinaryEvents, trustedPackets, ordinarySights, trustedSights, correlations, captures}
 use Rattle.shares.proofs.Half.{Half}
 use Rattle.shares.proofs.FirstHalf.{first-half}
 use Rattle.shares.proofs.SecondHalf.{second-half}
-use Rattle.shares.proofs.Examples.{trustedReadAt, trustedWriteAt, sent, boardOf, spaceOf, usual, ones}
+use Rattle.shares.proofs.Examples.{trustedReadAt, trustedWriteAt, sent, boardOf, plain, withStatus, usual, ones}
 
 -- ---- the statements
 
@@ -61,10 +61,13 @@ abbrev pub butCapture : OrdinaryState → OrdinaryState
 butCapture s = record { function = s .function; a = s .a; space = s .space; capture = Nothing }
 
 abbrev pub butBytes : Space → Space
-butBytes s = record { bytes = []; rules = s .rules }
+butBytes s = record { bytes = []; rules = s .rules; marks = s .marks }
 
 abbrev pub butRules : Space → Space
-butRules s = record { bytes = s .bytes; rules = [] }
+butRules s = record { bytes = s .bytes; rules = []; marks = s .marks }
+
+abbrev pub butMarks : Space → Space
+butMarks s = record { bytes = s .bytes; rules = s .rules; marks = [] }
 
 abbrev pub inOrdinary : (Space → Space) → OrdinaryState → OrdinaryState
 inOrdinary but s = record { function = s .function; a = s .a; space = but (s .space); capture = s .capture }
@@ -92,7 +95,7 @@ abbrev pub butPlaces : List Event → List Event × List Event
 butPlaces es = (only (λ e. not (isReset e)) es, only isReset es)
 
 -- the first half holds with all that it asks, and with one thing less it is false: the correlation register; the function number, A, the
--- ordinary bytes, the ordinary rules, the capture; the packets, their reply sizes, the order of the resets; that both are well described
+-- ordinary bytes, rules and marks, the capture; the packets, their reply sizes, the order of the resets; that both are well described
 abbrev pub FirstPremisesNeeded : Type 0
 FirstPremisesNeeded =
     Asking ordinary WellDescribed whole whole whole
@@ -101,14 +104,15 @@ FirstPremisesNeeded =
     × (¬ Asking ordinary WellDescribed butA whole whole)
     × (¬ Asking ordinary WellDescribed (inOrdinary butBytes) whole whole)
     × (¬ Asking ordinary WellDescribed (inOrdinary butRules) whole whole)
+    × (¬ Asking ordinary WellDescribed (inOrdinary butMarks) whole whole)
     × (¬ Asking ordinary WellDescribed butCapture whole whole)
     × (¬ Asking ordinary WellDescribed whole (map noBytes) whole)
     × (¬ Asking ordinary WellDescribed whole (map noSize) whole)
     × (¬ Asking ordinary WellDescribed whole butPlaces whole)
     × (¬ Asking ordinary (λ d. Unit {0}) whole whole whole)
 
--- the second half likewise: the capture at each trusted packet; the function number, the trusted bytes, the trusted rules; the packets, their
--- reply sizes; that both are well described
+-- the second half likewise: the capture at each trusted packet; the function number, the trusted bytes, rules and marks; the packets,
+-- their reply sizes; that both are well described
 abbrev pub SecondPremisesNeeded : Type 0
 SecondPremisesNeeded =
     Asking trusted WellDescribed whole whole whole
@@ -116,6 +120,7 @@ SecondPremisesNeeded =
     × (¬ Asking trusted WellDescribed butTrustedFunction whole whole)
     × (¬ Asking trusted WellDescribed (inTrusted butBytes) whole whole)
     × (¬ Asking trusted WellDescribed (inTrusted butRules) whole whole)
+    × (¬ Asking trusted WellDescribed (inTrusted butMarks) whole whole)
     × (¬ Asking trusted WellDescribed whole (map noBytes) whole)
     × (¬ Asking trusted WellDescribed whole (map noSize) whole)
     × (¬ Asking trusted (λ d. Unit {0}) whole whole whole)
@@ -141,13 +146,20 @@ replied n at l = byte (nth n l .written) at
 
 -- a space of zeros with the bench sheet's rules, one with FFh in four places, one where nothing is writable; runs of one or two packets
 abbrev zero : Space
-zero = spaceOf zeros benchRules
+zero = plain zeros benchRules
 
 abbrev full : ℕ → Space
-full at = spaceOf (holding at ones) benchRules
+full at = plain (holding at ones) benchRules
 
 abbrev shut : Space
-shut = spaceOf zeros zeros
+shut = plain zeros zeros
+
+-- four bytes of FFh at 008h that no write changes, and the same as a status
+abbrev fixed : Space
+fixed = full 0x008
+
+abbrev status : Space
+status = withStatus zero
 
 abbrev atA : List Event
 atA = sent (readAt 0x01 0x04) ∷ []
@@ -158,11 +170,17 @@ at4 = sent (readAt 0x00 0x04) ∷ []
 abbrev written4 : List Event
 written4 = sent p2 ∷ at4
 
+abbrev written8 : List Event
+written8 = sent (changed p2 0xb 0x08) ∷ sent (readAt 0x00 0x08) ∷ []
+
 abbrev trusted4 : List Event
 trusted4 = sent p1 ∷ []
 
 abbrev stored4 : List Event
 stored4 = sent (trustedWriteAt 0x0f 0x00 0x04 ones) ∷ trusted4
+
+abbrev stored8 : List Event
+stored8 = sent (trustedWriteAt 0x0f 0x00 0x08 ones) ∷ sent (trustedReadAt 0x00 0x08) ∷ []
 
 pub first-premises-needed : FirstPremisesNeeded
 unfolding computing
@@ -178,6 +196,8 @@ first-premises-needed = (
       refl refl refl refl refl (replied 0 12) refl,
   refuted ordinary WellDescribed (inOrdinary butRules) whole whole (usual zero zero) (usual shut zero) written4 written4
       refl refl refl refl refl (replied 1 12) refl,
+  refuted ordinary WellDescribed (inOrdinary butMarks) whole whole (usual fixed zero) (usual status zero) written8 written8
+      refl refl refl refl refl (replied 1 12) refl,
   refuted ordinary WellDescribed butCapture whole whole (usual zero zero) (boardOf 0 0x104 0x00c Nothing zero zero) at4 at4
       refl refl refl refl refl (replied 0 4) refl,
   refuted ordinary WellDescribed whole (map noBytes) whole (usual (full 0x004) zero) (usual (full 0x004) zero) at4 (sent (readAt 0x00 0x08) ∷ [])
@@ -187,7 +207,7 @@ first-premises-needed = (
   refuted ordinary WellDescribed whole butPlaces whole (usual zero zero) (usual zero zero)
       (reset ∷ sent (readAt 0x00 0x04) ∷ []) (sent (readAt 0x00 0x04) ∷ reset ∷ [])
       refl refl refl refl refl (replied 0 4) refl,
-  refuted ordinary (λ d. Unit {0}) whole whole whole (usual zero zero) (usual zero (spaceOf [] [])) (sent [] ∷ []) (sent [] ∷ [])
+  refuted ordinary (λ d. Unit {0}) whole whole whole (usual zero zero) (usual zero (plain [] [])) (sent [] ∷ []) (sent [] ∷ [])
       tt tt refl refl refl (answer 0) refl,
 )
 
@@ -203,10 +223,12 @@ second-premises-needed = (
       refl refl refl refl refl (replied 0 12) refl,
   refuted trusted WellDescribed (inTrusted butRules) whole whole (usual zero zero) (usual zero shut) stored4 stored4
       refl refl refl refl refl (replied 1 12) refl,
+  refuted trusted WellDescribed (inTrusted butMarks) whole whole (usual zero fixed) (usual zero status) stored8 stored8
+      refl refl refl refl refl (replied 1 12) refl,
   refuted trusted WellDescribed whole (map noBytes) whole (usual zero (full 0x004)) (usual zero (full 0x004)) trusted4 (sent (trustedReadAt 0x00 0x08) ∷ [])
       refl refl refl refl refl (replied 0 12) refl,
   refuted trusted WellDescribed whole (map noSize) whole (usual zero zero) (usual zero zero) trusted4 (packet p1 15 ∷ [])
       refl refl refl refl refl (answer 0) refl,
-  refuted trusted (λ d. Unit {0}) whole whole whole (usual zero zero) (usual (spaceOf [] []) zero) trusted4 trusted4
+  refuted trusted (λ d. Unit {0}) whole whole whole (usual zero zero) (usual (plain [] []) zero) trusted4 trusted4
       tt tt refl refl refl (answer 0) refl,
 )

@@ -1,4 +1,4 @@
--- Demand 3, second half: two runs of well-described boards with the same function number, trusted bytes and rules, the same trusted packets
+-- Demand 3, second half: two runs of well-described boards with the same function number, trusted bytes, rules and marks, the same trusted packets
 -- and reply sizes, and the same capture at each of them, agree in all that is trusted. Assumes nothing.
 use Prim.Native.Nat.{ℕ}
 use mathlib.Core.Bool.{true, false, false≢true}
@@ -10,6 +10,7 @@ use Rattle.packet.specs.Request.{isTrusted, requestOf}
 use Rattle.capture.specs.declared.Capture.the-variants.{Nothing}
 use Rattle.board.specs.Description.{Board, WellDescribed}
 use Rattle.board.specs.Access.{afterWrite, readWord, shownWord}
+use Rattle.board.specs.Promise.{spaceOf}
 use Rattle.board.proofs.Keeps.{after-serving}
 use Rattle.runs.specs.Run.{Event, packet, reset, next}
 use Rattle.shares.specs.Views.{TrustedState, trustedState, trustedPacket, outcome}
@@ -24,7 +25,7 @@ image s =
     record {
       description = record { function = s .function; a = 0; b = 0 };
       capture = Nothing;
-      ordinary = record { bytes = []; rules = [] };
+      ordinary = spaceOf [] [] [];
       trusted = s .space;
     }
 

@@ -8,7 +8,8 @@ use Rattle.shares.specs.Views.{ordinaryEvents, trustedPackets, ordinaryS
 -- "Take two runs of a well-described board from the same ordinary state, with the same ordinary packets, reply sizes for them and resets
 -- in the same order. Let trusted bytes, trusted write rules and trusted packets differ in any way. If the correlation register holds the
 -- same value in both whenever an ordinary packet is served, all ordinary answers, written reply bytes and ordinary bytes agree": at each
--- ordinary packet, and at the end, with the rest of the ordinary state. "B may differ between the two runs in its first half".
+-- ordinary packet, and at the end, with the rest of the ordinary state. "B may differ between the two runs in its first half". 02, 6/13: "In demand
+-- 3 the new trusted buffer counts among the trusted write rules, and the ordinary one is part of the equal ordinary state."
 abbrev pub FirstHalf : Type 0
 FirstHalf =
     (d e : Board) (run other : List Event) → WellDescribed d → WellDescribed e

@@ -36,7 +36,8 @@ trustedPackets events = only trustedPacket events
 
 -- ---- the states
 
--- "For demand 3 the ordinary state is the function number, A, the ordinary bytes and rules, and the capture."
+-- "For demand 3 the ordinary state is the function number, A, the ordinary bytes and rules, and the capture."; 02, 6/13: "the ordinary [marks are]
+-- part of the equal ordinary state" (`Space` has bytes, rules and marks)
 pub record OrdinaryState : Type 0 where
   pub function : ℕ
   pub a : ℕ
@@ -46,7 +47,7 @@ pub record OrdinaryState : Type 0 where
 abbrev pub ordinaryState : Board → OrdinaryState
 ordinaryState d = record { function = d .description .function; a = d .description .a; space = d .ordinary; capture = d .capture }
 
--- "the same function number, [..] trusted bytes and rules"
+-- "the same function number, [..] trusted bytes and rules"; 02, 6/13: "the new trusted buffer counts among the trusted write rules"
 pub record TrustedState : Type 0 where
   pub function : ℕ
   pub space : Space
