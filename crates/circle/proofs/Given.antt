@@ -20,9 +20,10 @@ use Rattle.capture.specs.declared.Capture.the-variants.{Number}
 use Rattle.capture.specs.Kept.{completer}
 use Rattle.capture.proofs.Laws.{completer-exact}
 use Rattle.circle.specs.Plain.{Octets}
-use Rattle.board.specs.Description.{Board, WellDescribed}
+use Rattle.board.specs.Description.{Board, doublyMarked, WellDescribed}
 use Rattle.board.specs.Access.{unsupported, afterWrite, shownWord}
 use Rattle.board.specs.Serving.{Outcome, respond, serve}
+use Rattle.board.specs.Promise.{spaceOf}
 use Rattle.board.proofs.Laws.{unsupported-type0, unsupported-type1}
 use Rattle.board.proofs.Outcomes.{respond-unsupported, respond-write, respond-read, served-is}
 use Rattle.circle.specs.Replies.{Reply}
@@ -55,8 +56,8 @@ boardOf high low new =
     record {
       description = record { function = functionOf low; a = 0x104; b = 0x00c };
       capture = Number high (deviceOf low);
-      ordinary = record { bytes = holding new; rules = zeros };
-      trusted = record { bytes = zeros; rules = zeros };
+      ordinary = spaceOf (holding new) zeros zeros;
+      trusted = spaceOf zeros zeros zeros;
     }
 
 zeros-length : length zeros ≡ 4096
@@ -67,10 +68,14 @@ holding-length : (new : List ℕ) → length (holding new) ≡ 4096
 unfolding holding
 holding-length new = ap (λ (n : ℕ). suc (suc (suc (suc n)))) (length-replicate {A = ℕ} 4092 0)
 
+zeros-once : doublyMarked zeros zeros ≡ false
+unfolding zeros doublyMarked
+zeros-once = refl
+
 board-well : (high low : ℕ) (new : List ℕ) → WellDescribed (boardOf high low new)
 unfolding placed
 board-well high low new =
-    rw (holding-length new, zeros-length, le-ltb 31 (deviceOf low) (omega arith), le-ltb 7 (functionOf low) (omega arith))
+    rw (holding-length new, zeros-length, le-ltb 31 (deviceOf low) (omega arith), le-ltb 7 (functionOf low) (omega arith), zeros-once)
 
 -- its completer ID
 completer-given : (high low : ℕ) → low < 256 → completer (Number high (deviceOf low)) (functionOf low) ≡ record { high = high; low = low }
@@ -114,8 +119,8 @@ module _ (high low : ℕ) (requester : Id) (tag : ℕ) (new : List ℕ) (h : hig
         packet = p;
         size = 16;
         well = board-well high low new;
-        ordinary = (octets (holding new) (o 0, (o 1, (o 2, (o 3, zeros-all 4092)))), octets zeros (zeros-all 4096));
-        trusted = (octets zeros (zeros-all 4096), octets zeros (zeros-all 4096));
+        ordinary = (octets (holding new) (o 0, (o 1, (o 2, (o 3, zeros-all 4092)))), octets zeros (zeros-all 4096), octets zeros (zeros-all 4096));
+        trusted = (octets zeros (zeros-all 4096), octets zeros (zeros-all 4096), octets zeros (zeros-all 4096));
         captured = h;
         packetBytes = bytes;
         served = ap (λ (x : Outcome). x .number) s ∙ number;

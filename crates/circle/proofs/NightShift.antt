@@ -1,11 +1,11 @@
--- THEOREM. The night shift's sentence: a renewal that is answered "successful" has landed, as far as its enables and the rules let it. Over writer, board and
--- reader together, as their promises tell it: a request that we wrote, served by any well-described board, and the completion read back. "Success without
--- data": the enabled writable bits at that place of that space equal the data and nothing else changed (at A: nothing changed). "Success with data": the
--- data is what the space shows there. UR: nothing changed. Assumes nothing.
+-- THEOREM. The night shift's sentence: a renewal that is answered "successful" has landed, as far as its enables, the rules and the marks let it. Over writer,
+-- board and reader together, as their promises tell it: a request that we wrote, served by any well-described board, and the completion read back. "Success
+-- without data": the enabled writable bits at that place of that space equal the data, the enabled marked bits are cleared exactly where the data has a 1, and
+-- nothing else changed (at A: nothing changed). "Success with data": the data is what the space shows there. UR: nothing changed. Assumes nothing.
 use Prim.Native.Nat.{ℕ, zero, suc, _+_, _<_}
 use mathlib.Core.Bool.{Bool, true, false, cond}
 use mathlib.Core.List.{List, [], _∷_}
-use mathlib.Core.Logic.{inl, inr, ⊎-elim}
+use mathlib.Core.Logic.{_⊎_, inl, inr, ⊎-elim}
 use mathlib.Core.Path.{_≡_, refl, sym, ap, _∙_, subst}
 use native.Mathlib.Nat.{zero-add, add-zero}
 use native.Mathlib.Omega.{arith}
@@ -18,9 +18,9 @@ use Rattle.answers.specs.Checks.{any}
 use Rattle.answers.proofs.Unique.{number-positive}
 use Rattle.words.specs.Bytes.{byte, four}
 use Rattle.words.specs.Fields.{bit}
-use Rattle.registers.specs.Merge.{merged}
+use Rattle.registers.specs.Merge.{enabled, merged}
 use Rattle.registers.specs.Shown.{shown}
-use Rattle.registers.proofs.Laws.{merged-taken, merged-kept}
+use Rattle.registers.proofs.Laws.{merged-disabled, merged-taken, merged-cleared, merged-kept}
 use Rattle.packet.specs.declared.Request.{Request}
 use Rattle.packet.specs.declared.Status.the-variants as status
 use Rattle.packet.specs.Fields.{dataOf}
@@ -38,13 +38,15 @@ use Rattle.asking.specs.Reading.{readNumber, Reads}
 use Rattle.asking.proofs.Numbers.{served-packet}
 use Rattle.circle.proofs.Asked.{asked, packet-number, request-is, data-is}
 use Rattle.board.specs.declared.Served.{Served}
-use Rattle.board.specs.Description.{Space, Board, WellDescribed}
+use Rattle.board.specs.Description.{Space, doublyMarked, Board, WellDescribed}
 use Rattle.board.specs.Access.{unsupported, readWord, shownWord}
 use Rattle.board.specs.Serving.{Outcome, completerOf, respond, serveNumber, refused, serve}
-use Rattle.board.specs.Promise.{Seen, lent, shows, Serves}
+use Rattle.board.specs.Promise.{Seen, afterCall, shows, Serves}
 use Rattle.board.proofs.Outcomes.{respond-unsupported, respond-write}
 use Rattle.board.proofs.Refusals.{outcome-number}
-use Rattle.board.proofs.Keeps.{serve-keeps}
+use Rattle.board.proofs.Laws.{Well, well-described}
+use Rattle.board.proofs.MarkedTwice.{unmarked, unwritable}
+use Rattle.board.proofs.Keeps.{serve-keeps, call-holds}
 use Rattle.board.proofs.Lands as lands
 use Rattle.board.proofs.Lands.{write-lands, others-keep}
 use Rattle.circle.specs.Replies.{shownFour, meant}
@@ -52,9 +54,9 @@ use Rattle.circle.specs.Sentence.{BitsLanded, Landed, shownThere, Means}
 use Rattle.circle.proofs.Heard.{served, replies-read-back}
 
 -- what the caller of `board::serve` holds afterwards: the capture that was handed back and the two spaces as the call left them; the description, which
--- goes in by value, and the rules, which are only read, are the caller's own
+-- goes in by value, and the rules and marks, which are only read, are the caller's own
 abbrev pub holding : Board → Served → List ℕ → List ℕ → Board
-holding d r ordinary trusted = lent (d .description) (r .capture) ordinary (d .ordinary .rules) trusted (d .trusted .rules)
+holding d r ordinary trusted = afterCall d (r .capture) ordinary trusted
 
 -- the request that was written, the board's answer to it and what was read: each meets its promise
 pub record Asked (a : Parts) (new : List ℕ) (d : Board) : Type 0 where
@@ -94,38 +96,72 @@ four-at s at (suc (suc zero)) h = refl
 four-at s at (suc (suc (suc zero))) h = refl
 four-at s at (suc (suc (suc (suc k)))) h = absurd (omega arith)
 
-module _ (before after : Space) (q : Request) (new : List ℕ) (l : lands.Landed before after q (four new 0)) where
+module _ (before after : Space) (once : doublyMarked (before .rules) (before .marks) ≡ false) (q : Request) (new : List ℕ)
+    (l : lands.Landed before after q (four new 0)) where
   landed-byte : (k : ℕ) → k < 4
       → byte (after .bytes) (q .offset + k)
-      ≡ byte (merged (four (before .bytes) (q .offset)) (four (before .rules) (q .offset)) (four new 0) (q .enables)) k
+      ≡ byte (merged (four (before .bytes) (q .offset)) (four (before .rules) (q .offset)) (four (before .marks) (q .offset)) (four new 0) (q .enables)) k
   landed-byte k h = sym (four-at (after .bytes) (q .offset) k h) ∙ ap (λ (w : List ℕ). byte w k) (l .there)
 
   data-byte : (k : ℕ) → k < 4 → byte (four new 0) k ≡ byte new k
   data-byte k h = four-at new 0 k h ∙ ap (byte new) (zero-add k)
 
+  module _ (k j : ℕ) (h : k < 4) (i : j < 8) where
+    -- a bit of a buffer, in its four bytes at the offset
+    there : (s : List ℕ) {b : ℕ} → bit j (byte s (q .offset + k)) ≡ b → bit j (byte (four s (q .offset)) k) ≡ b
+    there s e = ap (bit j) (four-at s (q .offset) k h) ∙ e
+
+    sent : {b : ℕ} → bit j (byte new k) ≡ b → bit j (byte (four new 0) k) ≡ b
+    sent e = ap (bit j) (data-byte k h) ∙ e
+
+    taken-bit : enabled k (q .enables) ≡ true → bit j (byte (before .rules) (q .offset + k)) ≡ 1
+        → bit j (byte (after .bytes) (q .offset + k)) ≡ bit j (byte new k)
+    taken-bit e w =
+        ap (bit j) (landed-byte k h)
+        ∙ merged-taken _ _ _ _ (q .enables) k j h i e (there (before .rules) w)
+        (there (before .marks) (unmarked (before .rules) (before .marks) once (q .offset + k) j w))
+        ∙ ap (bit j) (data-byte k h)
+
+    cleared-bit : enabled k (q .enables) ≡ true → bit j (byte (before .marks) (q .offset + k)) ≡ 1 → bit j (byte new k) ≡ 1
+        → bit j (byte (after .bytes) (q .offset + k)) ≡ 0
+    cleared-bit e m d = ap (bit j) (landed-byte k h) ∙ merged-cleared _ _ _ _ (q .enables) k j h i e (there (before .marks) m) (sent d)
+
+    -- what is not writable stays where it has no mark, or the data has a 0
+    stays : bit j (byte (before .rules) (q .offset + k)) ≡ 0 → (bit j (byte (before .marks) (q .offset + k)) ≡ 0) ⊎ (bit j (byte new k) ≡ 0)
+        → bit j (byte (after .bytes) (q .offset + k)) ≡ bit j (byte (before .bytes) (q .offset + k))
+    stays w c =
+        ap (bit j) (landed-byte k h)
+        ∙ merged-kept _ _ _ _ (q .enables) k j h i (there (before .rules) w) (⊎-elim (λ m. inl (there (before .marks) m)) (λ d. inr (sent d)) c)
+        ∙ ap (bit j) (four-at (before .bytes) (q .offset) k h)
+
+    disabled-bit : enabled k (q .enables) ≡ false
+        → bit j (byte (after .bytes) (q .offset + k)) ≡ bit j (byte (before .bytes) (q .offset + k))
+    disabled-bit e =
+        ap (bit j) (landed-byte k h) ∙ merged-disabled _ _ _ _ (q .enables) k j h i e ∙ ap (bit j) (four-at (before .bytes) (q .offset) k h)
+
   bits-landed : BitsLanded before after (q .offset) (q .enables) new
   bits-landed =
       record {
-        taken = λ k j h i e w.
-            ap (bit j) (landed-byte k h)
-            ∙ merged-taken _ _ _ (q .enables) k j h i e (ap (bit j) (four-at (before .rules) (q .offset) k h) ∙ w)
-            ∙ ap (bit j) (data-byte k h);
-        kept = λ k j h i e.
-            ap (bit j) (landed-byte k h)
-            ∙ merged-kept _ _ _ (q .enables) k j h i (⊎-elim (λ f. inl f) (λ w. inr (ap (bit j) (four-at (before .rules) (q .offset) k h) ∙ w)) e)
-            ∙ ap (bit j) (four-at (before .bytes) (q .offset) k h);
+        taken = taken-bit;
+        cleared = cleared-bit;
+        spared = λ k j h i m d. stays k j h i (unwritable (before .rules) (before .marks) once (q .offset + k) j m) (inr d);
+        kept = λ k j h i. ⊎-elim (disabled-bit k j h i) (λ c. stays k j h i (c .0) (inl (c .1)));
         elsewhere = l .elsewhere;
         size = l .size;
         rules = l .rules;
+        marks = l .marks;
       }
 
-landed : (d e : Board) (a : Parts) (new : List ℕ) → lands.Writes d e (asked a) (four new 0) → e .description ≡ d .description → Landed d e a new
+landed : (d e : Board) (a : Parts) (new : List ℕ) → Well d → lands.Writes d e (asked a) (four new 0) → e .description ≡ d .description
+    → Landed d e a new
 unfolding asked
-landed d e a new w description =
+landed d e a new well w description =
     record {
-      trusted = λ t. let x = w .trusted t in (bits-landed (d .trusted) (e .trusted) (asked a) new (x .1), x .2, x .0);
+      trusted = λ t.
+          let x = w .trusted t in (bits-landed (d .trusted) (e .trusted) (well .trusted .once) (asked a) new (x .1), x .2, x .0);
       atA = λ t h. let x = w .atA t h in (x .1, x .2, x .0);
-      ordinary = λ t h. let x = w .ordinary t h in (bits-landed (d .ordinary) (e .ordinary) (asked a) new (x .1), x .2, x .0);
+      ordinary = λ t h.
+          let x = w .ordinary t h in (bits-landed (d .ordinary) (e .ordinary) (well .ordinary .once) (asked a) new (x .1), x .2, x .0);
       description = description;
     }
 
@@ -163,7 +199,7 @@ module _ (a : Parts) (new : List ℕ) (inside : any (outside a) ≡ false) (d : 
         let writes : asksWrite a ≡ true = sym (fields .2) ∙ w in
         let l = write-lands d p size well n (status-done u w) w in (
           writes,
-          landed d e a new
+          landed d e a new (well-described d well)
               (subst (λ (x : List ℕ). lands.Writes d e (asked a) x) (data-is a new inside writes)
               (subst (λ (x : Request). lands.Writes d e x (dataOf p)) (request-is a new inside) l))
               (serve-keeps d p size .description),
@@ -208,16 +244,7 @@ module _ (a : Parts) (new : List ℕ) (d : Board) (well : WellDescribed d) (s : 
       (s .serves)
 
   held-is : held s ≡ serve d packet room .after
-  unfolding shows
-  held-is =
-      let k = serve-keeps d packet room in
-      λ i.
-      record {
-        description = sym (k .description) i;
-        capture = ap (λ (x : Seen). x .capture) called i;
-        ordinary = record { bytes = ap (λ (x : Seen). x .ordinary) called i; rules = sym (k .ordinaryRules) i };
-        trusted = record { bytes = ap (λ (x : Seen). x .trusted) called i; rules = sym (k .trustedRules) i };
-      }
+  held-is = call-holds d packet (s .reply) (s .served) (s .ordinary) (s .trusted) (s .replied) called
 
   -- the bytes that are read are those that the board wrote
   taken : take (s .served .length) (s .replied) ≡ serve d packet room .written

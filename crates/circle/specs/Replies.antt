@@ -11,7 +11,7 @@ use Rattle.asking.specs.declared.Said.{Said}
 use Rattle.asking.specs.declared.Said.the-variants.{Shown, Done, Unsupported}
 use Rattle.asking.specs.declared.Completion.{Completion}
 use Rattle.circle.specs.Plain.{Octets}
-use Rattle.board.specs.Description.{Board, WellDescribed}
+use Rattle.board.specs.Description.{Space, Board, WellDescribed}
 use Rattle.board.specs.Access.{unsupported, readWord}
 use Rattle.board.specs.Serving.{completerOf, serve}
 
@@ -19,14 +19,18 @@ abbrev pub busOctet : Capture → Type 0
 busOctet Nothing = Unit {0}
 busOctet (Number bus device) = bus < 256
 
+-- a space of real bytes
+abbrev pub Real : Space → Type 0
+Real s = Octets (s .bytes) × Octets (s .rules) × Octets (s .marks)
+
 -- a reply: the board and the packet that it comes from, of real bytes, and the size of the reply that was lent
 pub record Reply (c : List ℕ) : Type 0 where
   pub board : Board
   pub packet : List ℕ
   pub size : ℕ
   pub well : WellDescribed board
-  pub ordinary : Octets (board .ordinary .bytes) × Octets (board .ordinary .rules)
-  pub trusted : Octets (board .trusted .bytes) × Octets (board .trusted .rules)
+  pub ordinary : Real (board .ordinary)
+  pub trusted : Real (board .trusted)
   pub captured : busOctet (board .capture)
   pub packetBytes : Octets packet
   pub served : serve board packet size .number ≡ 0

@@ -1,6 +1,6 @@
 -- The night shift's sentence: what a completion that reads back tells about the board. Issue of 02, 5/13: "success without data": the enabled writable
 -- bits at that place of that space equal the data and nothing else changed (at A: nothing changed); "success with data": the data is what the space
--- shows there; UR: nothing changed. Assumes nothing.
+-- shows there; UR: nothing changed. With 02, 6/13, a third case: "A marked bit becomes 0 if the enabled data bit is 1, else stays." Assumes nothing.
 use Prim.Native.Nat.{ℕ, _+_, _≤_, _<_}
 use mathlib.Core.Bool.{Bool, true, false, cond}
 use mathlib.Core.List.{List, [], _∷_}
@@ -26,16 +26,22 @@ use Rattle.board.specs.Access.{correlation}
 abbrev pub asksTrusted : Parts → Bool
 asksTrusted a = isTrusted (targetOf (typeOf (a .kind)))
 
--- "the enabled writable bits at that place [..] equal the data and nothing else changed": a space before and after, the offset, the enables, the data.
--- Bit j of the byte at offset + k is enabled where k is, and writable where its rule bit is 1
+-- Issue of 6/13: "written bits equal the data, marked bits are cleared exactly where the data has a 1, all others stay": a space before and after, the offset,
+-- the enables, the data. Bit j of the byte at offset + k is enabled where k is, writable where its rule bit is 1, and marked where its mark is 1
 pub record BitsLanded (before after : Space) (at enables : ℕ) (new : List ℕ) : Type 0 where
   pub taken : (k j : ℕ) → k < 4 → j < 8 → enabled k enables ≡ true → bit j (byte (before .rules) (at + k)) ≡ 1
       → bit j (byte (after .bytes) (at + k)) ≡ bit j (byte new k)
-  pub kept : (k j : ℕ) → k < 4 → j < 8 → (enabled k enables ≡ false) ⊎ (bit j (byte (before .rules) (at + k)) ≡ 0)
+  pub cleared : (k j : ℕ) → k < 4 → j < 8 → enabled k enables ≡ true → bit j (byte (before .marks) (at + k)) ≡ 1 → bit j (byte new k) ≡ 1
+      → bit j (byte (after .bytes) (at + k)) ≡ 0
+  pub spared : (k j : ℕ) → k < 4 → j < 8 → bit j (byte (before .marks) (at + k)) ≡ 1 → bit j (byte new k) ≡ 0
+      → bit j (byte (after .bytes) (at + k)) ≡ bit j (byte (before .bytes) (at + k))
+  pub kept : (k j : ℕ) → k < 4 → j < 8
+      → (enabled k enables ≡ false) ⊎ ((bit j (byte (before .rules) (at + k)) ≡ 0) × (bit j (byte (before .marks) (at + k)) ≡ 0))
       → bit j (byte (after .bytes) (at + k)) ≡ bit j (byte (before .bytes) (at + k))
   pub elsewhere : (k : ℕ) → (k < at) ⊎ (at + 4 ≤ k) → byte (after .bytes) k ≡ byte (before .bytes) k
   pub size : length (after .bytes) ≡ length (before .bytes)
   pub rules : after .rules ≡ before .rules
+  pub marks : after .marks ≡ before .marks
 
 -- "at that place of that space [..] (at A: nothing changed)": a trusted write, an ordinary one at A, any other ordinary one. Beside the spaces, an ordinary
 -- write captures its bus and device number (document 01, "The access")

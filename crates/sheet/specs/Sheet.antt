@@ -1,5 +1,5 @@
 -- Document 01, "Bench sheet": "The twelve marked P", with document 02, 3/13. For P1 to P11, what the written rules give and what the sheet says, as numbers: the
--- answer and what it tells. P12 is about every walk. Assumes nothing.
+-- answer and what it tells; no bit of the sheet's board is cleared by writing 1 (02, 6/13). P12 is about every walk. Assumes nothing.
 use Prim.Native.Nat.{ℕ}
 use mathlib.Core.List.{List, [], _∷_}
 use mathlib.Core.Path.{_≡_}
@@ -44,7 +44,7 @@ rules =
     ∷ answer (serve (bench zeros) (take 15 p2) 16)
     ∷ answer (serve (bench zeros) (changed p1 0 0x00) 16)
     ∷ answer (serve (bench zeros) (changed p1 7 0x1f) 16)
-    ∷ merged (0x0f ∷ 0x0f ∷ 0x0f ∷ 0x0f ∷ []) (0xf0 ∷ 0xf0 ∷ 0xf0 ∷ 0xf0 ∷ []) (0xa5 ∷ 0xa5 ∷ 0xa5 ∷ 0xa5 ∷ []) 0x5
+    ∷ merged (0x0f ∷ 0x0f ∷ 0x0f ∷ 0x0f ∷ []) (0xf0 ∷ 0xf0 ∷ 0xf0 ∷ 0xf0 ∷ []) (0x00 ∷ 0x00 ∷ 0x00 ∷ 0x00 ∷ []) (0xa5 ∷ 0xa5 ∷ 0xa5 ∷ 0xa5 ∷ []) 0x5
     ∷ (dualSays (dual 0x02) 0x040 .number ∷ dualSays (dual 0x02) 0x040 .function ∷ dualSays (dual 0x02) 0x040 .device ∷ [])
     ∷ (dualSays (dual 0x03) 0x040 .number ∷ [])
     ∷ (dvsecSays vendor 0x100 .number ∷ dvsecSays vendor 0x100 .length ∷ length (dvsecBody vendor 0x100) ∷ [])
