@@ -12,6 +12,7 @@ use Rattle.lists.proofs.Numbers as walks
 use Rattle.records.specs.DvsecRule.{dvsecChecks, dvsecSays}
 use Rattle.records.specs.DualRule.{dualChecks, dualSays}
 use Rattle.records.proofs.Numbers.{dvsec-number-says, dual-number-says}
+use Rattle.board.specs.Description.{Space}
 use Rattle.board.specs.Serving.{serve, serveNumber}
 use Rattle.board.specs.Promise.{shows}
 use Rattle.board.proofs.Refusals.{serve-number-says, outcome-number, refused-shows}
@@ -29,16 +30,16 @@ use Rattle.thawribbon.specs.Records.{toldDvsec, toldDual}
 -- the statements: of `thawribbon_serve`
 abbrev pub HostServeNumber : Type 0
 HostServeNumber =
-    (description : HostDescription) (kept : HostCapture) (ordinary ordinaryRules trusted trustedRules p reply : List ℕ) (r : HostServed)
-    (o t after : List ℕ) → HostServes description kept ordinary ordinaryRules trusted trustedRules p reply r o t after
-    → packets.NumberSays (hostBoard description kept ordinary ordinaryRules trusted trustedRules) p (length reply) (r .number)
+    (description : HostDescription) (kept : HostCapture) (ordinary trusted : Space) (p reply : List ℕ) (r : HostServed)
+    (o t after : List ℕ) → HostServes description kept ordinary trusted p reply r o t after
+    → packets.NumberSays (hostBoard description kept ordinary trusted) p (length reply) (r .number)
 
 -- a refusal hands everything back byte for byte
 abbrev pub HostRefusalKeeps : Type 0
 HostRefusalKeeps =
-    (description : HostDescription) (kept : HostCapture) (ordinary ordinaryRules trusted trustedRules p reply : List ℕ) (r : HostServed)
-    (o t after : List ℕ) → HostServes description kept ordinary ordinaryRules trusted trustedRules p reply r o t after
-    → (r .number ≡ 0 → ⊥) → (r .length ≡ 0) × (r .capture ≡ kept) × (o ≡ ordinary) × (t ≡ trusted) × (after ≡ reply)
+    (description : HostDescription) (kept : HostCapture) (ordinary trusted : Space) (p reply : List ℕ) (r : HostServed)
+    (o t after : List ℕ) → HostServes description kept ordinary trusted p reply r o t after
+    → (r .number ≡ 0 → ⊥) → (r .length ≡ 0) × (r .capture ≡ kept) × (o ≡ ordinary .bytes) × (t ≡ trusted .bytes) × (after ≡ reply)
 
 -- of the walks, with the place beside the number
 abbrev pub HostWalkNumber : Type 0
@@ -57,18 +58,18 @@ HostDualNumber =
     (s : List ℕ) (at : ℕ) (r : HostAlternate) → r ≡ toldDual (dualSays s at)
     → First (dualChecks s at) (r .number) × List·Memᴰ (r .number) (0 ∷ 1 ∷ 8 ∷ 9 ∷ 10 ∷ [])
 
-module _ (description : HostDescription) (kept : HostCapture) (ordinary ordinaryRules trusted trustedRules p reply : List ℕ) (r : HostServed)
-    (o t after : List ℕ) (e : HostServes description kept ordinary ordinaryRules trusted trustedRules p reply r o t after) where
-  told-number : r .number ≡ serve (hostBoard description kept ordinary ordinaryRules trusted trustedRules) p (length reply) .number
+module _ (description : HostDescription) (kept : HostCapture) (ordinary trusted : Space) (p reply : List ℕ) (r : HostServed)
+    (o t after : List ℕ) (e : HostServes description kept ordinary trusted p reply r o t after) where
+  told-number : r .number ≡ serve (hostBoard description kept ordinary trusted) p (length reply) .number
   unfolding shows
   told-number = ap (λ (x : HostSeen). x .number) e
 
-  number-says : packets.NumberSays (hostBoard description kept ordinary ordinaryRules trusted trustedRules) p (length reply) (r .number)
-  number-says = rw told-number (serve-number-says (hostBoard description kept ordinary ordinaryRules trusted trustedRules) p (length reply))
+  number-says : packets.NumberSays (hostBoard description kept ordinary trusted) p (length reply) (r .number)
+  number-says = rw told-number (serve-number-says (hostBoard description kept ordinary trusted) p (length reply))
 
-  refusal-keeps : (r .number ≡ 0 → ⊥) → (r .length ≡ 0) × (r .capture ≡ kept) × (o ≡ ordinary) × (t ≡ trusted) × (after ≡ reply)
+  refusal-keeps : (r .number ≡ 0 → ⊥) → (r .length ≡ 0) × (r .capture ≡ kept) × (o ≡ ordinary .bytes) × (t ≡ trusted .bytes) × (after ≡ reply)
   refusal-keeps n =
-      let d = hostBoard description kept ordinary ordinaryRules trusted trustedRules in
+      let d = hostBoard description kept ordinary trusted in
       let h : serveNumber d p (length reply) ≡ 0 → ⊥ = λ z. n (told-number ∙ outcome-number d p (length reply) ∙ z) in
       let s = e ∙ ap (hostShows kept) (refused-shows d p reply h) in (
         ap (λ (x : HostSeen). x .count) s,

@@ -9,7 +9,7 @@ use lib.ListN.{length}
 use Rattle.capture.specs.declared.Capture.{Capture}
 use Rattle.capture.specs.declared.Capture.the-variants.{Nothing, Number}
 use Rattle.capture.specs.Kept.{forgotten}
-use Rattle.board.specs.Description.{Board, afterReset}
+use Rattle.board.specs.Description.{Space, withBytes, Board, afterReset}
 use Rattle.board.specs.Serving.{serve, serveNumber, byNumber}
 use Rattle.board.specs.Promise.{shows}
 use Rattle.board.proofs.Keeps.{serve-keeps}
@@ -22,18 +22,18 @@ use Rattle.thawribbon.specs.Packets.{HostSeen, keptBy, toldCapture, hand
 -- the statements: after a packet
 abbrev pub HostHolds : Type 0
 HostHolds =
-    (description : HostDescription) (kept : HostCapture) (ordinary ordinaryRules trusted trustedRules p reply : List ℕ) (r : HostServed)
-    (o t after : List ℕ) → HostServes description kept ordinary ordinaryRules trusted trustedRules p reply r o t after
-    → hostBoard description (r .capture) o ordinaryRules t trustedRules
-    ≡ serve (hostBoard description kept ordinary ordinaryRules trusted trustedRules) p (length reply) .after
+    (description : HostDescription) (kept : HostCapture) (ordinary trusted : Space) (p reply : List ℕ) (r : HostServed)
+    (o t after : List ℕ) → HostServes description kept ordinary trusted p reply r o t after
+    → hostBoard description (r .capture) (withBytes ordinary o) (withBytes trusted t)
+    ≡ serve (hostBoard description kept ordinary trusted) p (length reply) .after
 
 -- after a reset
 abbrev pub HostResets : Type 0
 HostResets =
-    (description : HostDescription) (kept r : HostCapture) (ordinary ordinaryRules trusted trustedRules : List ℕ)
+    (description : HostDescription) (kept r : HostCapture) (ordinary trusted : Space)
     → r ≡ toldCapture (forgotten (keptBy kept))
-    → hostBoard description r ordinary ordinaryRules trusted trustedRules
-    ≡ afterReset (hostBoard description kept ordinary ordinaryRules trusted trustedRules)
+    → hostBoard description r ordinary trusted
+    ≡ afterReset (hostBoard description kept ordinary trusted)
 
 -- a capture that is told is kept as it is
 kept-told : (c : Capture) → keptBy (toldCapture c) ≡ c
@@ -46,10 +46,10 @@ kept-by-number : (n : ℕ) (kept : HostCapture) (d : Board) (p : List ℕ) → d
 kept-by-number zero kept d p e = kept-told _
 kept-by-number (suc n) kept d p e = rw (ne-eqb (suc n) 0 (λ z. omega arith)) (sym e)
 
-module _ (description : HostDescription) (kept : HostCapture) (ordinary ordinaryRules trusted trustedRules p reply : List ℕ) (r : HostServed)
-    (o t after : List ℕ) (e : HostServes description kept ordinary ordinaryRules trusted trustedRules p reply r o t after) where
+module _ (description : HostDescription) (kept : HostCapture) (ordinary trusted : Space) (p reply : List ℕ) (r : HostServed)
+    (o t after : List ℕ) (e : HostServes description kept ordinary trusted p reply r o t after) where
   board : Board
-  board = hostBoard description kept ordinary ordinaryRules trusted trustedRules
+  board = hostBoard description kept ordinary trusted
 
   capture-held : keptBy (r .capture) ≡ serve board p (length reply) .after .capture
   unfolding shows serve board
@@ -58,7 +58,7 @@ module _ (description : HostDescription) (kept : HostCapture) (ordinary ordinary
       ∙ ap (λ (n : ℕ). keptBy (handedBack n kept (serve board p (length reply) .after .capture))) (outcome-number board p (length reply))
       ∙ kept-by-number (serveNumber board p (length reply)) kept board p refl
 
-  board-held : hostBoard description (r .capture) o ordinaryRules t trustedRules ≡ serve board p (length reply) .after
+  board-held : hostBoard description (r .capture) (withBytes ordinary o) (withBytes trusted t) ≡ serve board p (length reply) .after
   unfolding shows board
   board-held =
       let k = serve-keeps board p (length reply) in
@@ -66,8 +66,8 @@ module _ (description : HostDescription) (kept : HostCapture) (ordinary ordinary
       record {
         description = sym (k .description) i;
         capture = capture-held i;
-        ordinary = record { bytes = (ap (λ (x : HostSeen). x .ordinary) e) i; rules = sym (k .ordinaryRules) i };
-        trusted = record { bytes = (ap (λ (x : HostSeen). x .trusted) e) i; rules = sym (k .trustedRules) i };
+        ordinary = (ap (λ (x : HostSeen). withBytes ordinary (x .ordinary)) e ∙ sym (k .ordinary)) i;
+        trusted = (ap (λ (x : HostSeen). withBytes trusted (x .trusted)) e ∙ sym (k .trusted)) i;
       }
 
 pub host-holds : HostHolds
@@ -75,5 +75,5 @@ unfolding board
 host-holds = board-held
 
 pub host-resets : HostResets
-host-resets description kept r ordinary ordinaryRules trusted trustedRules e =
-    ap (λ (x : HostCapture). hostBoard description x ordinary ordinaryRules trusted trustedRules) e
+host-resets description kept r ordinary trusted e =
+    ap (λ (x : HostCapture). hostBoard description x ordinary trusted) e

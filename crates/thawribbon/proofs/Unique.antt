@@ -3,6 +3,7 @@ use Prim.Native.Nat.{ℕ}
 use mathlib.Core.List.{List}
 use mathlib.Core.Path.{_≡_, sym, ap, _∙_}
 use Rattle.capture.specs.Kept.{forgotten}
+use Rattle.board.specs.Description.{Space}
 use Rattle.lists.specs.declared.Kind.{Kind}
 use Rattle.lists.proofs.Unique.{walk-unique}
 use Rattle.records.specs.DvsecRule.{dvsecSays}
@@ -21,16 +22,16 @@ use Rattle.thawribbon.specs.Walks.{HostWalks, toldWalk}
 -- the statements
 abbrev pub HostServeUnique : Type 0
 HostServeUnique =
-    (d : HostDescription) (kept : HostCapture) (ordinary ordinaryRules trusted trustedRules p reply : List ℕ) (r q : HostServed)
-    (o t after o′ t′ after′ : List ℕ) → HostServes d kept ordinary ordinaryRules trusted trustedRules p reply r o t after
-    → HostServes d kept ordinary ordinaryRules trusted trustedRules p reply q o′ t′ after′ → (r ≡ q) × (o ≡ o′) × (t ≡ t′) × (after ≡ after′)
+    (d : HostDescription) (kept : HostCapture) (ordinary trusted : Space) (p reply : List ℕ) (r q : HostServed)
+    (o t after o′ t′ after′ : List ℕ) → HostServes d kept ordinary trusted p reply r o t after
+    → HostServes d kept ordinary trusted p reply q o′ t′ after′ → (r ≡ q) × (o ≡ o′) × (t ≡ t′) × (after ≡ after′)
 
 abbrev pub HostWalkUnique : Type 0
 HostWalkUnique =
     (kind : Kind) (s room : List ℕ) (r q : HostWalked) (l m : List ℕ) → HostWalks kind s room r l → HostWalks kind s room q m → (r ≡ q) × (l ≡ m)
 
 pub host-serve-unique : HostServeUnique
-host-serve-unique d kept ordinary ordinaryRules trusted trustedRules p reply r q o t after o′ t′ after′ e f =
+host-serve-unique d kept ordinary trusted p reply r q o t after o′ t′ after′ e f =
     let s : hostSeen r o t after ≡ hostSeen q o′ t′ after′ = e ∙ sym f in (
       ap (λ (x : HostSeen). record { length = x .count; number = x .number; capture = x .capture }) s,
       ap (λ (x : HostSeen). x .ordinary) s,

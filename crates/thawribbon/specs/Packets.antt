@@ -8,9 +8,9 @@ use lib.ListN.{length}
 use Rattle.capture.specs.declared.Capture.{Capture}
 use Rattle.capture.specs.declared.Capture.the-variants.{Nothing, Number}
 use Rattle.board.specs.declared.Description.{Description}
-use Rattle.board.specs.Description.{Board}
+use Rattle.board.specs.Description.{Space, Board}
 use Rattle.board.specs.Serving.{serve}
-use Rattle.board.specs.Promise.{Seen, lent, shows}
+use Rattle.board.specs.Promise.{Seen, shows}
 use Rattle.thawribbon.specs.declared.HostDescription.{HostDescription}
 use Rattle.thawribbon.specs.declared.HostCapture.{HostCapture}
 use Rattle.thawribbon.specs.declared.HostServed.{HostServed}
@@ -57,15 +57,14 @@ hostShows kept shown =
       reply = shown .reply;
     }
 
--- the board that a host lends: its description and capture, the ordinary bytes and rules, the trusted bytes and rules
-abbrev pub hostBoard : HostDescription → HostCapture → List ℕ → List ℕ → List ℕ → List ℕ → Board
-hostBoard description kept ordinary ordinaryRules trusted trustedRules =
-    lent (described description) (keptBy kept) ordinary ordinaryRules trusted trustedRules
+-- the board that a host lends: its description and capture, and the ordinary and the trusted space with their rules and marks
+abbrev pub hostBoard : HostDescription → HostCapture → Space → Space → Board
+hostBoard description kept ordinary trusted =
+    record { description = described description; capture = keptBy kept; ordinary = ordinary; trusted = trusted }
 
--- the promise of `thawribbon_serve`: what it is lent (description, capture, the four buffers of the board, packet, reply), the result, and
+-- the promise of `thawribbon_serve`: what it is lent (description, capture, the six buffers of the board, packet, reply), the result, and
 -- the three buffers at its end
-abbrev pub HostServes : HostDescription → HostCapture → List ℕ → List ℕ → List ℕ → List ℕ → List ℕ → List ℕ → HostServed → List ℕ → List ℕ
-    → List ℕ → Type 0
-HostServes description kept ordinary ordinaryRules trusted trustedRules p reply r ordinaryAfter trustedAfter replyAfter =
+abbrev pub HostServes : HostDescription → HostCapture → Space → Space → List ℕ → List ℕ → HostServed → List ℕ → List ℕ → List ℕ → Type 0
+HostServes description kept ordinary trusted p reply r ordinaryAfter trustedAfter replyAfter =
     hostSeen r ordinaryAfter trustedAfter replyAfter
-    ≡ hostShows kept (shows (serve (hostBoard description kept ordinary ordinaryRules trusted trustedRules) p (length reply)) reply)
+    ≡ hostShows kept (shows (serve (hostBoard description kept ordinary trusted) p (length reply)) reply)

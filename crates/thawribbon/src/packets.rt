@@ -1,6 +1,7 @@
 // A packet served on a board that a host lends, and a reset. The capture is the host's to keep between packets.
 ghost use mathlib.Core.Path.{_≡_};
 ghost use Rattle.capture.specs.Kept.{forgotten};
+ghost use Rattle.board.specs.Promise.{spaceOf};
 ghost use Rattle.thawribbon.specs.Packets.{described, keptBy, toldCapture, HostServes};
 ghost use Rattle.thawribbon.specs.Inner.{toldServed};
 use super::HostCapture;
@@ -74,20 +75,24 @@ pub extern "C" fn thawribbon_serve(
     kept: HostCapture,
     ordinary: &mut [u8],
     ordinary_rules: &[u8],
+    ordinary_marks: &[u8],
     trusted: &mut [u8],
     trusted_rules: &[u8],
+    trusted_marks: &[u8],
     packet: &[u8],
     reply: &mut [u8],
 ) -> HostServed
-    ensures { λ r. ⌜ HostServes description kept (now (ordinary .entry)) (now («ordinary_rules» .entry)) (now (trusted .entry)) (now («trusted_rules» .entry)) (now (packet .entry)) (now (reply .entry)) r (now (ordinary .exit)) (now (trusted .exit)) (now (reply .exit)) ⌝ }
+    ensures { λ r. ⌜ HostServes description kept (spaceOf (now (ordinary .entry)) (now («ordinary_rules» .entry)) (now («ordinary_marks» .entry))) (spaceOf (now (trusted .entry)) (now («trusted_rules» .entry)) (now («trusted_marks» .entry))) (now (packet .entry)) (now (reply .entry)) r (now (ordinary .exit)) (now (trusted .exit)) (now (reply .exit)) ⌝ }
 {
     let served = board::serve(
         description_of(description),
         capture_of(kept),
         ordinary,
         ordinary_rules,
+        ordinary_marks,
         trusted,
         trusted_rules,
+        trusted_marks,
         packet,
         reply,
     );

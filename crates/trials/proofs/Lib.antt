@@ -1,2 +1,1 @@
-pub mod OneByOne
 pub mod Unique

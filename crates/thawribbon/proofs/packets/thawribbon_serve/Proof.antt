@@ -28,8 +28,8 @@ same-length-3 c = search needs
 returns : tie.Need-returns
 returns c =
     let served = c .before .before .before .before .before .before .before .serve in
-    let a = c .before .before .before .before .before .before .before .before .before .before .before .before .before .before .before .before .before .before .before .args in
-    serves-told _ _ (a .description) (a .kept) (a .ordinary .now) (a .ordinary-rules .now) (a .trusted .now) (a .trusted-rules .now) (a .packet .now) (a .reply .now)
+    let a = c .before .before .before .before .before .before .before .before .before .before .before .before .before .before .before .before .before .before .before .before .before .args in
+    serves-told _ _ (a .description) (a .kept) (a .ordinary .now) (a .ordinary-rules .now) (a .ordinary-marks .now) (a .trusted .now) (a .trusted-rules .now) (a .trusted-marks .now) (a .packet .now) (a .reply .now)
     (served .result) _ _ _ _ (c .before .before .before .before .before .before .before .before .before .before .before .before .description-of .ensures) (c .before .before .before .before .before .before .before .before .before .before .before .capture-of .ensures)
     (served .ensures) (c .told-served .ensures)
 
