@@ -3,7 +3,7 @@
 # the archive that the kit itself writes. Where a tool is missing, what needs it is skipped, or failed where CI is set.
 . tests/common/host_tools.bash
 page=docs/LIBRARY.md
-least=94
+least=107
 here=$(uname -m)-unknown-linux-gnu
 
 # needs ARCHIVE: what the page says the archive needs of the C library
@@ -152,7 +152,7 @@ page_notices() {
         's/thawribbon_board_serve(&board, type0_write, sizeof type0_write, &answer) != THAWRIBBON_DONE/sizeof type0_write == 0/' \
         'not done: Unsupported Request: the access was not done'
     other_page_c "C program 1 of $page notices that it has not landed" 1 's/\[0x010\] = 0xFF/[0x010] = 0xF0/' 'done, and not landed'
-    other_page_c "C program 2 of $page stops at a board that is badly described" 2 's/\.function = 0/.function = 8/' 'dropped a packet: a space or rule space'
+    other_page_c "C program 2 of $page stops at a board that is badly described" 2 's/\.function = 0/.function = 8/' 'dropped a packet: a space, rules or marks'
     if [ "$(wc -l <"$work/log")" -ne 1 ]; then echo "FAILED C program 2 of $page goes on with a board that is badly described"; fi
     other_page_c "C program 2 of $page tells where a list is broken" 2 's/0x23, 0x00, 0x01}/0x23, 0x00, 0x81, 0x00}/' \
         "$(sed -n 's/^    \(no list: .*\)$/\1/p' $page)"

@@ -7,7 +7,7 @@
 
 namespace {
 
-thawribbon_bytes ordinary, trusted, rules;
+thawribbon_bytes ordinary, trusted, rules, marks;
 
 // What is heard of a request, with its number, what is said, and the first data byte.
 struct Expected {
@@ -55,7 +55,7 @@ int main()
         {read, THAWRIBBON_ASKED_DONE, THAWRIBBON_SERVED, THAWRIBBON_SAID_DATA, 0x08},
         {bad, THAWRIBBON_ASKED_REFUSED, THAWRIBBON_BAD_DESCRIPTION, THAWRIBBON_SAID_NOTHING, 0},
     };
-    thawribbon_board board = {{0, 0x104, 0x00C}, THAWRIBBON_FRESH, {&ordinary, &rules}, {&trusted, &rules}};
+    thawribbon_board board = {{0, 0x104, 0x00C}, THAWRIBBON_FRESH, {&ordinary, &rules, &marks}, {&trusted, &rules, &thawribbon_no_marks}};
     memset(rules.at + 0x004, 0xFF, 4);
     trusted.at[0x004] = 0x08;
     for (const Expected &expected : day) {

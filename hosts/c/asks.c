@@ -19,8 +19,10 @@ static struct {
 
 static void hold_board(void)
 {
-    const thawribbon_space one = {(thawribbon_bytes *)lent(&ordinary), (thawribbon_bytes *)lent(&ordinary_rules)};
-    const thawribbon_space other = {(thawribbon_bytes *)lent(&trusted), (thawribbon_bytes *)lent(&trusted_rules)};
+    const thawribbon_space one = {(thawribbon_bytes *)lent(&ordinary), (thawribbon_bytes *)lent(&ordinary_rules),
+                                  (thawribbon_bytes *)lent(&ordinary_marks)};
+    const thawribbon_space other = {(thawribbon_bytes *)lent(&trusted), (thawribbon_bytes *)lent(&trusted_rules),
+                                    (thawribbon_bytes *)lent(&trusted_marks)};
     fresh_board();
     memset(&held, 0xA7, sizeof held);
     held.board.description = description;
@@ -98,9 +100,11 @@ static void asked_in_vain(void)
     held.board.description.a = 0x100;
     hears(write_parts, THAWRIBBON_ASKED_REFUSED, nothing_heard(1), 1);
     held.board.description.a = 0x104;
-    held.board.trusted.rules = NULL;
+    held.board.trusted.marks = NULL;
     hears(write_parts, THAWRIBBON_ASKED_REFUSED, nothing_heard(1), 2);
-    expect(same_capture(held.board.capture, fresh_capture), "something is captured", 2);
+    held.board.trusted.rules = NULL;
+    hears(write_parts, THAWRIBBON_ASKED_REFUSED, nothing_heard(1), 3);
+    expect(same_capture(held.board.capture, fresh_capture), "something is captured", 3);
 }
 
 /* Drawn requests: what is heard of a board is what the functions under it give, one after the other. */

@@ -4,7 +4,7 @@
 
 thawribbon_description description;
 thawribbon_capture kept;
-buffer ordinary, ordinary_rules, trusted, trusted_rules, packet, reply;
+buffer ordinary, ordinary_rules, ordinary_marks, trusted, trusted_rules, trusted_marks, packet, reply;
 
 const uint8_t trusted_read[12] = {0x1B, 0x00, 0x00, 0x01, 0x01, 0x00, 0x08, 0x0F, 0x05, 0x18, 0x00, 0x04};
 const uint8_t write_packet[16] = {0x44, 0x00, 0x00, 0x01, 0x01, 0x00, 0x07, 0x0F,
@@ -27,8 +27,10 @@ void fresh_board(void)
     kept = fresh_capture;
     fill(&ordinary, 0x51, THAWRIBBON_SPACE);
     fill(&ordinary_rules, 0x00, THAWRIBBON_SPACE);
+    fill(&ordinary_marks, 0x00, THAWRIBBON_SPACE);
     fill(&trusted, 0x72, THAWRIBBON_SPACE);
     fill(&trusted_rules, 0x00, THAWRIBBON_SPACE);
+    fill(&trusted_marks, 0x00, THAWRIBBON_SPACE);
     put(&ordinary_rules, 0x004, all_writable, 4);
     put(&trusted_rules, 0x004, all_writable, 4);
     put(&trusted, 0x004, trusted_start, 4);
@@ -46,8 +48,10 @@ void remember_all(void)
 {
     remember(&ordinary);
     remember(&ordinary_rules);
+    remember(&ordinary_marks);
     remember(&trusted);
     remember(&trusted_rules);
+    remember(&trusted_marks);
     remember(&packet);
     remember(&reply);
 }
@@ -56,8 +60,10 @@ void all_as_expected(size_t at)
 {
     expect(is_as_expected(&ordinary), "the ordinary space is not as it should be", at);
     expect(is_as_expected(&ordinary_rules), "the ordinary rules have changed", at);
+    expect(is_as_expected(&ordinary_marks), "the ordinary marks have changed", at);
     expect(is_as_expected(&trusted), "the trusted space is not as it should be", at);
     expect(is_as_expected(&trusted_rules), "the trusted rules have changed", at);
+    expect(is_as_expected(&trusted_marks), "the trusted marks have changed", at);
     expect(is_as_expected(&packet), "the packet has changed", at);
     expect(is_as_expected(&reply), "the reply is not as it should be", at);
 }
@@ -65,8 +71,9 @@ void all_as_expected(size_t at)
 static thawribbon_served serve(void)
 {
     return thawribbon_serve(description, kept, lent(&ordinary), ordinary.length, lent(&ordinary_rules), ordinary_rules.length,
-                            lent(&trusted), trusted.length, lent(&trusted_rules), trusted_rules.length, lent(&packet), packet.length,
-                            lent(&reply), reply.length);
+                            lent(&ordinary_marks), ordinary_marks.length, lent(&trusted), trusted.length, lent(&trusted_rules),
+                            trusted_rules.length, lent(&trusted_marks), trusted_marks.length, lent(&packet), packet.length, lent(&reply),
+                            reply.length);
 }
 
 int same_capture(thawribbon_capture one, thawribbon_capture other)

@@ -7,7 +7,7 @@
 
 extern thawribbon_description description;
 extern thawribbon_capture kept;
-extern buffer ordinary, ordinary_rules, trusted, trusted_rules, packet, reply;
+extern buffer ordinary, ordinary_rules, ordinary_marks, trusted, trusted_rules, trusted_marks, packet, reply;
 
 /* P1's packet, P2's packet, and their completions and P3's. */
 extern const uint8_t trusted_read[12], write_packet[16];
@@ -17,7 +17,7 @@ extern const uint8_t landed[4];
 /* What is captured by a fresh board, and by P2's packet. */
 extern const thawribbon_capture fresh_capture, five_three;
 
-/* Function 0, rules FFh at 004h in both spaces, trusted 004h holding 08 00 00 00. */
+/* Function 0, rules FFh at 004h in both spaces, no marks, trusted 004h holding 08 00 00 00. */
 void fresh_board(void);
 
 /* Lends this packet from now on. */

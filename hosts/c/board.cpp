@@ -6,7 +6,7 @@
 
 namespace {
 
-thawribbon_bytes ordinary, trusted, rules;
+thawribbon_bytes ordinary, trusted, rules, marks;
 
 // What the board answers, by its outcome and its first data byte, or 256 where there is none.
 struct Expected {
@@ -39,7 +39,7 @@ int main()
         {trusted_read, 12, THAWRIBBON_DONE, 0x08},
         {write, 15, THAWRIBBON_REFUSED, 256},
     };
-    thawribbon_board board = {{0, 0x104, 0x00C}, THAWRIBBON_FRESH, {&ordinary, &rules}, {&trusted, &rules}};
+    thawribbon_board board = {{0, 0x104, 0x00C}, THAWRIBBON_FRESH, {&ordinary, &rules, &marks}, {&trusted, &rules, &thawribbon_no_marks}};
     memset(rules.at + 0x004, 0xFF, 4);
     trusted.at[0x004] = 0x08;
     for (const Expected &expected : day) {

@@ -13,6 +13,7 @@ int main(void)
 {
     packets();
     captures();
+    marks();
     walks();
     records();
     helpers();

@@ -1,4 +1,4 @@
-/* thawribbon_board_ask with what is heard in the board, a space or rules, or right beside them: at the distances where that changes. */
+/* thawribbon_board_ask with what is heard in the board, a space, rules or marks, or right beside them: at the distances where that changes. */
 #include "first_day.h"
 
 #include "bench_parts.h"
@@ -15,19 +15,26 @@ static struct memory {
     uint8_t apart_1[APART];
     thawribbon_bytes ordinary_rules;
     uint8_t apart_2[APART];
-    thawribbon_bytes trusted;
+    thawribbon_bytes ordinary_marks;
     uint8_t apart_3[APART];
-    thawribbon_bytes trusted_rules;
+    thawribbon_bytes trusted;
     uint8_t apart_4[APART];
-    thawribbon_board board;
+    thawribbon_bytes trusted_rules;
     uint8_t apart_5[APART];
+    thawribbon_bytes trusted_marks;
+    uint8_t apart_6[APART];
+    thawribbon_board board;
+    uint8_t apart_7[APART];
 } memory, expected;
 
 static void set_up(void)
 {
-    const thawribbon_board board = {{0, 0x104, 0x00C}, THAWRIBBON_FRESH, {&memory.ordinary, &memory.ordinary_rules},
-                                    {&memory.trusted, &memory.trusted_rules}};
+    const thawribbon_board board = {{0, 0x104, 0x00C}, THAWRIBBON_FRESH,
+                                    {&memory.ordinary, &memory.ordinary_rules, &memory.ordinary_marks},
+                                    {&memory.trusted, &memory.trusted_rules, &memory.trusted_marks}};
     memset(&memory, 0x5C, sizeof memory);
+    memset(&memory.ordinary_marks, 0xA3, THAWRIBBON_SPACE);
+    memset(&memory.trusted_marks, 0xA3, THAWRIBBON_SPACE);
     memory.board = board;
     memcpy(&expected, &memory, sizeof memory);
 }
@@ -67,6 +74,12 @@ static void around_rules(void)
     around(offsetof(struct memory, trusted_rules), THAWRIBBON_SPACE);
 }
 
+static void around_marks(void)
+{
+    around(offsetof(struct memory, ordinary_marks), THAWRIBBON_SPACE);
+    around(offsetof(struct memory, trusted_marks), THAWRIBBON_SPACE);
+}
+
 static void around_board(void)
 {
     around(offsetof(struct memory, board), sizeof(thawribbon_board));
@@ -76,5 +89,6 @@ void heard_overlaps(void)
 {
     group("ask, what is heard in a space or beside it", around_spaces);
     group("ask, what is heard in rules or beside them", around_rules);
+    group("ask, what is heard in marks or beside them", around_marks);
     group("ask, what is heard in the board or beside it", around_board);
 }

@@ -34,16 +34,22 @@ static void hold_board(void)
     held.board.capture = thawribbon_fresh();
     held.board.ordinary.bytes = space_bytes(&ordinary);
     held.board.ordinary.rules = space_bytes(&ordinary_rules);
+    held.board.ordinary.marks = space_bytes(&ordinary_marks);
     held.board.trusted.bytes = space_bytes(&trusted);
     held.board.trusted.rules = space_bytes(&trusted_rules);
+    held.board.trusted.marks = space_bytes(&trusted_marks);
+}
+
+static int same_space(thawribbon_space one, thawribbon_space other)
+{
+    return one.bytes == other.bytes && one.rules == other.rules && one.marks == other.marks;
 }
 
 static int same_board(const thawribbon_board *one, const thawribbon_board *other)
 {
     return one->description.function == other->description.function && one->description.a == other->description.a &&
            one->description.b == other->description.b && same_capture(one->capture, other->capture) &&
-           one->ordinary.bytes == other->ordinary.bytes && one->ordinary.rules == other->ordinary.rules &&
-           one->trusted.bytes == other->trusted.bytes && one->trusted.rules == other->trusted.rules;
+           same_space(one->ordinary, other->ordinary) && same_space(one->trusted, other->trusted);
 }
 
 static void guards_hold(size_t at)
@@ -139,20 +145,26 @@ static void refused_packets(void)
 static void forgotten_buffers(void)
 {
     size_t n;
-    for (n = 0; n < 5; n++) {
+    for (n = 0; n < 7; n++) {
         hold_board();
         send_packet(write_packet, 16);
-        if (n == 0 || n == 4) {
+        if (n == 0 || n == 6) {
             held.board.ordinary.bytes = NULL;
         }
-        if (n == 1 || n == 4) {
+        if (n == 1 || n == 6) {
             held.board.ordinary.rules = NULL;
         }
-        if (n == 2 || n == 4) {
+        if (n == 2 || n == 6) {
+            held.board.ordinary.marks = NULL;
+        }
+        if (n == 3 || n == 6) {
             held.board.trusted.bytes = NULL;
         }
-        if (n == 3 || n == 4) {
+        if (n == 4 || n == 6) {
             held.board.trusted.rules = NULL;
+        }
+        if (n == 5 || n == 6) {
+            held.board.trusted.marks = NULL;
         }
         board_refuses(THAWRIBBON_BAD_DESCRIPTION, n);
     }
@@ -182,8 +194,10 @@ static void same_as_serve(void)
     static buffer ordinary_then, trusted_then;
     size_t n, outcomes[3] = {0, 0, 0};
     hold_board();
-    fill(&ordinary_rules, 0xF3, THAWRIBBON_SPACE);
-    fill(&trusted_rules, 0x3F, THAWRIBBON_SPACE);
+    fill(&ordinary_rules, 0xF2, THAWRIBBON_SPACE);
+    fill(&ordinary_marks, 0x0C, THAWRIBBON_SPACE);
+    fill(&trusted_rules, 0x1F, THAWRIBBON_SPACE);
+    fill(&trusted_marks, 0xC0, THAWRIBBON_SPACE);
     for (n = 0; n < 4000; n++) {
         thawribbon_served served;
         thawribbon_outcome outcome;
@@ -198,8 +212,9 @@ static void same_as_serve(void)
         memcpy(trusted.held, trusted_then.held, sizeof trusted.held);
         fill(&reply, 0x00, THAWRIBBON_REPLY);
         served = thawribbon_serve(description, kept, lent(&ordinary), ordinary.length, lent(&ordinary_rules), ordinary_rules.length,
-                                  lent(&trusted), trusted.length, lent(&trusted_rules), trusted_rules.length, lent(&packet),
-                                  packet.length, lent(&reply), reply.length);
+                                  lent(&ordinary_marks), ordinary_marks.length, lent(&trusted), trusted.length, lent(&trusted_rules),
+                                  trusted_rules.length, lent(&trusted_marks), trusted_marks.length, lent(&packet), packet.length,
+                                  lent(&reply), reply.length);
         expect(is_as_expected(&ordinary) && is_as_expected(&trusted), "another space", n);
         expect(same_capture(served.capture, held.board.capture), "another capture", n);
         expect(served.number == held.answer.number, "another number", n);

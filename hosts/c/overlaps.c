@@ -7,11 +7,28 @@
 #include <string.h>
 
 /* What it is lent. It writes the first four, so these may overlap none; the others it only reads. */
-enum { BOARD, ANSWER, ORDINARY, TRUSTED, ORDINARY_RULES, TRUSTED_RULES, PACKET, LENT, READ_ONLY = ORDINARY_RULES };
+enum {
+    BOARD,
+    ANSWER,
+    ORDINARY,
+    TRUSTED,
+    ORDINARY_RULES,
+    ORDINARY_MARKS,
+    TRUSTED_RULES,
+    TRUSTED_MARKS,
+    PACKET,
+    LENT,
+    READ_ONLY = ORDINARY_RULES
+};
 
-static const size_t lengths[LENT] = {sizeof(thawribbon_board), sizeof(thawribbon_answer), THAWRIBBON_SPACE, THAWRIBBON_SPACE,
-                                     THAWRIBBON_SPACE,         THAWRIBBON_SPACE,          16};
-static const uint8_t trusted_write[16] = {THAWRIBBON_TRUSTED_WRITE, 0, 0, 1, 1, 0, 7, 0x0F, 0x05, 0x18, 0, 4, 0x11, 0x22, 0x33, 0x44};
+static const size_t lengths[LENT] = {sizeof(thawribbon_board), sizeof(thawribbon_answer), THAWRIBBON_SPACE, THAWRIBBON_SPACE, THAWRIBBON_SPACE,
+                                     THAWRIBBON_SPACE, THAWRIBBON_SPACE, THAWRIBBON_SPACE, 16};
+
+/* The one place that can be written. Wherever the buffers are put, no struct and no packet comes to lie there in marks: so no bit is in both
+ * rules and marks, and only an overlap is answered 1. */
+enum { PLACE = 0x804 };
+static const uint8_t trusted_write[16] = {THAWRIBBON_TRUSTED_WRITE, 0, 0, 1, 1, 0, 7, 0x0F,
+                                          0x05, 0x18, PLACE >> 8, PLACE & 0xFF, 0x11, 0x22, 0x33, 0x44};
 
 /* All of them lie in here, at these places. */
 enum { FAR = 3 * THAWRIBBON_SPACE };
@@ -40,15 +57,25 @@ static void far_apart(void)
     }
 }
 
-/* Has the board, with everything at its place, answer the trusted write or its first bytes. Every byte that no one sets is FFh. */
+/* A space whose buffers are at their places. */
+static thawribbon_space space(size_t bytes, size_t rules, size_t marks)
+{
+    thawribbon_space one;
+    one.bytes = (thawribbon_bytes *)placed(bytes);
+    one.rules = (thawribbon_bytes *)placed(rules);
+    one.marks = (thawribbon_bytes *)placed(marks);
+    return one;
+}
+
+/* Has the board, with everything at its place, answer the trusted write or its first bytes. Every byte that no one sets is 0. */
 static thawribbon_outcome serve(size_t packet_length)
 {
-    thawribbon_board board = {{0, 0x104, 0x00C}, {1, 0x05, 3}, {NULL, NULL}, {NULL, NULL}};
-    board.ordinary.bytes = (thawribbon_bytes *)placed(ORDINARY);
-    board.ordinary.rules = (thawribbon_bytes *)placed(ORDINARY_RULES);
-    board.trusted.bytes = (thawribbon_bytes *)placed(TRUSTED);
-    board.trusted.rules = (thawribbon_bytes *)placed(TRUSTED_RULES);
-    memset(memory.bytes, 0xFF, sizeof memory.bytes);
+    thawribbon_board board = {{0, 0x104, 0x00C}, {1, 0x05, 3}, {NULL, NULL, NULL}, {NULL, NULL, NULL}};
+    board.ordinary = space(ORDINARY, ORDINARY_RULES, ORDINARY_MARKS);
+    board.trusted = space(TRUSTED, TRUSTED_RULES, TRUSTED_MARKS);
+    memset(memory.bytes, 0, sizeof memory.bytes);
+    memset(placed(ORDINARY_RULES) + PLACE, 0xFF, 4);
+    memset(placed(TRUSTED_RULES) + PLACE, 0xFF, 4);
     memcpy(placed(PACKET), trusted_write, sizeof trusted_write);
     memcpy(placed(BOARD), &board, sizeof board);
     memcpy(before, memory.bytes, sizeof before);
@@ -65,7 +92,7 @@ static void rest_is_as_before(size_t at)
 static void is_done(size_t at)
 {
     expect(serve(16) == THAWRIBBON_DONE && answer()->outcome == THAWRIBBON_DONE, "it was not done", at);
-    memcpy(before + places[TRUSTED] + 0x004, trusted_write + THAWRIBBON_DATA, 4);
+    memcpy(before + places[TRUSTED] + PLACE, trusted_write + THAWRIBBON_DATA, 4);
     rest_is_as_before(at);
 }
 
@@ -108,7 +135,7 @@ static void every_two(void)
     }
 }
 
-/* What is only read may be the same. */
+/* What is only read may be the same, or overlap. */
 static void same_rules(void)
 {
     far_apart();
@@ -116,6 +143,19 @@ static void same_rules(void)
     is_done(0);
     places[TRUSTED_RULES]++;
     is_done(1);
+}
+
+static void same_marks(void)
+{
+    far_apart();
+    places[TRUSTED_MARKS] = places[ORDINARY_MARKS];
+    is_done(0);
+    places[TRUSTED_MARKS]++;
+    is_done(1);
+    places[TRUSTED_MARKS] = places[TRUSTED_RULES] + 16;
+    is_done(2);
+    places[PACKET] = places[ORDINARY_MARKS];
+    is_done(3);
 }
 
 /* A packet without bytes overlaps nothing, wherever its pointer leads. */
@@ -133,5 +173,6 @@ void overlaps(void)
 {
     group("board, every two buffers that overlap or touch", every_two);
     group("board, the same rules twice", same_rules);
+    group("board, the same marks twice, in rules, and with the packet in them", same_marks);
     group("board, an empty packet in another buffer", empty_packets);
 }

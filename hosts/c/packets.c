@@ -103,6 +103,11 @@ static void ordinary_rules_lengths(void)
     every_length_of(&ordinary_rules);
 }
 
+static void ordinary_marks_lengths(void)
+{
+    every_length_of(&ordinary_marks);
+}
+
 static void trusted_lengths(void)
 {
     every_length_of(&trusted);
@@ -111,6 +116,11 @@ static void trusted_lengths(void)
 static void trusted_rules_lengths(void)
 {
     every_length_of(&trusted_rules);
+}
+
+static void trusted_marks_lengths(void)
+{
+    every_length_of(&trusted_marks);
 }
 
 static void packet_lengths(void)
@@ -159,21 +169,23 @@ static void reply_lengths(void)
 /* Each buffer with length 0 and NULL, 1 or the last address there is, by itself and then all of them. */
 static void serve_nothing(void)
 {
-    static buffer *const all[6] = {&ordinary, &ordinary_rules, &trusted, &trusted_rules, &packet, &reply};
-    static const uint8_t numbers[6] = {1, 1, 1, 1, 3, 2};
+    enum { ALL = 8 };
+    static buffer *const all[ALL] = {&ordinary, &ordinary_rules, &ordinary_marks, &trusted,
+                                     &trusted_rules, &trusted_marks, &packet, &reply};
+    static const uint8_t numbers[ALL] = {1, 1, 1, 1, 1, 1, 3, 2};
     size_t one, n;
     for (n = 0; n < POINTERS; n++) {
-        for (one = 0; one < 6; one++) {
+        for (one = 0; one < ALL; one++) {
             fresh_board();
             kept = five_three;
             send_packet(write_packet, 16);
             lend_instead(all[one], pointer_to_nothing(n));
             refuses(numbers[one], one);
         }
-        for (one = 0; one < 6; one++) {
+        for (one = 0; one < ALL; one++) {
             lend_instead(all[one], pointer_to_nothing(n));
         }
-        refuses(THAWRIBBON_BAD_DESCRIPTION, 6);
+        refuses(THAWRIBBON_BAD_DESCRIPTION, ALL);
     }
 }
 
@@ -211,7 +223,7 @@ static void lowest_number(void)
     }
 }
 
-/* Both rules may be the same bytes, and the packet may lie among them: they are only read. */
+/* Both rules may be the same bytes, and both marks, and the packet may lie among the rules: they are only read. */
 static void overlapping_rules(void)
 {
     thawribbon_served served;
@@ -221,10 +233,28 @@ static void overlapping_rules(void)
     should_hold(&ordinary, 0x004, landed, 4);
     should_hold(&reply, 0, written, 12);
     served = thawribbon_serve(description, kept, lent(&ordinary), ordinary.length, lent(&ordinary_rules), ordinary_rules.length,
-                              lent(&trusted), trusted.length, lent(&ordinary_rules), ordinary_rules.length,
-                              lent(&ordinary_rules) + 0x800, 16, lent(&reply), reply.length);
+                              lent(&ordinary_marks), ordinary_marks.length, lent(&trusted), trusted.length, lent(&ordinary_rules),
+                              ordinary_rules.length, lent(&ordinary_marks), ordinary_marks.length, lent(&ordinary_rules) + 0x800, 16,
+                              lent(&reply), reply.length);
     expect(served.number == THAWRIBBON_SERVED && served.length == 12, "another answer", 0);
     expect(same_capture(served.capture, five_three), "another capture", 0);
+    all_as_expected(0);
+}
+
+/* Rules and marks of a space without either may be the same zeros. */
+static void same_zeros(void)
+{
+    thawribbon_served served;
+    fresh_board();
+    send_packet(write_packet, 16);
+    fill(&ordinary_rules, 0x00, THAWRIBBON_SPACE);
+    remember_all();
+    should_hold(&reply, 0, written, 12);
+    served = thawribbon_serve(description, kept, lent(&ordinary), ordinary.length, lent(&ordinary_rules), ordinary_rules.length,
+                              lent(&ordinary_rules), ordinary_rules.length, lent(&trusted), trusted.length, lent(&ordinary_rules),
+                              ordinary_rules.length, lent(&ordinary_rules), ordinary_rules.length, lent(&packet), packet.length,
+                              lent(&reply), reply.length);
+    expect(served.number == THAWRIBBON_SERVED && served.length == 12, "another answer", 0);
     all_as_expected(0);
 }
 
@@ -240,11 +270,14 @@ void packets(void)
     group("P8", p8);
     group("serve, ordinary spaces of every length", ordinary_lengths);
     group("serve, ordinary rules of every length", ordinary_rules_lengths);
+    group("serve, ordinary marks of every length", ordinary_marks_lengths);
     group("serve, trusted spaces of every length", trusted_lengths);
     group("serve, trusted rules of every length", trusted_rules_lengths);
+    group("serve, trusted marks of every length", trusted_marks_lengths);
     group("serve, packets of every length", packet_lengths);
     group("serve, replies of every length", reply_lengths);
     group("serve, NULL and other pointers with length 0", serve_nothing);
     group("serve, the lowest number", lowest_number);
-    group("serve, rules and packet that overlap", overlapping_rules);
+    group("serve, rules and packet that overlap, and marks that are the same", overlapping_rules);
+    group("serve, rules and marks that are the same zeros", same_zeros);
 }

@@ -7,7 +7,7 @@
  * one of them. Numbers ending in h are hexadecimal.
  *
  * The packet that has to land is a trusted write. A board takes it only when a Type 0 write has told it its bus and device number. Done is
- * not landed: a write that is done has changed only the bits that the space's write rules let it change. So read it back, and compare:
+ * not landed: a write that is done has changed only the bits that the space's rules and marks let it change. So read it back, and compare:
  *
  *     int renew(thawribbon_board *board, const uint8_t type0_write[16], const uint8_t trusted_write[16], const uint8_t trusted_read[12])
  *     {
@@ -21,6 +21,8 @@
  *         data = thawribbon_data(&answer);
  *         return data != NULL && memcmp(data, trusted_write + THAWRIBBON_DATA, 4) == 0;
  *     }
+ *
+ * A bit that is marked, such as an error status bit, is cleared by writing 1 and reads 0 then. It has landed where it reads 0.
  *
  * There are two parts. The first declares the functions of libthawribbon.a, which are compiled from proved code. The second, from
  * "Helpers" on, is inline C over them, tried and not proved: a board in one struct, what became of a packet, what leaves a switch, what
@@ -58,9 +60,9 @@ extern "C" {
 #endif
 
 /* The version of this header, and of the archive that came with it. */
-#define THAWRIBBON_VERSION "0.6.0"
+#define THAWRIBBON_VERSION "0.7.0"
 #define THAWRIBBON_VERSION_MAJOR 0
-#define THAWRIBBON_VERSION_MINOR 6
+#define THAWRIBBON_VERSION_MINOR 7
 #define THAWRIBBON_VERSION_PATCH 0
 
 /* An answer that is dropped is an answer that nobody looked at: compilers that can, warn. */
@@ -69,16 +71,23 @@ extern "C" {
 #else
 #define THAWRIBBON_MUST_USE
 #endif
+/* What a program may leave unused: no compiler warns. */
+#if defined(__GNUC__)
+#define THAWRIBBON_MAY_USE __attribute__((unused))
+#else
+#define THAWRIBBON_MAY_USE
+#endif
 
 /* The answer numbers, and when each is given: by document 01, and by what document 02 adds and changes. 7 is given no more. */
 enum thawribbon_number {
     /* served; the completion, or at a router the verdict, may still be Unsupported Request (UR) */
     THAWRIBBON_SERVED = 0,
-    /* a space or rule space isn't 4,096 bytes, a captured device is over 31, a function number or A or B is outside its range, a record is
-       asked for where none may stand (rule 2.2); at a router, a list has over 32 ports, a port's secondary bus is over its subordinate bus,
-       or two ranges of buses meet (rule 10.2); at thawribbon_ports_route, also where what leaves overlaps the ports or the packet; of a
-       request to be written, its kind is none of the six, its device is over 31, its function over 7, its offset over FFCh or not a
-       multiple of 4, or its enables over 15; at thawribbon_board_ask, also where what is heard overlaps the board */
+    /* a space, its rules or its marks aren't 4,096 bytes, a bit is 1 in the rules and in the marks of a space, a captured device is over
+       31, a function number or A or B is outside its range, a record is asked for where none may stand (rule 2.2); at
+       thawribbon_board_serve, also where buffers overlap; at a router, a list has over 32 ports, a port's secondary bus is over its
+       subordinate bus, or two ranges of buses meet (rule 10.2); at thawribbon_ports_route, also where what leaves overlaps the ports or the
+       packet; of a request to be written, its kind is none of the six, its device is over 31, its function over 7, its offset over FFCh or
+       not a multiple of 4, or its enables over 15; at thawribbon_board_ask, also where what is heard overlaps the board */
     THAWRIBBON_BAD_DESCRIPTION = 1,
     /* the reply is under 16 bytes, the list room is under the list's maximum, the buffer for what leaves is under 20 bytes, or the buffer
        for a request is shorter than the request */
@@ -104,7 +113,7 @@ enum thawribbon_number {
     THAWRIBBON_COMES_BACK = 12
 };
 
-/* The bytes of a space, and of a rule space. */
+/* The bytes of a space, of its rules and of its marks. */
 #define THAWRIBBON_SPACE 4096
 /* The bytes that a reply must have; 12 or 16 of them are written. */
 #define THAWRIBBON_REPLY 16
@@ -261,25 +270,33 @@ typedef struct thawribbon_heard {
 /*
  * Answers a packet that a board receives: does the access and writes the completion.
  *
- * Takes the board's description, what it has captured (kept), its two spaces, which an access may change, their rules, the packet, and
- * the reply to write into. The lowest number that applies is given:
+ * Takes the board's description, what it has captured (kept), its two spaces, which an access may change, the rules and the marks of each,
+ * the packet, and the reply to write into. Of the bytes that a write enables, a bit that is 1 in the rules becomes the data bit. A bit that
+ * is 1 in the marks becomes 0 where the data bit is 1, and stays where it is 0: error status bits are such. Every other bit stays, and an
+ * ordinary write at A changes none. A space without marked bits has marks of 4,096 zeros: thawribbon_no_marks of the helpers.
+ *
+ * The lowest number that applies is given:
  *   0  served. `length` bytes of the reply are the completion, and those past them stay as lent. Its byte 6 is 00h where the access was
- *      done, and 20h where it is an Unsupported Request: then nothing but the reply has changed. The spaces are as the rules say,
+ *      done, and 20h where it is an Unsupported Request: then nothing but the reply has changed. The spaces are as rules and marks say,
  *      and `capture` is to be kept for the next packet: {0, 0, 0} while nothing is captured, else {1, bus, device}.
- *   1  the ordinary or trusted space or one of the rule spaces isn't 4,096 bytes, the captured device is over 31, the function number is
- *      over 7, or a or b is outside its range.
+ *   1  the ordinary or trusted space, its rules or its marks aren't 4,096 bytes, a bit is 1 in the rules and in the marks of one space, the
+ *      captured device is over 31, the function number is over 7, or a or b is outside its range. All rules and marks are looked at for
+ *      every packet.
  *   2  the reply is under 16 bytes, also where 12 would be written.
  *   3  the packet has fewer than 12 bytes.
  *   4  the type code isn't one of the six.
  *   5  the packet isn't 12 bytes, plus 4 for a write, plus 4 if the digest bit is set.
  *   6  TC, Attr or the last enables aren't 0, or Length isn't 1.
- * Any number but 0 leaves spaces and reply unchanged, and gives length 0 and `kept` back, byte for byte.
+ * Any number but 0 leaves spaces and reply unchanged, and gives length 0 and `kept` back, byte for byte. Rules, marks and packet are only
+ * read.
  */
 THAWRIBBON_MUST_USE thawribbon_served thawribbon_serve(thawribbon_description description, thawribbon_capture kept,
                                                        uint8_t *ordinary, size_t ordinary_length,
                                                        const uint8_t *ordinary_rules, size_t ordinary_rules_length,
+                                                       const uint8_t *ordinary_marks, size_t ordinary_marks_length,
                                                        uint8_t *trusted, size_t trusted_length,
                                                        const uint8_t *trusted_rules, size_t trusted_rules_length,
+                                                       const uint8_t *trusted_marks, size_t trusted_marks_length,
                                                        const uint8_t *packet, size_t packet_length,
                                                        uint8_t *reply, size_t reply_length);
 
@@ -413,16 +430,21 @@ THAWRIBBON_MUST_USE thawribbon_heard thawribbon_read_completion(const uint8_t *c
 
 /* ---- Helpers: inline, over the functions above, and not proved. ---- */
 
-/* The 4,096 bytes of a space, or of its rules. A type of its own, so that a compiler sees a buffer of another size. */
+/* The 4,096 bytes of a space, of its rules, or of its marks. A type of its own, so that a compiler sees a buffer of another size. */
 typedef struct thawribbon_bytes {
     uint8_t at[THAWRIBBON_SPACE];
 } thawribbon_bytes;
 
-/* A space and its rules, lent to a board. One that is NULL counts as a buffer without bytes: answer 1. So do all, where one that is
- * written overlaps another. */
+/* The marks of a space that has no bits that are cleared by writing 1. Any number of spaces may have them. */
+THAWRIBBON_MAY_USE static const thawribbon_bytes thawribbon_no_marks = {{0}};
+
+/* A space with its rules and its marks, lent to a board. One of them that is NULL counts as a buffer without bytes: answer 1, also for marks
+ * that were forgotten. So do all, where one that is written overlaps another. Spaces may have the same rules, and the same marks. */
 typedef struct thawribbon_space {
     thawribbon_bytes *bytes;       /* what accesses read and write */
-    const thawribbon_bytes *rules; /* a bit that is 1 marks a bit that can be written; spaces may have the same rules */
+    const thawribbon_bytes *rules; /* a bit that is 1 marks a bit that can be written */
+    const thawribbon_bytes *marks; /* a bit that is 1 marks a bit that is cleared by writing 1; no bit may be marked here and in the rules.
+                                      &thawribbon_no_marks where there is none */
 } thawribbon_space;
 
 /*
@@ -431,8 +453,8 @@ typedef struct thawribbon_space {
  *   static thawribbon_board board = {
  *       .description = {.function = 0, .a = 0x104, .b = 0x00C},
  *       .capture = THAWRIBBON_FRESH,
- *       .ordinary = {.bytes = &ordinary, .rules = &rules},
- *       .trusted = {.bytes = &trusted, .rules = &rules},
+ *       .ordinary = {.bytes = &ordinary, .rules = &rules, .marks = &thawribbon_no_marks},
+ *       .trusted = {.bytes = &trusted, .rules = &rules, .marks = &thawribbon_no_marks},
  *   };
  */
 typedef struct thawribbon_board {
@@ -444,7 +466,7 @@ typedef struct thawribbon_board {
 
 /* What became of a packet. */
 typedef enum thawribbon_outcome {
-    /* the access was done. A write changed what the enables and the rules let it change, which may be nothing */
+    /* the access was done. A write changed what the enables, the rules and the marks let it change, which may be nothing */
     THAWRIBBON_DONE = 0,
     /* Unsupported Request: the access was not done, and nothing but the completion has changed */
     THAWRIBBON_UNSUPPORTED_REQUEST = 1,
@@ -498,22 +520,28 @@ static inline int thawribbon_overlap(const void *one, size_t one_length, const v
     return (uintptr_t)one - (uintptr_t)other + (one_length - 1) < one_length + other_length - 1;
 }
 
-/* Whether a buffer overlaps a space or its rules. */
-static inline int thawribbon_overlap_space(const void *one, size_t one_length, thawribbon_space space)
+/* Whether a buffer overlaps what is only read of a space: its rules or its marks. */
+static inline int thawribbon_overlap_read(const void *one, size_t one_length, thawribbon_space space)
 {
-    return thawribbon_overlap(one, one_length, space.bytes, THAWRIBBON_SPACE) |
-           thawribbon_overlap(one, one_length, space.rules, THAWRIBBON_SPACE);
+    return thawribbon_overlap(one, one_length, space.rules, THAWRIBBON_SPACE) |
+           thawribbon_overlap(one, one_length, space.marks, THAWRIBBON_SPACE);
 }
 
-/* Whether what thawribbon_board_serve writes (spaces, board, answer) overlaps anything that it is lent: eighteen comparisons. NULL counts as
- * 4,096 bytes here, which changes nothing: it is answered 1 in any case. */
+/* Whether a buffer overlaps a space, its rules or its marks. */
+static inline int thawribbon_overlap_space(const void *one, size_t one_length, thawribbon_space space)
+{
+    return thawribbon_overlap(one, one_length, space.bytes, THAWRIBBON_SPACE) | thawribbon_overlap_read(one, one_length, space);
+}
+
+/* Whether what thawribbon_board_serve writes (spaces, board, answer) overlaps anything that it is lent: twenty-six comparisons. NULL counts
+ * as 4,096 bytes here, which changes nothing: it is answered 1 in any case. */
 static inline int thawribbon_board_overlaps(const thawribbon_board *board, const uint8_t *packet, size_t packet_length,
                                             const thawribbon_answer *answer)
 {
     const thawribbon_space ordinary = board->ordinary, trusted = board->trusted;
-    const int spaces = thawribbon_overlap(ordinary.bytes, THAWRIBBON_SPACE, ordinary.rules, THAWRIBBON_SPACE) |
-                       thawribbon_overlap(trusted.bytes, THAWRIBBON_SPACE, ordinary.rules, THAWRIBBON_SPACE) |
-                       thawribbon_overlap(trusted.bytes, THAWRIBBON_SPACE, trusted.rules, THAWRIBBON_SPACE) |
+    const int spaces = thawribbon_overlap_read(ordinary.bytes, THAWRIBBON_SPACE, ordinary) |
+                       thawribbon_overlap_read(trusted.bytes, THAWRIBBON_SPACE, ordinary) |
+                       thawribbon_overlap_read(trusted.bytes, THAWRIBBON_SPACE, trusted) |
                        thawribbon_overlap_space(ordinary.bytes, THAWRIBBON_SPACE, trusted);
     const int structs = thawribbon_overlap_space(board, sizeof *board, ordinary) |
                         thawribbon_overlap_space(board, sizeof *board, trusted) |
@@ -541,7 +569,7 @@ THAWRIBBON_MUST_USE static inline thawribbon_outcome thawribbon_board_serve(thaw
                                                                             const uint8_t *packet, size_t packet_length,
                                                                             thawribbon_answer *answer)
 {
-    const thawribbon_space nothing = {NULL, NULL};
+    const thawribbon_space nothing = {NULL, NULL, NULL};
     const thawribbon_answer none = {THAWRIBBON_REFUSED, 0, 0,
                                     {0xFF, 0xFF, 0xFF, 0xFF, 0xFF, 0xFF, 0xFF, 0xFF, 0xFF, 0xFF, 0xFF, 0xFF, 0xFF, 0xFF, 0xFF, 0xFF}};
     const int overlaps = thawribbon_board_overlaps(board, packet, packet_length, answer);
@@ -553,8 +581,10 @@ THAWRIBBON_MUST_USE static inline thawribbon_outcome thawribbon_board_serve(thaw
     served = thawribbon_serve(description, kept,
                               thawribbon_bytes_written(ordinary.bytes), thawribbon_bytes_length(ordinary.bytes),
                               thawribbon_bytes_read(ordinary.rules), thawribbon_bytes_length(ordinary.rules),
+                              thawribbon_bytes_read(ordinary.marks), thawribbon_bytes_length(ordinary.marks),
                               thawribbon_bytes_written(trusted.bytes), thawribbon_bytes_length(trusted.bytes),
                               thawribbon_bytes_read(trusted.rules), thawribbon_bytes_length(trusted.rules),
+                              thawribbon_bytes_read(trusted.marks), thawribbon_bytes_length(trusted.marks),
                               packet, packet_length, answer->completion, sizeof answer->completion);
     if (!overlaps) {
         board->capture = served.capture;
@@ -584,7 +614,8 @@ THAWRIBBON_MUST_USE static inline const char *thawribbon_text(unsigned number)
     case THAWRIBBON_SERVED:
         return "served, though the completion or the router's verdict may be Unsupported Request";
     case THAWRIBBON_BAD_DESCRIPTION:
-        return "a space or rule space of 4,096 bytes is not lent, a captured device is over 31, "
+        return "a space, rules or marks of 4,096 bytes are not lent, a bit is in both the rules and the marks of a space, "
+               "a captured device is over 31, "
                "a function number or A or B is outside its range, a record is asked for where none may stand, "
                "a list has over 32 ports, a secondary bus over its subordinate bus, or two ranges that meet, "
                "what leaves overlaps the ports or the packet, what is heard overlaps the board, "
@@ -732,8 +763,8 @@ THAWRIBBON_MUST_USE static inline thawribbon_parts thawribbon_write_parts(uint8_
 
 /* What is heard of a request. */
 typedef enum thawribbon_asked {
-    /* the access was done. A read's four bytes are what is heard; a write changed what the enables and the rules let it change, which may
-       be nothing */
+    /* the access was done. A read's four bytes are what is heard; a write changed what the enables, the rules and the marks let it change,
+       which may be nothing */
     THAWRIBBON_ASKED_DONE = 0,
     /* Unsupported Request: the access was not done, and nothing has changed */
     THAWRIBBON_ASKED_UNSUPPORTED = 1,
@@ -781,7 +812,7 @@ static inline thawribbon_asked thawribbon_hear_nothing(uint8_t number, thawribbo
     return THAWRIBBON_ASKED_REFUSED;
 }
 
-/* Whether what is heard overlaps the board, or a space or rules of it. */
+/* Whether what is heard overlaps the board, or a space, rules or marks of it. */
 static inline int thawribbon_heard_overlaps(const thawribbon_board *board, const thawribbon_heard *heard)
 {
     return thawribbon_overlap(board, sizeof *board, heard, sizeof *heard) |
@@ -796,8 +827,8 @@ static inline int thawribbon_heard_overlaps(const thawribbon_board *board, const
  * Sets every member of `heard`. Only THAWRIBBON_ASKED_DONE means that the access was done: after a read, heard->data is what it gave. With
  * THAWRIBBON_ASKED_REFUSED, heard->number says why, and nothing has changed in the board. The board and `heard` are not NULL.
  *
- * Where `heard` overlaps the board, a space or its rules, or the board's buffers overlap each other, the number is 1, and nothing is
- * written but `heard`.
+ * Where `heard` overlaps the board, a space, its rules or its marks, or the board's buffers overlap each other, the number is 1, and nothing
+ * is written but `heard`.
  */
 THAWRIBBON_MUST_USE static inline thawribbon_asked thawribbon_board_ask(thawribbon_board *board, thawribbon_parts parts,
                                                                         thawribbon_heard *heard)

@@ -10,7 +10,7 @@ void drop(thawribbon_board *board, thawribbon_answer *answer, const uint8_t *byt
     const thawribbon_description description = {0, 0x104, 0x00C};
     const thawribbon_served served = {12, 0, THAWRIBBON_FRESH};
     thawribbon_board_serve(board, bytes, 16, answer);                                                                    /* dropped */
-    thawribbon_serve(description, board->capture, reply, 16, bytes, 16, reply, 16, bytes, 16, bytes, 16, reply, 16);     /* dropped */
+    thawribbon_serve(description, board->capture, reply, 1, bytes, 1, bytes, 1, reply, 1, bytes, 1, bytes, 1, bytes, 1, reply, 1); /* dropped */
     thawribbon_reset(board->capture);                                                                                    /* dropped */
     thawribbon_walk_compatible(bytes, 16, room, 1);                                                                      /* dropped */
     thawribbon_walk_extended(bytes, 16, room, 1);                                                                        /* dropped */

@@ -10,4 +10,5 @@ void lend(thawribbon_board *board)
 {
     board->ordinary.bytes = &small;
     board->ordinary.rules = &whole;
+    board->ordinary.marks = &thawribbon_no_marks;
 }
