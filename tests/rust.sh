@@ -5,8 +5,8 @@
 page=docs/LIBRARY.md
 sources=hosts/thawribbon/src
 # The tests and examples that there are at least.
-least_tests=118
-least_examples=36
+least_tests=129
+least_examples=37
 export CARGO_TERM_COLOR=never
 
 # passed PART: how many tests, or examples, the last run of cargo test passed; it runs the examples last

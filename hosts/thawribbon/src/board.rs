@@ -1,4 +1,4 @@
-//! A board: its description, what it has captured, its two spaces and their rules, and its answers to packets.
+//! A board: its description, what it has captured, its two spaces with their rules and marks, and its answers to packets.
 
 use crate::Offset;
 use crate::completion::Completion;
@@ -30,23 +30,27 @@ pub struct Capture {
     pub device: u8,
 }
 
-/// A space of a board, and its rules, both lent.
+/// A space of a board with its rules and its marks, all lent.
 ///
-/// The sizes are tested by [`Board::serve`]. The rules are only read, so both spaces may have the same ones.
+/// They are tested by [`Board::serve`]. Rules and marks are only read, so both spaces may have the same ones.
 pub struct Space<'a> {
     /// The space, 4,096 bytes.
     pub bytes: &'a mut [u8],
     /// Its rules, 4,096 bytes: a bit that is 1 marks a bit that can be written.
     pub rules: &'a [u8],
+    /// Its marks, 4,096 bytes: a bit that is 1 marks a bit that is cleared by writing 1, such as an error status bit. No bit
+    /// may be marked here and in the rules. [`NO_MARKS`](crate::NO_MARKS) where there is none.
+    pub marks: &'a [u8],
 }
 
-/// How long they are, and not what they hold: a board has 16 KiB.
+/// How long they are, and not what they hold: a board has 24 KiB.
 impl fmt::Debug for Space<'_> {
     fn fmt(&self, formatter: &mut fmt::Formatter<'_>) -> fmt::Result {
         formatter
             .debug_struct("Space")
             .field("bytes", &format_args!("{} bytes", self.bytes.len()))
             .field("rules", &format_args!("{} bytes", self.rules.len()))
+            .field("marks", &format_args!("{} bytes", self.marks.len()))
             .finish()
     }
 }
@@ -70,13 +74,13 @@ impl<'a> Board<'a> {
     /// A fresh board: it has captured none. The spaces are taken as they are.
     ///
     /// ```
-    /// use thawribbon::{Board, Description, SPACE, Space};
+    /// use thawribbon::{Board, Description, NO_MARKS, SPACE, Space};
     ///
     /// let (mut ordinary, mut trusted, rules) = ([0; SPACE], [0; SPACE], [0xFF; SPACE]);
     /// let board = Board::fresh(
     ///     Description { function: 0, a: 0x104, b: 0x00C },
-    ///     Space { bytes: &mut ordinary, rules: &rules },
-    ///     Space { bytes: &mut trusted, rules: &rules },
+    ///     Space { bytes: &mut ordinary, rules: &rules, marks: &NO_MARKS },
+    ///     Space { bytes: &mut trusted, rules: &rules, marks: &NO_MARKS },
     /// );
     /// assert_eq!(board.capture, None);
     /// ```
@@ -93,16 +97,16 @@ impl<'a> Board<'a> {
     /// Answers a packet: does the access, and gives the completion.
     ///
     /// `Ok` means that the access was done, and `?` stops at a write that was not. Done is not landed: a write has
-    /// changed what its enables and the rules let it change, which may be nothing. A read tells.
+    /// changed what its enables, the rules and the marks let it change, which may be nothing. A read tells.
     ///
     /// ```
-    /// use thawribbon::{Board, Capture, Description, Id, NotDone, Refusal, SPACE, Space, Status};
+    /// use thawribbon::{Board, Capture, Description, Id, NO_MARKS, NotDone, Refusal, SPACE, Space, Status};
     ///
     /// let (mut ordinary, mut trusted, rules) = ([0x51; SPACE], [0x72; SPACE], [0xFF; SPACE]);
     /// let mut board = Board::fresh(
     ///     Description { function: 0, a: 0x104, b: 0x00C },
-    ///     Space { bytes: &mut ordinary, rules: &rules },
-    ///     Space { bytes: &mut trusted, rules: &rules },
+    ///     Space { bytes: &mut ordinary, rules: &rules, marks: &NO_MARKS },
+    ///     Space { bytes: &mut trusted, rules: &rules, marks: &NO_MARKS },
     /// );
     ///
     /// // A write of the two lowest bytes at FFCh, for bus 0, device 31, function 0; asked by 01:00.0, with tag 7.
@@ -153,8 +157,9 @@ impl<'a> Board<'a> {
     ///
     /// [`NotDone::Refused`], with the lowest of these that applies; nothing has changed.
     ///
-    /// - [`Refusal::BadDescription`]: a space or rule space isn't 4,096 bytes, the captured device is over 31, the
-    ///   function number is over 7, or A or B is outside its range.
+    /// - [`Refusal::BadDescription`]: a space, its rules or its marks aren't 4,096 bytes, a bit is 1 in the rules and in
+    ///   the marks of a space, the captured device is over 31, the function number is over 7, or A or B is outside its
+    ///   range.
     /// - [`Refusal::ShortPacket`]: the packet has fewer than 12 bytes.
     /// - [`Refusal::UnknownType`]: the type code isn't one of the six.
     /// - [`Refusal::WrongLength`]: the packet isn't 12 bytes, plus 4 for a write, plus 4 if the digest bit is set.
@@ -173,8 +178,10 @@ impl<'a> Board<'a> {
             linked(self.capture),
             self.ordinary.bytes,
             self.ordinary.rules,
+            self.ordinary.marks,
             self.trusted.bytes,
             self.trusted.rules,
+            self.trusted.marks,
             packet,
             &mut reply,
         );
@@ -186,13 +193,13 @@ impl<'a> Board<'a> {
     /// Resets the board: forgets the capture, and changes no byte.
     ///
     /// ```
-    /// use thawribbon::{Board, Capture, Description, SPACE, Space};
+    /// use thawribbon::{Board, Capture, Description, NO_MARKS, SPACE, Space};
     ///
     /// let (mut ordinary, mut trusted, rules) = ([0; SPACE], [0; SPACE], [0xFF; SPACE]);
     /// let mut board = Board::fresh(
     ///     Description { function: 0, a: 0x104, b: 0x00C },
-    ///     Space { bytes: &mut ordinary, rules: &rules },
-    ///     Space { bytes: &mut trusted, rules: &rules },
+    ///     Space { bytes: &mut ordinary, rules: &rules, marks: &NO_MARKS },
+    ///     Space { bytes: &mut trusted, rules: &rules, marks: &NO_MARKS },
     /// );
     /// board.capture = Some(Capture { bus: 0x05, device: 3 });
     /// board.reset();

@@ -1,10 +1,13 @@
-//! The constants of thawribbon.h, under the same names without their prefix.
+//! The constants of thawribbon.h, under the same names without their prefix, and its `thawribbon_no_marks`.
 
 /// The version of this crate, and of the archive that it links.
 pub const VERSION: &str = env!("CARGO_PKG_VERSION");
 
-/// The bytes of a space, and of a rule space.
+/// The bytes of a space, of its rules and of its marks.
 pub const SPACE: usize = 4096;
+
+/// The marks of a space that has no bits that are cleared by writing 1. Any number of spaces may have them.
+pub static NO_MARKS: [u8; SPACE] = [0; SPACE];
 
 /// The bytes that a reply must have; 12 or 16 of them are written.
 pub const REPLY: usize = 16;

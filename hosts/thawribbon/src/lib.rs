@@ -19,10 +19,10 @@
 //! A board takes a trusted write only when a Type 0 write has told it its bus and device number. `?` stops at whatever was
 //! not done: parts that are no request, a packet that was refused, one that was answered Unsupported Request, and a
 //! completion that is another request's. Done is not landed: a write that is done has changed only the bits that the
-//! space's write rules let it change. So it is read back, and compared.
+//! space's rules and marks let it change. So it is read back, and compared.
 //!
 //! ```
-//! use thawribbon::{Board, Description, Id, NotAnswered, Request, SPACE, Said, Space};
+//! use thawribbon::{Board, Description, Id, NO_MARKS, NotAnswered, Request, SPACE, Said, Space};
 //!
 //! /// The board stands for the bus: a packet goes there, and the bytes of a completion come back.
 //! fn ask(board: &mut Board, request: Request) -> Result<Said, NotAnswered> {
@@ -35,8 +35,8 @@
 //!     let (mut ordinary, mut trusted, rules) = ([0; SPACE], [0; SPACE], [0xFF; SPACE]);
 //!     let mut board = Board::fresh(
 //!         Description { function: 0, a: 0x104, b: 0x00C },
-//!         Space { bytes: &mut ordinary, rules: &rules },
-//!         Space { bytes: &mut trusted, rules: &rules },
+//!         Space { bytes: &mut ordinary, rules: &rules, marks: &NO_MARKS },
+//!         Space { bytes: &mut trusted, rules: &rules, marks: &NO_MARKS },
 //!     );
 //!     let host = [0x01, 0x00];
 //!     let target = Id { bus: 0x05, device: 3, function: 0 };
@@ -54,14 +54,14 @@
 //! read back into the same [`Completion`], with the same `Result`, by [`Completion::read`].
 //!
 //! ```
-//! use thawribbon::{Board, DATA, Description, NotDone, SPACE, Space, TRUSTED_READ, TRUSTED_WRITE, TYPE0_WRITE};
+//! use thawribbon::{Board, DATA, Description, NO_MARKS, NotDone, SPACE, Space, TRUSTED_READ, TRUSTED_WRITE, TYPE0_WRITE};
 //!
 //! fn main() -> Result<(), NotDone> {
 //!     let (mut ordinary, mut trusted, rules) = ([0; SPACE], [0; SPACE], [0xFF; SPACE]);
 //!     let mut board = Board::fresh(
 //!         Description { function: 0, a: 0x104, b: 0x00C },
-//!         Space { bytes: &mut ordinary, rules: &rules },
-//!         Space { bytes: &mut trusted, rules: &rules },
+//!         Space { bytes: &mut ordinary, rules: &rules, marks: &NO_MARKS },
+//!         Space { bytes: &mut trusted, rules: &rules, marks: &NO_MARKS },
 //!     );
 //!     let type0_write = [TYPE0_WRITE, 0, 0, 1, 1, 0, 6, 0x00, 0x05, 0x18, 0, 0x10, 0, 0, 0, 0];
 //!     let trusted_write = [TRUSTED_WRITE, 0, 0, 1, 1, 0, 7, 0x0F, 0x05, 0x18, 0, 0x10, 0x11, 0x22, 0x33, 0x44];
@@ -75,21 +75,57 @@
 //! }
 //! ```
 //!
+//! # An error status bit
+//!
+//! Error status bits are cleared by writing 1: so a host clears those that it has seen, and no others. Which bits are such
+//! is said by a space's marks. A marked bit is 0 after a write of 1, and stays after a write of 0; no bit may be in the
+//! marks and in the rules. A space without such bits has [`NO_MARKS`].
+//!
+//! ```
+//! use thawribbon::{Board, Description, Id, NO_MARKS, NotAnswered, Request, SPACE, Said, Space};
+//!
+//! # fn ask(board: &mut Board, request: Request) -> Result<Said, NotAnswered> {
+//! #     let packet = request.packet()?;
+//! #     let reply = board.serve(&packet)?;
+//! #     Ok(request.answered_by(reply.bytes())?.said())
+//! # }
+//! fn main() -> Result<(), NotAnswered> {
+//!     let (mut ordinary, mut trusted, rules, mut marks) = ([0; SPACE], [0; SPACE], [0; SPACE], [0; SPACE]);
+//!     marks[0x007] = 0xF9; // the error bits of the Status register
+//!     ordinary[0x007] = 0xC0; // two errors have come
+//!     let mut board = Board::fresh(
+//!         Description { function: 0, a: 0x104, b: 0x00C },
+//!         Space { bytes: &mut ordinary, rules: &rules, marks: &marks },
+//!         Space { bytes: &mut trusted, rules: &rules, marks: &NO_MARKS },
+//!     );
+//!     let host = [0x01, 0x00];
+//!     let target = Id { bus: 0x05, device: 3, function: 0 };
+//!     let status = Request::type0_read(target, 0x004).enabling(0x8);
+//!     let clear = Request::type0_write(target, 0x004, [0, 0, 0, 0x40]).enabling(0x8);
+//!
+//!     // It is read, one of the two is written 1, and it is read again: that one is gone, and the other stays.
+//!     assert_eq!(ask(&mut board, status.by(host, 1))?, Said::Data([0, 0, 0, 0xC0]));
+//!     ask(&mut board, clear.by(host, 2))?;
+//!     assert_eq!(ask(&mut board, status.by(host, 3))?, Said::Data([0, 0, 0, 0x80]));
+//!     Ok(())
+//! }
+//! ```
+//!
 //! # A board's first three packets
 //!
 //! P1 to P3 of the bench sheet: a fresh board does not know its bus and device number, so it cannot be asked for a
 //! trusted register. An ordinary write tells it, and then it answers.
 //!
 //! ```
-//! use thawribbon::{Board, Capture, Description, NotDone, SPACE, Space};
+//! use thawribbon::{Board, Capture, Description, NO_MARKS, NotDone, SPACE, Space};
 //!
 //! let (mut ordinary, mut trusted, mut rules) = ([0; SPACE], [0; SPACE], [0; SPACE]);
 //! rules[0x004..0x008].fill(0xFF);
 //! trusted[0x004] = 0x08;
 //! let mut board = Board::fresh(
 //!     Description { function: 0, a: 0x104, b: 0x00C },
-//!     Space { bytes: &mut ordinary, rules: &rules },
-//!     Space { bytes: &mut trusted, rules: &rules },
+//!     Space { bytes: &mut ordinary, rules: &rules, marks: &NO_MARKS },
+//!     Space { bytes: &mut trusted, rules: &rules, marks: &NO_MARKS },
 //! );
 //!
 //! // P1: a trusted read, and nothing is captured.
@@ -139,9 +175,9 @@ mod router;
 pub use board::{Board, Capture, Description, Space};
 pub use completion::{Completion, Id, Said, Status};
 pub use constants::{
-    COMPATIBLE_MAXIMUM, DATA, EXTENDED_MAXIMUM, LEAVING, PORTS, REPLY, REQUEST, SPACE, STATUS, STATUS_SUCCESSFUL,
-    STATUS_UNSUPPORTED, TRUSTED_MAXIMUM, TRUSTED_READ, TRUSTED_WRITE, TYPE0_READ, TYPE0_WRITE, TYPE1_READ, TYPE1_WRITE,
-    VERSION,
+    COMPATIBLE_MAXIMUM, DATA, EXTENDED_MAXIMUM, LEAVING, NO_MARKS, PORTS, REPLY, REQUEST, SPACE, STATUS,
+    STATUS_SUCCESSFUL, STATUS_UNSUPPORTED, TRUSTED_MAXIMUM, TRUSTED_READ, TRUSTED_WRITE, TYPE0_READ, TYPE0_WRITE,
+    TYPE1_READ, TYPE1_WRITE, VERSION,
 };
 pub use lists::{Header, List, chain, headers, walk};
 pub use not_answered::NotAnswered;

@@ -193,10 +193,14 @@ mod linked {
             ordinary_length: usize,
             ordinary_rules: *const u8,
             ordinary_rules_length: usize,
+            ordinary_marks: *const u8,
+            ordinary_marks_length: usize,
             trusted: *mut u8,
             trusted_length: usize,
             trusted_rules: *const u8,
             trusted_rules_length: usize,
+            trusted_marks: *const u8,
+            trusted_marks_length: usize,
             packet: *const u8,
             packet_length: usize,
             reply: *mut u8,
@@ -240,6 +244,7 @@ mod linked {
 /// Answers a packet.
 ///
 /// ```
+/// use thawribbon::NO_MARKS;
 /// use thawribbon::raw::{Capture, Description, Served, serve};
 ///
 /// let (mut ordinary, mut trusted, rules, mut reply) = ([0; 4096], [0; 4096], [0xFF; 4096], [0; 16]);
@@ -248,7 +253,8 @@ mod linked {
 ///
 /// // P2's packet.
 /// let packet = [0x44, 0x00, 0x00, 0x01, 0x01, 0x00, 0x07, 0x0F, 0x05, 0x18, 0x00, 0x04, 0x11, 0x22, 0x33, 0x44];
-/// let served = serve(description, fresh, &mut ordinary, &rules, &mut trusted, &rules, &packet, &mut reply);
+/// let served =
+///     serve(description, fresh, &mut ordinary, &rules, &NO_MARKS, &mut trusted, &rules, &NO_MARKS, &packet, &mut reply);
 /// assert_eq!(served, Served { length: 12, number: 0, capture: Capture { captured: 1, bus: 0x05, device: 3 } });
 /// ```
 #[allow(clippy::too_many_arguments)]
@@ -259,8 +265,10 @@ pub fn serve(
     kept: Capture,
     ordinary: &mut [u8],
     ordinary_rules: &[u8],
+    ordinary_marks: &[u8],
     trusted: &mut [u8],
     trusted_rules: &[u8],
+    trusted_marks: &[u8],
     packet: &[u8],
     reply: &mut [u8],
 ) -> Served {
@@ -273,10 +281,14 @@ pub fn serve(
             ordinary.len(),
             ordinary_rules.as_ptr(),
             ordinary_rules.len(),
+            ordinary_marks.as_ptr(),
+            ordinary_marks.len(),
             trusted.as_mut_ptr(),
             trusted.len(),
             trusted_rules.as_ptr(),
             trusted_rules.len(),
+            trusted_marks.as_ptr(),
+            trusted_marks.len(),
             packet.as_ptr(),
             packet.len(),
             reply.as_mut_ptr(),

@@ -12,11 +12,11 @@ use std::fmt;
 #[derive(Clone, Copy, PartialEq, Eq, Hash)]
 #[non_exhaustive]
 pub enum Refusal {
-    /// A space or rule space isn't 4,096 bytes, a captured device is over 31, a function number or A or B is outside its
-    /// range, or a record is asked for where none may stand. At a router: a list has over 32 ports, a port's secondary
-    /// bus is over its subordinate bus, or two ranges of buses meet. Of a request to be written: its kind is none of the
-    /// six, a device is over 31, a function over 7, its offset over FFCh or not a multiple of 4, or its enables over 15.
-    /// The overlaps that its text names can only be in C.
+    /// A space, its rules or its marks aren't 4,096 bytes, a bit is 1 in the rules and in the marks of a space, a captured
+    /// device is over 31, a function number or A or B is outside its range, or a record is asked for where none may stand.
+    /// At a router: a list has over 32 ports, a port's secondary bus is over its subordinate bus, or two ranges of buses
+    /// meet. Of a request to be written: its kind is none of the six, a device is over 31, a function over 7, its offset
+    /// over FFCh or not a multiple of 4, or its enables over 15. The overlaps that its text names can only be in C.
     BadDescription,
     /// The reply is under 16 bytes, the list room is under the list's maximum, the buffer for what leaves is under 20
     /// bytes, or the buffer for a request is shorter than the request.
@@ -118,7 +118,8 @@ impl Refusal {
     pub const fn text(self) -> &'static str {
         match self {
             Refusal::BadDescription => {
-                "a space or rule space of 4,096 bytes is not lent, a captured device is over 31, \
+                "a space, rules or marks of 4,096 bytes are not lent, a bit is in both the rules and the marks of a space, \
+                 a captured device is over 31, \
                  a function number or A or B is outside its range, a record is asked for where none may stand, \
                  a list has over 32 ports, a secondary bus over its subordinate bus, or two ranges that meet, \
                  what leaves overlaps the ports or the packet, what is heard overlaps the board, \

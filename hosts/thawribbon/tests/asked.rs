@@ -6,7 +6,7 @@ mod common;
 
 use common::SPACE;
 use common::asking::{HOST, KINDS, TARGET, id, reads, request};
-use thawribbon::{Board, Completion, Description, Kind, NotAnswered, NotDone, Refusal, Request, Said, Space};
+use thawribbon::{Board, Completion, Description, Kind, NO_MARKS, NotAnswered, NotDone, Refusal, Request, Said, Space};
 
 /// The board of the bench sheet, fresh, with rules FFh everywhere.
 fn with_board(run: impl FnOnce(&mut Board)) {
@@ -21,10 +21,12 @@ fn with_board(run: impl FnOnce(&mut Board)) {
         Space {
             bytes: &mut ordinary,
             rules: &rules,
+            marks: &NO_MARKS,
         },
         Space {
             bytes: &mut trusted,
             rules: &rules,
+            marks: &NO_MARKS,
         },
     ));
 }

@@ -4,7 +4,7 @@
 mod common;
 
 use common::{Bench, TRUSTED_READ, WRITE, WRITTEN};
-use thawribbon::{Board, Capture, Description, NotDone, SPACE, Space, raw};
+use thawribbon::{Board, Capture, Description, NO_MARKS, NotDone, SPACE, Space, raw};
 
 const FIVE_THREE: Option<Capture> = Some(Capture { bus: 0x05, device: 3 });
 
@@ -96,7 +96,11 @@ fn reset_changes_no_byte_and_the_next_trusted_read_is_unsupported() {
         b: 0x00C,
     };
     let rules = &rules;
-    let [first, second] = [&mut ordinary, &mut trusted].map(|bytes| Space { bytes, rules });
+    let [first, second] = [&mut ordinary, &mut trusted].map(|bytes| Space {
+        bytes,
+        rules,
+        marks: &NO_MARKS,
+    });
     let mut board = Board::fresh(description, first, second);
     board.serve(&WRITE).expect("P2");
     assert_eq!(board.capture, FIVE_THREE);

@@ -5,7 +5,7 @@ mod common;
 
 use common::{SPACE, TRUSTED_READ, WRITE, WRITTEN, is_completion};
 use std::error::Error;
-use thawribbon::{Board, Capture, Completion, Description, NotDone, Refusal, Space, Status, dvsec};
+use thawribbon::{Board, Capture, Completion, Description, NO_MARKS, NotDone, Refusal, Space, Status, dvsec};
 
 const DESCRIPTION: Description = Description {
     function: 0,
@@ -31,7 +31,11 @@ impl Lent {
 
     fn board(&mut self) -> Board<'_> {
         let rules = &self.rules;
-        let [ordinary, trusted] = [&mut self.ordinary, &mut self.trusted].map(|bytes| Space { bytes, rules });
+        let [ordinary, trusted] = [&mut self.ordinary, &mut self.trusted].map(|bytes| Space {
+            bytes,
+            rules,
+            marks: &NO_MARKS,
+        });
         Board::fresh(DESCRIPTION, ordinary, trusted)
     }
 }
@@ -174,7 +178,7 @@ fn a_board_is_shown_without_its_bytes() {
     assert_eq!(
         shown,
         "Board { description: Description { function: 0, a: 260, b: 12 }, capture: None, \
-         ordinary: Space { bytes: 4096 bytes, rules: 4096 bytes }, \
-         trusted: Space { bytes: 4096 bytes, rules: 4096 bytes } }"
+         ordinary: Space { bytes: 4096 bytes, rules: 4096 bytes, marks: 4096 bytes }, \
+         trusted: Space { bytes: 4096 bytes, rules: 4096 bytes, marks: 4096 bytes } }"
     );
 }

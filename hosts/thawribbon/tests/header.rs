@@ -92,6 +92,13 @@ fn the_constants_are_those_of_the_header() {
     assert_eq!(defined(), BTreeMap::from(expected));
 }
 
+/// The marks of a space without any, in both.
+#[test]
+fn no_marks_are_those_of_the_header() {
+    assert_eq!(thawribbon::NO_MARKS, [0; thawribbon::SPACE]);
+    assert!(HEADER.contains("static const thawribbon_bytes thawribbon_no_marks = {{0}};"));
+}
+
 /// The names and the numbers of an enum of the header.
 fn enumerated(name: &str) -> BTreeMap<&'static str, u8> {
     lines_between(&format!("enum {name} {{"), "};")

@@ -6,7 +6,7 @@ mod common;
 use common::SPACE;
 use common::switch::{THREE, port, request};
 use std::error::Error;
-use thawribbon::{Board, Capture, Description, Leaving, NotRouted, Port, Refusal, Space, dvsec, route};
+use thawribbon::{Board, Capture, Description, Leaving, NO_MARKS, NotRouted, Port, Refusal, Space, dvsec, route};
 
 /// A host's own function, which passes a packet on.
 fn pass_on(ports: &[Port], packet: &[u8]) -> Result<(usize, Vec<u8>), NotRouted> {
@@ -76,7 +76,11 @@ fn board<'a>([ordinary, trusted]: &'a mut [Vec<u8>; 2], rules: &'a [u8]) -> Boar
         a: 0x104,
         b: 0x00C,
     };
-    let [first, second] = [ordinary, trusted].map(|bytes| Space { bytes, rules });
+    let [first, second] = [ordinary, trusted].map(|bytes| Space {
+        bytes,
+        rules,
+        marks: &NO_MARKS,
+    });
     Board::fresh(description, first, second)
 }
 

@@ -36,6 +36,11 @@ fn ordinary_rules() {
 }
 
 #[test]
+fn ordinary_marks() {
+    every_length_of(|bench| &mut bench.ordinary_marks);
+}
+
+#[test]
 fn trusted_space() {
     every_length_of(|bench| &mut bench.trusted);
 }
@@ -43,6 +48,11 @@ fn trusted_space() {
 #[test]
 fn trusted_rules() {
     every_length_of(|bench| &mut bench.trusted_rules);
+}
+
+#[test]
+fn trusted_marks() {
+    every_length_of(|bench| &mut bench.trusted_marks);
 }
 
 #[test]
@@ -154,7 +164,7 @@ fn nothing_but_empty_slices() {
         bus: 0x05,
         device: 3,
     };
-    let served = raw::serve(description, kept, &mut [], &[], &mut [], &[], &[], &mut []);
+    let served = raw::serve(description, kept, &mut [], &[], &[], &mut [], &[], &[], &[], &mut []);
     let refused = raw::Served {
         length: 0,
         number: 1,

@@ -1,9 +1,9 @@
-//! Boards in different threads do not meet: each thread has its own buffers, and the rules are shared, since they are
-//! only read.
+//! Boards in different threads do not meet: each thread has its own buffers, and rules and marks are shared, since they
+//! are only read.
 #![forbid(unsafe_code)]
 
 use std::thread;
-use thawribbon::{Board, Capture, Description, List, SPACE, Space, chain};
+use thawribbon::{Board, Capture, Description, List, NO_MARKS, SPACE, Space, chain};
 
 /// Sends a board 1,024 writes, one for each word, with the thread's own bus number and byte, and reads its extended
 /// list in between.
@@ -14,7 +14,11 @@ fn busy(own: u8, rules: &[u8]) {
         a: 0xFFC,
         b: 0x00C,
     };
-    let [first, second] = [&mut ordinary, &mut trusted].map(|bytes| Space { bytes, rules });
+    let [first, second] = [&mut ordinary, &mut trusted].map(|bytes| Space {
+        bytes,
+        rules,
+        marks: &NO_MARKS,
+    });
     let mut board = Board::fresh(description, first, second);
     for word in 0..1024_u16 {
         let [high, low] = (word * 4).to_be_bytes();

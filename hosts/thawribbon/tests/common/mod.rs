@@ -111,15 +111,17 @@ pub struct Bench {
     pub kept: raw::Capture,
     pub ordinary: Lent<u8>,
     pub ordinary_rules: Lent<u8>,
+    pub ordinary_marks: Lent<u8>,
     pub trusted: Lent<u8>,
     pub trusted_rules: Lent<u8>,
+    pub trusted_marks: Lent<u8>,
     pub packet: Lent<u8>,
     pub reply: Lent<u8>,
 }
 
 impl Bench {
-    /// The board of the bench sheet, fresh: function 0, rules FFh at 004h in both spaces, trusted 004h holding 08 00 00
-    /// 00. All other bytes tell the spaces apart.
+    /// The board of the bench sheet, fresh: function 0, rules FFh at 004h in both spaces, no marks, trusted 004h holding 08
+    /// 00 00 00. All other bytes tell the spaces apart.
     pub fn fresh() -> Self {
         let mut bench = Bench {
             description: raw::Description {
@@ -130,8 +132,10 @@ impl Bench {
             kept: raw::Capture::default(),
             ordinary: lent(&[0x51; SPACE]),
             ordinary_rules: lent(&[0; SPACE]),
+            ordinary_marks: lent(&[0; SPACE]),
             trusted: lent(&[0x72; SPACE]),
             trusted_rules: lent(&[0; SPACE]),
+            trusted_marks: lent(&[0; SPACE]),
             packet: lent(&[]),
             reply: lent(&[0xEE; 20]),
         };
@@ -195,8 +199,10 @@ impl Bench {
             self.kept,
             self.ordinary.part_mut(),
             self.ordinary_rules.part(),
+            self.ordinary_marks.part(),
             self.trusted.part_mut(),
             self.trusted_rules.part(),
+            self.trusted_marks.part(),
             self.packet.part(),
             self.reply.part_mut(),
         );
@@ -216,10 +222,12 @@ impl Bench {
             ordinary: Space {
                 bytes: self.ordinary.part_mut(),
                 rules: self.ordinary_rules.part(),
+                marks: self.ordinary_marks.part(),
             },
             trusted: Space {
                 bytes: self.trusted.part_mut(),
                 rules: self.trusted_rules.part(),
+                marks: self.trusted_marks.part(),
             },
         };
         let answer = board.serve(self.packet.part());
@@ -236,8 +244,10 @@ impl Bench {
     fn check(&self) {
         self.ordinary.check("the ordinary space");
         self.ordinary_rules.check("the ordinary rules");
+        self.ordinary_marks.check("the ordinary marks");
         self.trusted.check("the trusted space");
         self.trusted_rules.check("the trusted rules");
+        self.trusted_marks.check("the trusted marks");
         self.packet.check("the packet");
         self.reply.check("the reply");
     }

@@ -82,7 +82,7 @@ pub fn drop_raw_routed(ports: &[Port], packet: &[u8], leaving: &mut [u8]) {
 
 pub fn drop_raw(space: &[u8], bytes: &mut [u8], other: &mut [u8], reply: &mut [u8], room: &mut [u16]) {
     let (description, kept) = (Description::default(), Capture::default());
-    raw::serve(description, kept, bytes, space, other, space, space, reply); // dropped
+    raw::serve(description, kept, bytes, space, space, other, space, space, space, reply); // dropped
     raw::reset(kept); // dropped
     raw::walk_compatible(space, room); // dropped
     raw::walk_extended(space, room); // dropped
