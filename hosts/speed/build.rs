@@ -1,5 +1,5 @@
-//! Compiles peer.c with `cc -O3` to a static library, finds that of the crate `trials`, and tells the program which
-//! compilers built it.
+//! Compiles peer.c with `cc -O3` to a static library, finds those of the crate `trials` and of look.c, and tells the program
+//! which compilers built it.
 use std::env;
 use std::path::Path;
 use std::process::Command;
@@ -15,21 +15,23 @@ fn main() {
     run(Command::new("ar").arg("crs").arg(&archive).arg(&object));
     println!("cargo::rustc-link-search=native={folder}");
     println!("cargo::rustc-link-lib=static=peer");
-    link_trials();
+    link_built("trials");
+    // After peer.c, which calls it.
+    link_built("look");
     let rustc = env::var("RUSTC").expect("cargo sets RUSTC");
     println!("cargo::rustc-env=SPEED_RUSTC={}", version(&rustc));
     println!("cargo::rustc-env=SPEED_CC={}", version("cc"));
 }
 
-/// Links what `./benchmark --build` makes of the crate `trials`.
-fn link_trials() {
+/// Links an archive that `./benchmark --build` makes.
+fn link_built(name: &str) {
     let package = env::var("CARGO_MANIFEST_DIR").expect("cargo sets CARGO_MANIFEST_DIR");
     let built = Path::new(&package).join("../../target/staticlib");
-    let archive = built.join("libtrials.a");
+    let archive = built.join(format!("lib{name}.a"));
     println!("cargo::rerun-if-changed={}", archive.display());
     if archive.is_file() {
         println!("cargo::rustc-link-search=native={}", built.display());
-        println!("cargo::rustc-link-lib=static=trials");
+        println!("cargo::rustc-link-lib=static={name}");
     } else {
         let missing = archive.display();
         println!("cargo::error=there is no {missing}: run ./benchmark --build at the top of the repository first");

@@ -1,5 +1,6 @@
 /*
- * A configuration packet served the way emulators do it: a loop over mask bytes, one byte at a time.
+ * A configuration packet served the way emulators do it: a loop over mask bytes, one byte at a time. `wmask` has the bits
+ * that can be written, and `w1cmask` those that are cleared by writing 1.
  *
  * It tests the type code and the fixed header fields, gives Unsupported Request in the cases of document 01, captures,
  * reads and writes under the enables, and writes the completion. It answers the completion's length, or 0 for a packet
@@ -7,10 +8,13 @@
  *
  * It does less than the library, for it leaves to its caller: the sizes of the spaces, of the packet and of the reply
  * (refusals 1, 2, 3 and 5), the ranges of the function number, of the captured device and of both offsets (refusal 1),
- * and which number a refused packet gets.
+ * whether a bit is in both masks (refusal 1; `masks_serve_looking` looks), and which number a refused packet gets.
  */
 #include <stddef.h>
 #include <stdint.h>
+
+/* look.c */
+int look_overlap(const uint8_t *wmask, const uint8_t *w1cmask, const uint8_t *trusted_wmask, const uint8_t *trusted_w1cmask);
 
 struct masks_board {
     uint32_t a;
@@ -35,17 +39,19 @@ static uint32_t read_bytes(const uint8_t *config, unsigned enables)
     return value;
 }
 
-static void write_bytes(uint8_t *config, const uint8_t *wmask, unsigned enables, uint32_t value)
+static void write_bytes(uint8_t *config, const uint8_t *wmask, const uint8_t *w1cmask, unsigned enables, uint32_t value)
 {
     for (int i = 0; i < 4; i++, value >>= 8)
-        if (enables >> i & 1)
+        if (enables >> i & 1) {
             config[i] = (config[i] & ~wmask[i]) | (value & wmask[i]);
+            config[i] &= ~(value & w1cmask[i]);
+        }
 }
 
 /* The write by itself: four bytes of a space, their masks and the data of a packet. */
-void masks_write(uint8_t *config, const uint8_t *wmask, const uint8_t *data, uint8_t enables)
+void masks_write(uint8_t *config, const uint8_t *wmask, const uint8_t *w1cmask, const uint8_t *data, uint8_t enables)
 {
-    write_bytes(config, wmask, enables, joined(data));
+    write_bytes(config, wmask, w1cmask, enables, joined(data));
 }
 
 static size_t complete(const struct masks_board *board, const uint8_t *packet, uint8_t *reply, int reads,
@@ -66,8 +72,9 @@ static size_t complete(const struct masks_board *board, const uint8_t *packet, u
     return reads ? 16 : 12;
 }
 
-size_t masks_serve(struct masks_board *board, uint8_t *config, const uint8_t *wmask, uint8_t *trusted,
-                   const uint8_t *trusted_wmask, const uint8_t *packet, uint8_t *reply)
+size_t masks_serve(struct masks_board *board, uint8_t *config, const uint8_t *wmask, const uint8_t *w1cmask,
+                   uint8_t *trusted, const uint8_t *trusted_wmask, const uint8_t *trusted_w1cmask, const uint8_t *packet,
+                   uint8_t *reply)
 {
     unsigned code = packet[0] & 0x7F;
     if (code != 0x04 && code != 0x44 && code != 0x05 && code != 0x45 && code != 0x1B && code != 0x5B)
@@ -89,13 +96,13 @@ size_t masks_serve(struct masks_board *board, uint8_t *config, const uint8_t *wm
     if (writes) {
         uint32_t value = joined(packet + 12);
         if (is_trusted) {
-            write_bytes(trusted + offset, trusted_wmask + offset, enables, value);
+            write_bytes(trusted + offset, trusted_wmask + offset, trusted_w1cmask + offset, enables, value);
         } else {
             board->captured = 1;
             board->bus = bus;
             board->device = device;
             if (offset != board->a)
-                write_bytes(config + offset, wmask + offset, enables, value);
+                write_bytes(config + offset, wmask + offset, w1cmask + offset, enables, value);
         }
         return complete(board, packet, reply, 0, 0x00);
     }
@@ -105,4 +112,14 @@ size_t masks_serve(struct masks_board *board, uint8_t *config, const uint8_t *wm
     for (int i = 0; i < 4; i++, value >>= 8)
         reply[12 + i] = value;
     return complete(board, packet, reply, 1, 0x00);
+}
+
+/* The same, after a look at all masks: a board with a bit in both masks of a space answers 0, as a refused packet does. */
+size_t masks_serve_looking(struct masks_board *board, uint8_t *config, const uint8_t *wmask, const uint8_t *w1cmask,
+                           uint8_t *trusted, const uint8_t *trusted_wmask, const uint8_t *trusted_w1cmask,
+                           const uint8_t *packet, uint8_t *reply)
+{
+    if (look_overlap(wmask, w1cmask, trusted_wmask, trusted_w1cmask))
+        return 0;
+    return masks_serve(board, config, wmask, w1cmask, trusted, trusted_wmask, trusted_w1cmask, packet, reply);
 }

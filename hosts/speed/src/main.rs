@@ -58,8 +58,10 @@ fn measure_all(plan: Plan) -> Result<(), String> {
     measure::run(plan, &mut contests);
     machine::print_heading(plan);
     table::print_rows(&rows);
+    table::print_looks(&rows);
     table::print_trials(&rows);
     table::print_variants(&variants);
     table::print_summary(&rows);
+    table::print_reading(&rows);
     Ok(())
 }

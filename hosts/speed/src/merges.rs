@@ -1,4 +1,5 @@
-//! The rows of the merge by itself: four bytes of a register under the rules, the data and the enables of a write.
+//! The rows of the merge by itself: four bytes of a register under the rules, the marks, the data and the enables of a
+//! write.
 //!
 //! The library exports no merge. The library's side here is the same proved function, from an archive that is built for
 //! this program alone (crates/trials). It has a trial too: the merge bit by bit, as request 4/13 of document 02 speaks of
@@ -25,6 +26,7 @@ type Register = [u8; 4];
 struct Write {
     register: usize,
     rules: Register,
+    marks: Register,
     data: Register,
     enables: u8,
 }
@@ -41,12 +43,7 @@ fn row(what: &str, seed: u64, enables: fn(&mut Random) -> u8) -> Result<Row, Str
     let mut random = Random::seeded(seed);
     let registers: Vec<Register> = (0..WRITES).map(|_| drawn(&mut random)).collect();
     let writes: Rc<[Write]> = (0..WRITES)
-        .map(|register| Write {
-            register,
-            rules: drawn(&mut random),
-            data: drawn(&mut random),
-            enables: enables(&mut random),
-        })
+        .map(|register| write(register, &mut random, enables))
         .collect();
     let sides = [
         (Peer::SafeRust, sides::SAFE_RUST),
@@ -61,6 +58,18 @@ fn row(what: &str, seed: u64, enables: fn(&mut Random) -> u8) -> Result<Row, Str
     Ok(Row::new(what, CALLS, library, peers.into()))
 }
 
+/// A random write to a register, of whose bits none is in rules and marks.
+fn write(register: usize, random: &mut Random, enables: fn(&mut Random) -> u8) -> Write {
+    let (rules, marks) = (drawn(random), drawn(random));
+    Write {
+        register,
+        rules,
+        marks: [0, 1, 2, 3].map(|place| marks[place] & !rules[place]),
+        data: drawn(random),
+        enables: enables(random),
+    }
+}
+
 fn drawn(random: &mut Random) -> Register {
     (random.number() as u32).to_le_bytes()
 }
@@ -71,9 +80,13 @@ fn pass(merge: Merge, registers: &[Register], writes: &Rc<[Write]>) -> Pass {
     let merge = black_box(merge);
     order::pass(writes, CALLS, move |write| {
         let Write {
-            rules, data, enables, ..
+            rules,
+            marks,
+            data,
+            enables,
+            ..
         } = black_box(write);
-        merge(black_box(&mut registers[write.register]), rules, data, *enables);
+        merge(black_box(&mut registers[write.register]), rules, marks, data, *enables);
     })
 }
 
@@ -84,18 +97,22 @@ fn check(what: &str, peer: Peer, side: Merge, registers: &[Register], writes: &[
         .flat_map(|write| (0..=u8::MAX).map(move |enables| (write, enables)))
     {
         let Write {
-            register, rules, data, ..
+            register,
+            rules,
+            marks,
+            data,
+            ..
         } = write;
         let old = registers[*register];
         let [found, expected] = [side, sides::LIBRARY].map(|merge| {
             let mut left = old;
-            merge(&mut left, rules, data, enables);
+            merge(&mut left, rules, marks, data, enables);
             left
         });
         if found != expected {
             return Err(format!(
-                "{what}: {old:02X?} under rules {rules:02X?}, data {data:02X?}, enables {enables:02X}: library \
-                 {expected:02X?}, {peer:?} {found:02X?}"
+                "{what}: {old:02X?} under rules {rules:02X?}, marks {marks:02X?}, data {data:02X?}, enables \
+                 {enables:02X}: library {expected:02X?}, {peer:?} {found:02X?}"
             ));
         }
     }

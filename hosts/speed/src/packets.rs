@@ -4,6 +4,7 @@ mod board;
 mod check;
 mod draft;
 mod kind;
+mod look;
 mod masks;
 mod reset;
 mod setting;
@@ -16,14 +17,16 @@ use crate::row::{Peer, Row};
 use board::{Answer, Board, Library, SafeRust};
 pub use draft::Draft;
 use kind::{KINDS, Kind};
-use masks::Masks;
+use masks::{Looking, Masks};
 use setting::Setting;
 use std::hint::black_box;
 use std::rc::Rc;
 
-/// How many packets of its kind a row has, and how many are sent in a pass.
+/// How many packets of its kind a row has, and how many are sent in a pass: fewer where each has all rules and marks looked
+/// at, so that a pass stays shorter than a batch.
 const PACKETS: usize = 64;
 const CALLS: usize = 256;
+const SERVED_CALLS: usize = 32;
 
 /// The packets of a row.
 type Packets = Rc<[Box<[u8]>]>;
@@ -41,20 +44,33 @@ fn row(kind: &Kind, seed: u64) -> Result<Row, String> {
     let packets: Packets = (0..PACKETS)
         .map(|_| (kind.draw)(&mut random, &setting).into_bytes())
         .collect();
-    let has_masks = kind.status.is_some();
-    check::equal_answers(kind.what, &setting, &packets, has_masks, kind.answer, kind.status)?;
-    let mut peers = vec![(Peer::SafeRust, pass::<SafeRust>(&setting, &packets))];
-    if has_masks {
-        peers.push((Peer::Masks, pass::<Masks>(&setting, &packets)));
+    let (calls, is_served) = (kind.calls, kind.status.is_some());
+    check::equal_answers(kind.what, &setting, &packets, is_served, kind.answer, kind.status)?;
+    let mut peers = vec![(Peer::SafeRust, pass::<SafeRust>(&setting, &packets, calls))];
+    if is_served {
+        peers.extend(peers_in_c(kind, &setting, &packets)?);
     }
-    Ok(Row::new(kind.what, CALLS, pass::<Library>(&setting, &packets), peers))
+    let library = pass::<Library>(&setting, &packets, calls);
+    Ok(Row::new(kind.what, calls, library, peers))
+}
+
+/// What there is in C beside a packet that is served: the loop over mask bytes, without the look at all rules and marks and
+/// with it, that look by itself, and the same bytes only read.
+fn peers_in_c(kind: &Kind, setting: &Setting, packets: &Packets) -> Result<[(Peer, Pass); 4], String> {
+    look::check(kind.what, setting)?;
+    Ok([
+        (Peer::Masks, pass::<Masks>(setting, packets, kind.calls)),
+        (Peer::Looking, pass::<Looking>(setting, packets, kind.calls)),
+        (Peer::Look, look::overlap_pass(setting, packets, kind.calls)),
+        (Peer::Reading, look::read_pass(setting, packets, kind.calls)),
+    ])
 }
 
 /// Packets, one after the other, to a board of a side.
-fn pass<Side: Board + 'static>(setting: &Setting, packets: &Packets) -> Pass {
+fn pass<Side: Board + 'static>(setting: &Setting, packets: &Packets, calls: usize) -> Pass {
     let mut board = Side::new(setting);
     let serve: fn(&mut Side, &[u8]) -> Answer = black_box(Side::serve);
-    order::pass(packets, CALLS, move |packet| {
+    order::pass(packets, calls, move |packet| {
         black_box(serve(black_box(&mut board), black_box(packet)));
     })
 }

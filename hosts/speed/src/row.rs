@@ -13,6 +13,12 @@ pub enum Peer {
     Chase,
     /// A trial: the merge bit by bit.
     Bits,
+    /// The loop over mask bytes in C, after a look at all rules and marks.
+    Looking,
+    /// That look by itself, in C.
+    Look,
+    /// The same 16 KiB read once, in C.
+    Reading,
 }
 
 /// A line of the table. The contest's first side is the library, the others are the peers in their order.

@@ -5,8 +5,8 @@ use crate::row::{Peer, Row};
 
 /// What the peers leave out, and what every figure holds.
 const NOTES: &str = "\
-- C masks tests no sizes and no ranges (peer.c says what it leaves out), and branches on every enable: its branches are
-  predicted only where the enables are the same in all packets.
+- C masks tests no sizes and no ranges and looks at no rules and marks (peer.c says what it leaves out), and branches on
+  every enable: its branches are predicted only where the enables are the same in all packets.
 - Bare chase follows and counts the pointers, tests nothing and lists nothing; in a loop it stops at the maximum.
 - Merge alone: the library exports no merge; its side is the same proved function, in an archive of the benchmark's own.
 - Every figure holds the calls and the loop around them; the row `reset` is hardly more than that.
@@ -40,6 +40,23 @@ pub fn print_trials(rows: &[Row]) {
     println!();
 }
 
+/// Prints what packets that are served take beside the look at all rules and marks, and beside reading them once.
+pub fn print_looks(rows: &[Row]) {
+    println!(
+        "The look at all rules and marks, 16 KiB for every packet: a C loop that has it, the look by itself, and the same"
+    );
+    println!("16 KiB read once (look.c, compiled by the kit's clang as the library is).\n");
+    println!("| what | library ns | C masks with the look ns | ratio | look alone ns | ratio | read once ns | ratio |");
+    println!("|---|---:|---:|---|---:|---|---:|---|");
+    for row in rows.iter().filter(|row| row.side(Peer::Reading).is_some()) {
+        let peers = [Peer::Looking, Peer::Look, Peer::Reading]
+            .map(|peer| peer_cells(row, peer))
+            .join(" | ");
+        println!("| {} | {} | {peers} |", row.what, nanoseconds(row.contest.median(0)));
+    }
+    println!();
+}
+
 /// A peer's time and ratio, or two empty cells.
 fn peer_cells(row: &Row, peer: Peer) -> String {
     let (Some(side), Some(ratio)) = (row.side(peer), row.ratio(peer)) else {
@@ -61,9 +78,9 @@ fn nanoseconds(time: f64) -> String {
 /// Prints how far apart the variants of one kind of packet are on each side.
 pub fn print_variants(all: &[Variants]) {
     println!(
-        "A served packet's time by its contents: offset low or high; enables 0, 1 or 15; rules 00h or FFh; data 00h"
+        "A served packet's time by its contents: offset low or high; enables 0, 1 or 15; rules and marks 00h, or one of"
     );
-    println!("or FFh. The control times the same packets on as many boards: its spread is noise.\n");
+    println!("them FFh; data 00h or FFh. The control times the same packets on as many boards: its spread is noise.\n");
     println!("| packets | side | variants | fastest ns | slowest ns | spread |");
     println!("|---|---|---:|---|---|---:|");
     for variants in all {
@@ -87,6 +104,26 @@ pub fn print_variants(all: &[Variants]) {
         );
     }
     println!();
+}
+
+/// How many times the reading of its board's rules and marks a served packet may take.
+const AIM: f64 = 1.5;
+
+/// Prints how many times the reading of the same 16 KiB a served packet of each kind takes, and whether that is as aimed at.
+pub fn print_reading(rows: &[Row]) {
+    let mut ratios: Vec<(f64, &str)> = rows
+        .iter()
+        .filter_map(|row| Some((row.ratio(Peer::Reading)?, row.what.as_str())))
+        .collect();
+    ratios.sort_by(|left, right| right.0.total_cmp(&left.0));
+    let Some((most, _)) = ratios.first() else { return };
+    let verdict = if *most <= AIM { "within" } else { "NOT within" };
+    let named: Vec<String> = ratios
+        .iter()
+        .map(|(ratio, what)| format!("{what} ({ratio:.3})"))
+        .collect();
+    println!("A served packet takes at most {most:.2} times the reading of the same 16 KiB, {verdict} {AIM}.");
+    println!("By kind: {}.", named.join("; "));
 }
 
 /// Prints the rows in which the library is not ahead of safe Rust, and the full extended walk beside the bare chase.

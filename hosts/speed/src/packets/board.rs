@@ -65,8 +65,10 @@ impl Board for Library {
         let Lent {
             ordinary,
             ordinary_rules,
+            ordinary_marks,
             trusted,
             trusted_rules,
+            trusted_marks,
             reply,
         } = lent;
         let served = raw::serve(
@@ -74,8 +76,10 @@ impl Board for Library {
             *capture,
             ordinary,
             ordinary_rules,
+            ordinary_marks,
             trusted,
             trusted_rules,
+            trusted_marks,
             packet,
             reply,
         );
@@ -134,8 +138,10 @@ impl Board for SafeRust {
         let Lent {
             ordinary,
             ordinary_rules,
+            ordinary_marks,
             trusted,
             trusted_rules,
+            trusted_marks,
             reply,
         } = lent;
         let served = model::serve(
@@ -143,8 +149,10 @@ impl Board for SafeRust {
             *capture,
             ordinary,
             ordinary_rules,
+            ordinary_marks,
             trusted,
             trusted_rules,
+            trusted_marks,
             packet,
             reply,
         );

@@ -1,7 +1,7 @@
 //! Whether all sides give equal answers to packets, and the answers that the row is about.
 
 use super::board::{Answer, Board, Library, SafeRust};
-use super::masks::Masks;
+use super::masks::{Looking, Masks};
 use super::setting::{Lent, Setting};
 
 /// What a packet has done.
@@ -13,13 +13,13 @@ pub fn equal_answers(
     what: &str,
     setting: &Setting,
     packets: &[Box<[u8]>],
-    has_masks: bool,
+    is_served: bool,
     answer: Answer,
     status: Option<u8>,
 ) -> Result<(), String> {
     let mut safe_rust = SafeRust::new(setting);
     let mut library = Library::new(setting);
-    let mut masks = has_masks.then(|| Masks::new(setting));
+    let mut in_c = is_served.then(|| (Masks::new(setting), Looking::new(setting)));
     for packet in packets.iter().chain(packets) {
         let expected = after(&mut safe_rust, packet);
         let (_, _, lent) = expected;
@@ -30,8 +30,9 @@ pub fn equal_answers(
             ));
         }
         compare::<Library>(what, packet, after(&mut library, packet), expected)?;
-        if let Some(masks) = &mut masks {
+        if let Some((masks, looking)) = &mut in_c {
             compare::<Masks>(what, packet, after(masks, packet), expected)?;
+            compare::<Looking>(what, packet, after(looking, packet), expected)?;
         }
     }
     Ok(())

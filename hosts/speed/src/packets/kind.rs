@@ -3,6 +3,7 @@
 use super::board::Answer;
 use super::draft::Draft;
 use super::setting::Setting;
+use super::{CALLS, SERVED_CALLS};
 use crate::random::Random;
 
 /// A kind of packet with the board it is sent to, and what every packet of it must be answered.
@@ -11,6 +12,8 @@ pub struct Kind {
     pub answer: Answer,
     /// The completion's status byte, if there is a completion.
     pub status: Option<u8>,
+    /// How many packets are sent in a pass.
+    pub calls: usize,
     /// What is different in the board.
     pub setting: fn(&mut Setting),
     pub draw: Draw,
@@ -22,7 +25,7 @@ type Draw = fn(&mut Random, &Setting) -> Draft;
 pub const SERVED: Option<u8> = Some(0x00);
 const UNSUPPORTED: Option<u8> = Some(0x20);
 
-pub const KINDS: [Kind; 18] = [
+pub const KINDS: [Kind; 21] = [
     read("read, ordinary", |random, setting| {
         Draft::ordinary(0x04, random, setting)
     }),
@@ -61,8 +64,28 @@ pub const KINDS: [Kind; 18] = [
         Draft::ordinary(0x44, random, setting).poisoned()
     }),
     Kind {
+        calls: CALLS,
         setting: |setting| setting.lent.trusted_rules.truncate(4095),
         ..refused("refused 1, a rule space of 4,095 bytes", 1, |random, setting| {
+            Draft::ordinary(0x04, random, setting)
+        })
+    },
+    Kind {
+        calls: CALLS,
+        setting: |setting| setting.lent.trusted_marks.truncate(4095),
+        ..refused("refused 1, marks of 4,095 bytes", 1, |random, setting| {
+            Draft::ordinary(0x04, random, setting)
+        })
+    },
+    Kind {
+        setting: |setting| (setting.lent.ordinary_rules[0], setting.lent.ordinary_marks[0]) = (0x01, 0x01),
+        ..refused("refused 1, the first bit in rules and marks", 1, |random, setting| {
+            Draft::ordinary(0x04, random, setting)
+        })
+    },
+    Kind {
+        setting: |setting| (setting.lent.trusted_rules[4095], setting.lent.trusted_marks[4095]) = (0x80, 0x80),
+        ..refused("refused 1, the last bit in rules and marks", 1, |random, setting| {
             Draft::ordinary(0x04, random, setting)
         })
     },
@@ -108,6 +131,7 @@ const fn kind(what: &'static str, answer: Answer, status: Option<u8>, draw: Draw
         what,
         answer,
         status,
+        calls: SERVED_CALLS,
         setting,
         draw,
     }

@@ -2,7 +2,7 @@
 
 use crate::random::Random;
 
-/// The bytes of a space and of a rule space.
+/// The bytes of a space, of its rules and of its marks.
 const SPACE: usize = 4096;
 
 /// What is lent with every packet.
@@ -10,8 +10,10 @@ const SPACE: usize = 4096;
 pub struct Lent {
     pub ordinary: Vec<u8>,
     pub ordinary_rules: Vec<u8>,
+    pub ordinary_marks: Vec<u8>,
     pub trusted: Vec<u8>,
     pub trusted_rules: Vec<u8>,
+    pub trusted_marks: Vec<u8>,
     pub reply: Vec<u8>,
 }
 
@@ -26,13 +28,17 @@ pub struct Setting {
 }
 
 impl Setting {
-    /// A board with random spaces and rules that has captured a bus and a device.
+    /// A board with random spaces, rules and marks that has captured a bus and a device. No bit is in rules and marks.
     pub fn drawn(random: &mut Random) -> Self {
+        let ordinary_rules = random.bytes(SPACE);
+        let trusted_rules = random.bytes(SPACE);
         let lent = Lent {
             ordinary: random.bytes(SPACE),
-            ordinary_rules: random.bytes(SPACE),
+            ordinary_marks: marks_beside(&ordinary_rules, random),
+            ordinary_rules,
             trusted: random.bytes(SPACE),
-            trusted_rules: random.bytes(SPACE),
+            trusted_marks: marks_beside(&trusted_rules, random),
+            trusted_rules,
             reply: vec![0xEE; 16],
         };
         let capture = Some((random.byte(), random.byte() & 31));
@@ -44,4 +50,9 @@ impl Setting {
             lent,
         }
     }
+}
+
+/// Random marks, of the bits that are not in the rules.
+fn marks_beside(rules: &[u8], random: &mut Random) -> Vec<u8> {
+    rules.iter().map(|rule| random.byte() & !rule).collect()
 }

@@ -6,7 +6,7 @@ use super::draft::Draft;
 use super::kind::SERVED;
 use super::masks::Masks;
 use super::setting::Setting;
-use super::{CALLS, PACKETS, Packets, pass};
+use super::{PACKETS, Packets, SERVED_CALLS, pass};
 use crate::measure::{Contest, Pass};
 use crate::random::Random;
 
@@ -25,6 +25,7 @@ struct Contents {
     high: bool,
     enables: u8,
     rules: u8,
+    marks: u8,
     data: u8,
 }
 
@@ -49,12 +50,13 @@ fn contents(code: u8) -> Vec<Contents> {
     let mut all = Vec::new();
     for high in [false, true] {
         for enables in [0, 1, 15] {
-            for rules in [0x00, 0xFF] {
+            for (rules, marks) in [(0x00, 0x00), (0xFF, 0x00), (0x00, 0xFF)] {
                 all.extend([0x00, 0xFF].map(|data| Contents {
                     code,
                     high,
                     enables,
                     rules,
+                    marks,
                     data,
                 }));
             }
@@ -77,7 +79,7 @@ fn variants<Side: Board + 'static>(
         packets,
         side,
         names,
-        contest: Contest::new(CALLS, passes),
+        contest: Contest::new(SERVED_CALLS, passes),
     })
 }
 
@@ -85,6 +87,7 @@ fn checked_pass<Side: Board + 'static>(contents: Contents) -> Result<Pass, Strin
     let mut random = Random::seeded(100);
     let mut setting = Setting::drawn(&mut random);
     setting.lent.ordinary_rules.fill(contents.rules);
+    setting.lent.ordinary_marks.fill(contents.marks);
     if contents.code == 0x04 {
         setting.lent.ordinary.fill(contents.data);
     }
@@ -94,7 +97,7 @@ fn checked_pass<Side: Board + 'static>(contents: Contents) -> Result<Pass, Strin
         length: if contents.code == 0x04 { 16 } else { 12 },
     };
     check::equal_answers(&contents.name(), &setting, &packets, true, answer, SERVED)?;
-    Ok(pass::<Side>(&setting, &packets))
+    Ok(pass::<Side>(&setting, &packets, SERVED_CALLS))
 }
 
 impl Contents {
@@ -103,11 +106,12 @@ impl Contents {
             high,
             enables,
             rules,
+            marks,
             data,
             ..
         } = self;
         let offset = if high { "high" } else { "low" };
-        format!("offset {offset}, enables {enables}, rules {rules:02X}h, data {data:02X}h")
+        format!("offset {offset}, enables {enables}, rules {rules:02X}h, marks {marks:02X}h, data {data:02X}h")
     }
 
     /// A packet in the first or in the last 256 bytes, with these enables and this data.
