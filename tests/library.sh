@@ -168,6 +168,10 @@ page_notices() {
     other_page_c "C program 5 of $page notices a completion of another request" 5 's/\.tag = 8/.tag = 9/' \
         "not done: the completion is another request's"
     other_page_c "C program 5 of $page notices that there is nothing to send" 5 's/\.enables = 0x0F/.enables = 0x10/' 'nothing to send: '
+    other_page_c "C program 6 of $page notices a bit in both rules and marks" 6 's/trusted, rules;/trusted, rules = {{[0x007] = 0x80}};/' \
+        'not done: a space, rules or marks of 4,096 bytes are not lent, a bit is in both the rules and the marks of a space'
+    other_page_c "C program 6 of $page notices that a space has no marks" 6 's/\.marks = &thawribbon_no_marks/.marks = NULL/' \
+        'not done: a space, rules or marks of 4,096 bytes are not lent'
 }
 
 # The example at the top of the header.

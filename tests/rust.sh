@@ -89,6 +89,7 @@ page_notices() {
     other_page_rust "Rust program 5 of $page notices that it has not landed" 5 's/\[0xFF; SPACE\]/[0xF0; SPACE]/' 'done, and not landed'
     other_page_rust "Rust program 5 of $page stops at parts that are no request" 5 's/0x010/0x012/' 'Error: Refused(BadDescription)'
     other_page_rust "Rust program 6 of $page stops at a completion of another request" 6 's/by(host, 8)/by(host, 9)/' 'Error: Other(Completion'
+    other_page_rust "Rust program 7 of $page stops at a bit in both rules and marks" 7 's/\[0; SPACE\], \[0; SPACE\]);/[0x01; SPACE], [0; SPACE]);/' 'Error: Refused(BadDescription)'
 }
 
 # The page's N-th Rust program has no board: of the archive, only the asking side is linked.
