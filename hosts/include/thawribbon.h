@@ -615,8 +615,7 @@ THAWRIBBON_MUST_USE static inline const char *thawribbon_text(unsigned number)
         return "served, though the completion or the router's verdict may be Unsupported Request";
     case THAWRIBBON_BAD_DESCRIPTION:
         return "a space, rules or marks of 4,096 bytes are not lent, a bit is in both the rules and the marks of a space, "
-               "a captured device is over 31, "
-               "a function number or A or B is outside its range, a record is asked for where none may stand, "
+               "a captured device is over 31, a function number or A or B is outside its range, a record is asked for where none may stand, "
                "a list has over 32 ports, a secondary bus over its subordinate bus, or two ranges that meet, "
                "what leaves overlaps the ports or the packet, what is heard overlaps the board, "
                "or a request has a kind outside the six, a device over 31, a function over 7, "
