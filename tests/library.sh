@@ -3,7 +3,7 @@
 # the archive that the kit itself writes. Where a tool is missing, what needs it is skipped, or failed where CI is set.
 . tests/common/host_tools.bash
 page=docs/LIBRARY.md
-least=107
+least=108
 here=$(uname -m)-unknown-linux-gnu
 
 # needs ARCHIVE: what the page says the archive needs of the C library
@@ -54,6 +54,17 @@ in_c() {
     try "first_day compiles with the kit's clang" objects "$work/clang" "$here" &&
         try "first_day links with what the kit's clang made" cc "$work"/clang/*.o "$archive" -o "$work/first_day" &&
         first_day "first_day on $(uname -m), by the kit's clang" "$work/first_day"
+}
+
+# A program that uses nothing of the header gets no warning either, also where a compiler warns of every constant that is not used.
+nothing_used() {
+    local words standard
+    printf '#include "thawribbon.h"\nint main(void) { return 0; }\n' >"$work/nothing.c"
+    for standard in c99 c11; do
+        words=("${warnings[@]}" -std=$standard -Wstrict-prototypes -Wunused-const-variable -I "$built" -c "$work/nothing.c" -o "$work/nothing.o")
+        try "a program that uses nothing of thawribbon.h compiles with cc, as $standard" cc "${words[@]}"
+        try "a program that uses nothing of thawribbon.h compiles with the kit's clang, as $standard" kit_clang c "$here" "${words[@]}"
+    done
 }
 
 # cpp_runs NAME FILE TEXT: a C++ program compiles with both compilers, and prints what the file TEXT holds
@@ -279,6 +290,7 @@ if ! command -v cc >"$work/log"; then
     exit 0
 fi
 in_c
+nothing_used
 in_cpp
 mistakes_are_seen
 page_in_c

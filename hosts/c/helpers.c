@@ -170,6 +170,20 @@ static void forgotten_buffers(void)
     }
 }
 
+/* The marks that the header has ready are zeros, and both spaces may have them. */
+static void no_marks(void)
+{
+    static const thawribbon_bytes zeros = {{0}};
+    expect(memcmp(&thawribbon_no_marks, &zeros, sizeof zeros) == 0, "a bit is marked", 0);
+    hold_board();
+    held.board.ordinary.marks = &thawribbon_no_marks;
+    held.board.trusted.marks = &thawribbon_no_marks;
+    send_packet(write_packet, 16);
+    remember_all();
+    should_hold(&ordinary, 0x004, landed, 4);
+    board_answers(THAWRIBBON_DONE, 0, written, 12, five_three, 0);
+}
+
 /* A small generator of packets: those of the bench sheet with some of their bytes drawn anew. */
 static void draw_packet(void)
 {
@@ -299,6 +313,7 @@ void helpers(void)
     group("board, its first packets and a reset", first_packets);
     group("board, packets that are refused", refused_packets);
     group("board, forgotten buffers", forgotten_buffers);
+    group("board, spaces without marks", no_marks);
     group("board, 4,000 drawn packets as thawribbon_serve answers them", same_as_serve);
     group("helpers, the outcome of every number and status", outcomes_told);
     group("helpers, a text for every number", texts);
