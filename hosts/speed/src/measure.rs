@@ -19,12 +19,17 @@ pub struct Plan {
     pub batch: Duration,
 }
 
-/// Sides that are timed by turns, with the nanoseconds per call of each side in each round.
+/// Sides that are timed by turns.
 pub struct Contest {
     calls_of_a_pass: usize,
+    sides: Vec<Side>,
+}
+
+/// A side, how many of its passes fill a batch, and its nanoseconds per pass in each round.
+struct Side {
+    pass: Pass,
     passes_of_a_batch: usize,
-    sides: Vec<Pass>,
-    samples: Vec<Vec<f64>>,
+    samples: Vec<f64>,
 }
 
 /// The lower quartile, the median and the upper quartile.
@@ -72,59 +77,70 @@ fn deeper<const BYTES: usize>(work: &mut dyn FnMut()) {
 
 impl Contest {
     /// Every pass makes the same number of calls.
-    pub fn new(calls_of_a_pass: usize, sides: Vec<Pass>) -> Self {
-        let samples = sides.iter().map(|_| Vec::new()).collect();
+    pub fn new(calls_of_a_pass: usize, passes: Vec<Pass>) -> Self {
         Self {
             calls_of_a_pass,
-            passes_of_a_batch: 1,
-            sides,
-            samples,
+            sides: passes.into_iter().map(Side::new).collect(),
         }
     }
 
-    /// Runs every side for about four batches, and sets how many passes of the slowest side fill one batch.
     fn warm_up(&mut self, batch: Duration) {
-        let mut fewest = usize::MAX;
-        for side in &mut self.sides {
-            let start = Instant::now();
-            let mut passes = 0;
-            while start.elapsed() < batch * 4 {
-                side();
-                passes += 1;
-            }
-            fewest = fewest.min(passes);
-        }
-        self.passes_of_a_batch = fewest.div_ceil(4);
+        self.sides.iter_mut().for_each(|side| side.warm_up(batch));
     }
 
     fn turn(&mut self, rounds: usize) {
         for _ in 0..rounds {
-            for (side, samples) in self.sides.iter_mut().zip(&mut self.samples) {
-                side();
-                let start = Instant::now();
-                for _ in 0..self.passes_of_a_batch {
-                    side();
-                }
-                let elapsed = start.elapsed().as_nanos() as f64;
-                samples.push(elapsed / (self.passes_of_a_batch * self.calls_of_a_pass) as f64);
-            }
+            self.sides.iter_mut().for_each(Side::round);
         }
     }
 
     /// The median over the rounds of a side's nanoseconds per call.
     pub fn median(&self, side: usize) -> f64 {
-        quartiles(self.samples[side].clone()).median
+        quartiles(self.sides[side].samples.clone()).median / self.calls_of_a_pass as f64
     }
 
     /// The quartiles over the rounds of the first side's time divided by another side's time in the same round.
     pub fn ratios(&self, side: usize) -> Quartiles {
         quartiles(
-            self.samples[0]
+            self.sides[0]
+                .samples
                 .iter()
-                .zip(&self.samples[side])
+                .zip(&self.sides[side].samples)
                 .map(|(first, other)| first / other)
                 .collect(),
         )
+    }
+}
+
+impl Side {
+    fn new(pass: Pass) -> Self {
+        Self {
+            pass,
+            passes_of_a_batch: 1,
+            samples: Vec::new(),
+        }
+    }
+
+    /// Runs for about four batches, and sets how many passes fill one.
+    fn warm_up(&mut self, batch: Duration) {
+        let start = Instant::now();
+        let mut passes = 0_usize;
+        while start.elapsed() < batch * 4 {
+            (self.pass)();
+            passes += 1;
+        }
+        self.passes_of_a_batch = passes.div_ceil(4);
+    }
+
+    /// Times one batch, after a pass that is not timed.
+    fn round(&mut self) {
+        (self.pass)();
+        let start = Instant::now();
+        for _ in 0..self.passes_of_a_batch {
+            (self.pass)();
+        }
+        let elapsed = start.elapsed().as_nanos() as f64;
+        self.samples.push(elapsed / self.passes_of_a_batch as f64);
     }
 }
 

@@ -1,5 +1,5 @@
-//! The 16 KiB of a board's rules and marks, gone through once in plain C (look.c): looked at for a bit that is in both, and
-//! only read. It is what a served packet cannot do without, and what it could not be quicker than.
+//! The 16 KiB of a board's rules and marks, gone through once in plain C (look.c): looked at for a bit that is in both, which
+//! no served packet can do without, and only read, which nothing that looks at them is quicker than.
 
 use super::Packets;
 use super::setting::{Lent, Setting};
@@ -22,38 +22,41 @@ unsafe extern "C" {
     ) -> u64;
 }
 
-/// The four buffers, in the order of look.c, each of the size that look.c takes for granted.
-fn four(lent: &Lent) -> [&[u8; 4096]; 4] {
+/// Rules and marks of both spaces, in the order of look.c, each of the size that look.c takes for granted.
+type Four = [Box<[u8; 4096]>; 4];
+
+/// A board's rules and marks once more.
+fn four(lent: &Lent) -> Four {
     let all = [
         &lent.ordinary_rules,
         &lent.ordinary_marks,
         &lent.trusted_rules,
         &lent.trusted_marks,
     ];
-    all.map(|bytes| bytes.as_slice().try_into().expect("4,096 bytes"))
+    all.map(|bytes| Box::new(bytes.as_slice().try_into().expect("4,096 bytes")))
 }
 
 /// Whether a bit is in the rules and in the marks of a space.
 #[inline(never)]
-fn overlap([one, two, three, four]: [&[u8; 4096]; 4]) -> u64 {
+fn overlap([one, two, three, four]: &Four) -> u64 {
     // SAFETY: each has the 4,096 bytes that look.c reads, and nothing is written.
     unsafe { look_overlap(one.as_ptr(), two.as_ptr(), three.as_ptr(), four.as_ptr()) as u64 }
 }
 
 /// All words of eight bytes, added without carries.
 #[inline(never)]
-fn read([one, two, three, four]: [&[u8; 4096]; 4]) -> u64 {
+fn read([one, two, three, four]: &Four) -> u64 {
     // SAFETY: as above.
     unsafe { look_read(one.as_ptr(), two.as_ptr(), three.as_ptr(), four.as_ptr()) }
 }
 
 /// A look at a board's rules and marks for every packet, which itself is not looked at.
-fn pass(look: fn([&[u8; 4096]; 4]) -> u64, setting: &Setting, packets: &Packets, calls: usize) -> Pass {
-    let lent = setting.lent.clone();
+fn pass(look: fn(&Four) -> u64, setting: &Setting, packets: &Packets, calls: usize) -> Pass {
+    let buffers = four(&setting.lent);
     let look = black_box(look);
     order::pass(packets, calls, move |packet| {
         black_box(packet);
-        black_box(look(four(black_box(&lent))));
+        black_box(look(black_box(&buffers)));
     })
 }
 
@@ -72,10 +75,10 @@ pub fn check(what: &str, setting: &Setting) -> Result<(), String> {
     let sum = words.fold(0, |sum, word| {
         sum ^ u64::from_le_bytes(word.try_into().expect("eight bytes"))
     });
-    if read(buffers) != sum {
+    if read(&buffers) != sum {
         return Err(format!("{what}: the reading in C does not read all bytes"));
     }
-    if overlap(buffers) != 0 {
+    if overlap(&buffers) != 0 {
         return Err(format!(
             "{what}: the look in C finds a bit in rules and marks that is none"
         ));
@@ -98,12 +101,12 @@ mod tests {
             let marks = setting.lent.ordinary_marks[at];
             setting.lent.ordinary_marks[at] |= setting.lent.ordinary_rules[at];
             let is_both = setting.lent.ordinary_rules[at] != 0;
-            assert_eq!(overlap(four(&setting.lent)), is_both.into());
+            assert_eq!(overlap(&four(&setting.lent)), is_both.into());
             setting.lent.ordinary_marks[at] = marks;
             let rules = setting.lent.trusted_rules[at];
             setting.lent.trusted_rules[at] |= setting.lent.trusted_marks[at];
             let is_both = setting.lent.trusted_marks[at] != 0;
-            assert_eq!(overlap(four(&setting.lent)), is_both.into());
+            assert_eq!(overlap(&four(&setting.lent)), is_both.into());
             setting.lent.trusted_rules[at] = rules;
         }
     }
@@ -112,10 +115,10 @@ mod tests {
     #[test]
     fn the_reading_goes_over_all_bytes() {
         let mut setting = Setting::drawn(&mut Random::seeded(2));
-        let before = read(four(&setting.lent));
+        let before = read(&four(&setting.lent));
         for at in 0..4096 {
             setting.lent.trusted_marks[at] ^= 0x10;
-            assert_eq!(read(four(&setting.lent)), before ^ 0x10 << (8 * (at % 8)));
+            assert_eq!(read(&four(&setting.lent)), before ^ 0x10 << (8 * (at % 8)));
             setting.lent.trusted_marks[at] ^= 0x10;
         }
     }
