@@ -62,47 +62,47 @@ OthersKeep =
 -- ---- a store
 
 module _ (s : Space) (q : Request) (new : List ℕ) (whole : length (s .bytes) ≡ 4096) (inside : q .offset + 4 ≤ 4096) (aligned : q .offset % 4 ≡ 0)
-    where
-  word : List ℕ
-  word = merged (four (s .bytes) (q .offset)) (four (s .rules) (q .offset)) (four (s .marks) (q .offset)) new (q .enables)
+  where
+    word : List ℕ
+    word = merged (four (s .bytes) (q .offset)) (four (s .rules) (q .offset)) (four (s .marks) (q .offset)) new (q .enables)
 
-  fits : q .offset + length word ≤ length (s .bytes)
-  unfolding word
-  fits = rw merged-length (omega arith)
+    fits : q .offset + length word ≤ length (s .bytes)
+    unfolding word
+    fits = rw merged-length (omega arith)
 
-  small : (k : ℕ) → k < 4 → k < length word
-  unfolding word
-  small k h = rw merged-length h
+    small : (k : ℕ) → k < 4 → k < length word
+    unfolding word
+    small k h = rw merged-length h
 
-  stored-there : four (storedBytes s q new) (q .offset) ≡ word
-  unfolding storedBytes word
-  stored-there =
-      (λ i.
-      (ap (byte (put (s .bytes) (q .offset) word)) (sym (add-zero (q .offset))) ∙ put-there (s .bytes) (q .offset) word fits 0 (small 0 (omega arith))) i
-      ∷ put-there (s .bytes) (q .offset) word fits 1 (small 1 (omega arith)) i
-      ∷ put-there (s .bytes) (q .offset) word fits 2 (small 2 (omega arith)) i
-      ∷ put-there (s .bytes) (q .offset) word fits 3 (small 3 (omega arith)) i
-      ∷ [])
-      ∙ merged-four (four (s .bytes) (q .offset)) (four (s .rules) (q .offset)) (four (s .marks) (q .offset)) new (q .enables)
+    stored-there : four (storedBytes s q new) (q .offset) ≡ word
+    unfolding storedBytes word
+    stored-there =
+        (λ i.
+        (ap (byte (put (s .bytes) (q .offset) word)) (sym (add-zero (q .offset))) ∙ put-there (s .bytes) (q .offset) word fits 0 (small 0 (omega arith))) i
+        ∷ put-there (s .bytes) (q .offset) word fits 1 (small 1 (omega arith)) i
+        ∷ put-there (s .bytes) (q .offset) word fits 2 (small 2 (omega arith)) i
+        ∷ put-there (s .bytes) (q .offset) word fits 3 (small 3 (omega arith)) i
+        ∷ [])
+        ∙ merged-four (four (s .bytes) (q .offset)) (four (s .rules) (q .offset)) (four (s .marks) (q .offset)) new (q .enables)
 
-  stored-elsewhere : (k : ℕ) → (k < q .offset) ⊎ (q .offset + 4 ≤ k) → byte (storedBytes s q new) k ≡ byte (s .bytes) k
-  unfolding storedBytes word
-  stored-elsewhere k =
-      ⊎-elim
-      (λ h. put-before (s .bytes) (q .offset) word fits k h)
-      (λ h. put-after (s .bytes) (q .offset) word fits k (rw merged-length h))
+    stored-elsewhere : (k : ℕ) → (k < q .offset) ⊎ (q .offset + 4 ≤ k) → byte (storedBytes s q new) k ≡ byte (s .bytes) k
+    unfolding storedBytes word
+    stored-elsewhere k =
+        ⊎-elim
+        (λ h. put-before (s .bytes) (q .offset) word fits k h)
+        (λ h. put-after (s .bytes) (q .offset) word fits k (rw merged-length h))
 
-  landed : Landed s (withBytes s (storedBytes s q new)) q new
-  unfolding word storedBytes
-  landed =
-      record {
-        size = put-length (s .bytes) (q .offset) word fits;
-        there = stored-there;
-        elsewhere = stored-elsewhere;
-        words = λ o a h. four-elsewhere (s .bytes) (q .offset) word o fits (merged-length _ _ _ _ _) aligned a h;
-        rules = refl;
-        marks = refl;
-      }
+    landed : Landed s (withBytes s (storedBytes s q new)) q new
+    unfolding word storedBytes
+    landed =
+        record {
+          size = put-length (s .bytes) (q .offset) word fits;
+          there = stored-there;
+          elsewhere = stored-elsewhere;
+          words = λ o a h. four-elsewhere (s .bytes) (q .offset) word o fits (merged-length _ _ _ _ _) aligned a h;
+          rules = refl;
+          marks = refl;
+        }
 
 -- ---- the write of a request
 

@@ -43,13 +43,7 @@ fn show_byte(enables: u8, byte: u8) -> u8
 }
 
 // Four bytes after a write.
-pub fn merge(
-    old: [u8; 4],
-    rules: [u8; 4],
-    marks: [u8; 4],
-    new: [u8; 4],
-    enables: u8,
-) -> [u8; 4]
+pub fn merge(old: [u8; 4], rules: [u8; 4], marks: [u8; 4], new: [u8; 4], enables: u8) -> [u8; 4]
     ensures { λ r. ⌜ r ≡ merged old rules marks new enables ⌝ }
 {
     let mask = enabled_bytes(enables);

@@ -2,3 +2,4 @@ pub mod Run
 pub mod Calls
 pub mod Bench
 pub mod Servers
+pub mod Clearing
