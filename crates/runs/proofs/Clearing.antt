@@ -16,7 +16,7 @@ use Rattle.board.specs.Promise.{Seen}
 use Rattle.board.proofs.Computing.{computing}
 use Rattle.runs.specs.Bench.{bench, zeros, holding, p2, readAt, changed}
 use Rattle.runs.specs.Servers.{Server, untouched, RightAt}
-use Rattle.runs.specs.Clearing.{Own, ClearsDisabled, ClearsOnRead, TakesMarked, KeepsMarked, ClearsAtA, remarked, LooksThere, LooksAtOrdinary, LooksAtTrusted}
+use Rattle.runs.specs.Clearing.{ClearsDisabled, ClearsOnRead, TakesMarked, KeepsMarked, ClearsAtA, remarked, LooksThere, LooksAtOrdinary, LooksAtTrusted}
 
 -- the bench sheet's board with FFh in four ordinary bytes, each bit of which is cleared by writing 1
 abbrev ones : List ℕ
