@@ -1,5 +1,5 @@
-//! Document 01's rules, one module for each of its sections: packets, lists and records, as the requests 2/13 and 3/13
-//! change them. And the requests 1/13, the router, and 5/13, the asking side.
+//! Document 01's rules, one module for each of its sections: packets, lists and records, as the requests 2/13, 3/13
+//! and 6/13 change them. And the requests 1/13, the router, and 5/13, the asking side.
 //!
 //! Every function answers every input. A number other than 0 leaves all that was lent as it was.
 
@@ -9,11 +9,13 @@ mod description;
 mod dual_bdf;
 mod dvsec;
 mod hear;
+mod marks;
 mod merge;
 mod ports;
 mod refusal;
 mod request;
 mod route;
+mod ruled;
 mod serve;
 mod space;
 mod walk;
@@ -32,6 +34,8 @@ mod checked;
 mod null;
 #[cfg(test)]
 mod shapes;
+#[cfg(test)]
+mod status_bits;
 
 pub use ask::{Parts, Written, write_request};
 pub use description::Description;

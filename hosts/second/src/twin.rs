@@ -62,6 +62,12 @@ impl<Cell: Copy + PartialEq + Default> Twin<Cell> {
         self.before.copy_from_slice(&self.ours);
     }
 
+    /// Puts both copies back to what was last remembered.
+    pub fn restore(&mut self) {
+        self.ours.copy_from_slice(&self.before);
+        self.theirs.copy_from_slice(&self.before);
+    }
+
     /// What the lent part held when it was last remembered.
     pub fn before(&self) -> &[Cell] {
         &self.before[self.start..self.start + self.length]

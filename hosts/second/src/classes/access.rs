@@ -2,30 +2,31 @@
 
 use super::alone::only;
 use super::group::Group;
+use super::marked::{count_marked, count_marked_unsupported};
 use super::names::{Captures, Correlation};
 use super::serve::{History, ServeView};
 use super::tally::Tally;
 use crate::twin::word;
 
 /// The enabled bytes' bits.
-const fn enabled(enables: u8) -> u32 {
+pub const fn enabled(enables: u8) -> u32 {
     let spread =
         (enables & 1) as u32 | (enables as u32 & 2) << 7 | (enables as u32 & 4) << 14 | (enables as u32 & 8) << 21;
     spread * 0xFF
 }
 
 /// A packet of number 0, taken apart.
-struct Parts {
+pub struct Parts {
     code: u8,
-    trusted: bool,
-    writes: bool,
+    pub trusted: bool,
+    pub writes: bool,
     poisoned: bool,
-    enables: u8,
+    pub enables: u8,
     bus: u8,
     device: u8,
     function: u8,
-    offset: usize,
-    data: u32,
+    pub offset: usize,
+    pub data: u32,
 }
 
 impl Parts {
@@ -70,11 +71,12 @@ pub fn count_accepted(view: &ServeView<'_>, history: &mut History, tally: &mut T
         "the model and the causes disagree on Unsupported Request"
     );
     if unsupported {
-        count_unsupported(&causes, &parts, tally);
+        count_unsupported(view, &causes, &parts, tally);
     } else {
         count_reserved(bytes, Group::ReservedBits, 0, tally);
         count_success(view, &parts, tally);
         count_correlation(view, &parts, history, tally);
+        count_marked(view, &parts, history, tally);
         count_capture(view, &parts, tally);
     }
 }
@@ -98,10 +100,11 @@ fn unsupported_causes(view: &ServeView<'_>, parts: &Parts) -> [bool; 7] {
 }
 
 /// Counts a call whose request has one cause of Unsupported Request and no other.
-fn count_unsupported(causes: &[bool; 7], parts: &Parts, tally: &mut Tally) {
+fn count_unsupported(view: &ServeView<'_>, causes: &[bool; 7], parts: &Parts, tally: &mut Tally) {
     if let Some(cause) = only(causes) {
         let second = if cause == 6 { parts.trusted } else { parts.writes };
         tally.add(Group::Unsupported, 2 * cause + usize::from(second));
+        count_marked_unsupported(view, parts, cause, tally);
     }
 }
 

@@ -97,6 +97,12 @@ pub enum Effect {
     NothingEnabledRead,
     NothingEnabledWritten,
     Captured,
+    OrdinaryCleared,
+    OrdinaryMarksKept,
+    OrdinaryWriteAtAOverMarks,
+    TrustedCleared,
+    TrustedMarksKept,
+    TrustedClearedAtB,
 }
 
 pub const EFFECTS: &[&str] = &[
@@ -115,4 +121,10 @@ pub const EFFECTS: &[&str] = &[
     "read with no byte enabled",
     "write with no byte enabled",
     "write that captures something else",
+    "ordinary write that clears a marked bit",
+    "ordinary write that leaves a marked bit at 1",
+    "ordinary write at A of a one to a marked bit at A or B",
+    "trusted write that clears a marked bit",
+    "trusted write that leaves a marked bit at 1",
+    "trusted write at B that clears a marked bit",
 ];

@@ -64,7 +64,7 @@ fn outcome(kind: u8, unsupported: bool) -> usize {
 /// Counts a success by what it came to on the board.
 fn count_effect(view: &CircleView<'_>, tally: &mut Tally) {
     let parts = &view.parts;
-    let [old, new, _] = view.bytes();
+    let [old, new, ..] = view.bytes();
     let (trusted, at_a) = (view.is_trusted(), view.is_at_a());
     let at_b = trusted && parts.offset == view.description.b;
     let mut add_if = |condition, effect| tally.add_if(condition, Group::Effects, effect as usize);
@@ -90,4 +90,21 @@ fn count_effect(view: &CircleView<'_>, tally: &mut Tally) {
     add_if(at_b && changed, Effect::TrustedChangedAtB);
     add_if(parts.enables == 0, Effect::NothingEnabledWritten);
     add_if(view.captured_then != view.capture, Effect::Captured);
+    count_marked(view, tally);
+}
+
+/// Counts a write by what it came to for marked bits that were 1.
+fn count_marked(view: &CircleView<'_>, tally: &mut Tally) {
+    let [old, new, _, marks] = view.bytes().map(u32::from_le_bytes);
+    let (trusted, at_a) = (view.is_trusted(), view.is_at_a());
+    let at_b = trusted && view.parts.offset == view.description.b;
+    let cleared = marks & old & !new != 0;
+    let kept = marks & new != 0;
+    let mut add_if = |condition, effect| tally.add_if(condition, Group::Effects, effect as usize);
+    add_if(!trusted && cleared, Effect::OrdinaryCleared);
+    add_if(!trusted && !at_a && kept, Effect::OrdinaryMarksKept);
+    add_if(at_a && view.meets_marks_at_a(), Effect::OrdinaryWriteAtAOverMarks);
+    add_if(trusted && cleared, Effect::TrustedCleared);
+    add_if(trusted && kept, Effect::TrustedMarksKept);
+    add_if(at_b && cleared, Effect::TrustedClearedAtB);
 }

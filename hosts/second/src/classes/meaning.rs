@@ -16,8 +16,10 @@ pub struct CircleView<'call> {
     pub heard: Heard,
     pub ordinary: [&'call [u8]; 2],
     pub ordinary_rules: &'call [u8],
+    pub ordinary_marks: &'call [u8],
     pub trusted: [&'call [u8]; 2],
     pub trusted_rules: &'call [u8],
+    pub trusted_marks: &'call [u8],
 }
 
 impl CircleView<'_> {
@@ -34,16 +36,38 @@ impl CircleView<'_> {
         self.ordinary[0] == self.ordinary[1] && self.trusted[0] == self.trusted[1]
     }
 
-    /// The bytes, before and after, that a request at this place is about, and their rules.
-    pub fn bytes(&self) -> [[u8; 4]; 3] {
-        let at = self.parts.offset as usize;
-        let [before, after, rules] = if self.is_trusted() {
-            [self.trusted[0], self.trusted[1], self.trusted_rules]
+    /// The bytes, before and after, that a request at this place is about, their rules and their marks.
+    pub fn bytes(&self) -> [[u8; 4]; 4] {
+        let spaces = if self.is_trusted() {
+            [self.trusted[0], self.trusted[1], self.trusted_rules, self.trusted_marks]
         } else {
-            [self.ordinary[0], self.ordinary[1], self.ordinary_rules]
+            [
+                self.ordinary[0],
+                self.ordinary[1],
+                self.ordinary_rules,
+                self.ordinary_marks,
+            ]
         };
-        [before, after, rules].map(|space| [space[at], space[at + 1], space[at + 2], space[at + 3]])
+        spaces.map(|space| four_bytes(space, self.parts.offset))
     }
+
+    /// Whether an enabled one of a write at A stands where a marked bit is 1, of the bytes stored there or of those at B.
+    pub fn meets_marks_at_a(&self) -> bool {
+        let at_b = [self.trusted[0], self.trusted_marks].map(|space| four_bytes(space, self.description.b));
+        let [stored, _, _, marks] = self.bytes();
+        [[stored, marks], at_b].iter().any(|[bytes, marks]| {
+            (0..4).any(|place| {
+                let enabled = self.parts.enables >> place & 1 == 1;
+                enabled && bytes[place] & marks[place] & self.parts.data[place] != 0
+            })
+        })
+    }
+}
+
+/// The four bytes at an offset.
+fn four_bytes(space: &[u8], offset: u32) -> [u8; 4] {
+    let at = offset as usize;
+    [space[at], space[at + 1], space[at + 2], space[at + 3]]
 }
 
 /// Whether what was heard answers what was asked: the requester and the tag are those of the request, and the completer
@@ -57,8 +81,8 @@ pub fn is_answer(view: &CircleView<'_>) -> bool {
 }
 
 /// Whether what was heard is what became of the request. UR: nothing changed. Success with data: nothing changed, and
-/// the data are what the space shows. Success without: the enabled bits that may be written are as the data, and nothing
-/// else changed; at A nothing did.
+/// the data are what the space shows. Success without: the enabled bits that may be written are as the data, the enabled
+/// marked bits are 0 where the data have 1, and nothing else changed; at A nothing did.
 pub fn is_done(view: &CircleView<'_>, unsupported: bool) -> bool {
     let target = Some((view.parts.bus, view.parts.device));
     let captured = if !unsupported && view.parts.kind == 0x44 {
@@ -98,14 +122,15 @@ fn has_landed(view: &CircleView<'_>) -> bool {
         (view.ordinary, view.trusted)
     };
     let [before, after] = changed;
-    let [old, new, rules] = view.bytes();
+    let [old, new, rules, marks] = view.bytes();
     let as_due = (0..4).all(|place| {
-        let open = if view.parts.enables >> place & 1 == 1 {
-            rules[place]
-        } else {
-            0
-        };
-        new[place] & open == view.parts.data[place] & open && new[place] & !open == old[place] & !open
+        if view.parts.enables >> place & 1 == 0 {
+            return new[place] == old[place];
+        }
+        let (open, data) = (rules[place], view.parts.data[place]);
+        let cleared = marks[place] & data;
+        let others = !(open | cleared);
+        new[place] & open == data & open && new[place] & cleared == 0 && new[place] & others == old[place] & others
     });
     as_due && before[..at] == after[..at] && before[at + 4..] == after[at + 4..] && other[0] == other[1]
 }
@@ -116,8 +141,13 @@ mod tests {
 
     const BEFORE: [u8; 16] = [0x3C; 16];
     const RULES: [u8; 16] = [0xF0; 16];
+    const MARKS: [u8; 16] = [0x06; 16];
     const TRUSTED: [u8; 16] = [0x99; 16];
     const DATA: [u8; 4] = [0xAA, 0xBB, 0xCC, 0xDD];
+
+    /// What the space has at 004h when the write has landed: of each enabled byte, bits 7:4 are as the data, bits 2:1 are 0
+    /// where these have 1, and the others are as they were.
+    const LANDED: [u8; 4] = [0x3C, 0xBC, 0xC8, 0xD8];
 
     /// An ordinary write at 004h, of all bytes but the first, to a board with function 1; A is 008h and B is 00Ch. Here
     /// the space is as it was, so that nothing has landed yet.
@@ -153,8 +183,10 @@ mod tests {
             heard,
             ordinary: [&BEFORE, ordinary],
             ordinary_rules: &RULES,
+            ordinary_marks: &MARKS,
             trusted: [&TRUSTED, trusted],
             trusted_rules: &RULES,
+            trusted_marks: &MARKS,
         }
     }
 
@@ -167,20 +199,25 @@ mod tests {
 
     #[test]
     fn a_write_has_landed_where_it_may_and_nowhere_else() {
-        let landed = with(BEFORE, 0x004, [0x3C, 0xBC, 0xCC, 0xDC]);
+        let landed = with(BEFORE, 0x004, LANDED);
         assert!(is_done(&asked(0x44, 2, &landed, &TRUSTED), false));
         assert!(!is_done(&asked(0x44, 3, &landed, &TRUSTED), false));
         assert!(!is_done(&asked(0x44, 2, &BEFORE, &TRUSTED), false));
         for wrong in [
-            with(BEFORE, 0x004, [0xAC, 0xBC, 0xCC, 0xDC]),
+            with(BEFORE, 0x004, [0xAC, 0xBC, 0xC8, 0xD8]),
             with(BEFORE, 0x004, DATA),
+            with(landed, 0x004, [0x38]),
+            with(landed, 0x005, [0xB8]),
+            with(landed, 0x005, [0xBE]),
+            with(landed, 0x006, [0xCC]),
+            with(landed, 0x007, [0xD0]),
             with(landed, 0x003, [0x3D]),
             with(landed, 0x008, [0x3D]),
-            with(BEFORE, 0x008, [0x3C, 0xBC, 0xCC, 0xDC]),
+            with(BEFORE, 0x008, LANDED),
         ] {
             assert!(!is_done(&asked(0x44, 2, &wrong, &TRUSTED), false));
         }
-        let elsewhere = with(TRUSTED, 0x004, [0x3C, 0xBC, 0xCC, 0xDC]);
+        let elsewhere = with(TRUSTED, 0x004, LANDED);
         assert!(!is_done(&asked(0x44, 2, &landed, &elsewhere), false));
         assert!(!is_done(&asked(0x44, 2, &BEFORE, &elsewhere), false));
     }
@@ -193,8 +230,8 @@ mod tests {
             is_done(&view, false)
         };
         assert!(at_a(&BEFORE));
-        assert!(!at_a(&with(BEFORE, 0x008, [0x3C, 0xBC, 0xCC, 0xDC])));
-        let landed = with(BEFORE, 0x004, [0x3C, 0xBC, 0xCC, 0xDC]);
+        assert!(!at_a(&with(BEFORE, 0x008, LANDED)));
+        let landed = with(BEFORE, 0x004, LANDED);
         for captured_then in [None, Some((5, 7)), Some((4, 6))] {
             let mut view = asked(0x44, 2, &landed, &TRUSTED);
             view.captured_then = captured_then;

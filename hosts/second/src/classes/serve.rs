@@ -7,7 +7,7 @@ use super::causes::count_causes;
 use super::group::Group;
 use super::names::{Captures, KeptForm};
 use super::tally::Tally;
-use crate::generate::{NAMED_LENGTHS, ServeCase, named_length_place};
+use crate::generate::{MARKS_LENGTHS, NAMED_LENGTHS, ServeCase, marks_length_place, named_length_place};
 
 /// A call of `serve` and what the model made of it. The spaces are as lent.
 pub struct ServeView<'call> {
@@ -15,11 +15,24 @@ pub struct ServeView<'call> {
     pub ordinary_before: &'call [u8],
     pub ordinary_after: &'call [u8],
     pub ordinary_rules: &'call [u8],
+    pub ordinary_marks: &'call [u8],
     pub trusted_before: &'call [u8],
     pub trusted_after: &'call [u8],
     pub trusted_rules: &'call [u8],
+    pub trusted_marks: &'call [u8],
     pub served: Served,
     pub reply: &'call [u8],
+}
+
+impl ServeView<'_> {
+    /// The rules and the marks of the trusted space, or of the ordinary one.
+    pub const fn ruled(&self, trusted: bool) -> (&[u8], &[u8]) {
+        if trusted {
+            (self.trusted_rules, self.trusted_marks)
+        } else {
+            (self.ordinary_rules, self.ordinary_marks)
+        }
+    }
 }
 
 /// What happened on the board before this call.
@@ -31,6 +44,8 @@ pub struct History {
     pub b_read: bool,
     /// The bits of the trusted word at B that were changed since they were last shown at A.
     pub b_changed: u32,
+    /// The marked bits of the trusted word at B that were cleared since they were last shown at A.
+    pub b_cleared: u32,
 }
 
 /// Counts a call in all its classes, and takes it into the board's history.
@@ -39,7 +54,7 @@ pub fn count(view: &ServeView<'_>, history: &mut History, tally: &mut Tally) {
     tally.add(Group::ServeAnswers, number.into());
     count_lengths(view.case, tally);
     count_kept(view, tally);
-    count_causes(view.case, number, tally);
+    count_causes(view, number, tally);
     if number == 0 {
         if history.last_number != 0 {
             tally.add(Group::AfterRefusal, usize::from(history.last_number) - 1);
@@ -50,9 +65,15 @@ pub fn count(view: &ServeView<'_>, history: &mut History, tally: &mut Tally) {
 }
 
 fn count_lengths(case: &ServeCase, tally: &mut Tally) {
-    for (space, &length) in case.lengths.iter().enumerate() {
+    let (spaces, marks) = case.lengths.split_at(4);
+    for (space, &length) in spaces.iter().enumerate() {
         if let Some(place) = named_length_place(length) {
             tally.add(Group::SpaceLengths, space * NAMED_LENGTHS + place);
+        }
+    }
+    for (space, &length) in marks.iter().enumerate() {
+        if let Some(place) = marks_length_place(length) {
+            tally.add(Group::MarksLengths, space * MARKS_LENGTHS + place);
         }
     }
     tally.add(Group::ReplyLengths, case.reply_length.min(21));

@@ -5,6 +5,7 @@ use super::ask_names::{
 };
 use super::fault_names::{ELSEWHERE, END_PLACES, LOOP_PLACES, WALK_TOGETHER};
 use super::group::{Classes, Group, Line};
+use super::marked_names::{DOUBLED_PLACES, MARKED, MARKED_UNSUPPORTED};
 use super::names::{
     BOTTOM_BITS, CAPTURES, CORRELATION, DECLARED_EMPTY, DUAL_CAUSES, DUAL_IGNORED, DUAL_ORDER, DVSEC_BODIES,
     DVSEC_CAUSES, FIRST_NULLS, KEPT_FORMS, NOISE, NULL_FORMS, RULES, SERVE_CAUSES, SERVE_TOGETHER, UNSUPPORTED,
@@ -31,7 +32,7 @@ const fn named(group: Group, title: &'static str, names: &'static [&'static str]
 }
 
 /// All groups. "Alone" means that the call has no other cause for a refusal, or for Unsupported Request.
-pub const TABLE: [Line; 122] = [
+pub const TABLE: [Line; 133] = [
     numbered(Group::ServeAnswers, "serve: answers 0 to 6", 7, 1000),
     named(
         Group::ServeCauses,
@@ -44,6 +45,36 @@ pub const TABLE: [Line; 122] = [
         "serve: causes of two numbers together",
         SERVE_TOGETHER,
         100,
+    ),
+    numbered(
+        Group::MarksTogether,
+        "serve: each cause of the marks with each other cause",
+        86,
+        10,
+    ),
+    numbered(
+        Group::DoubledBytes,
+        "serve: one bit marked doubly, every byte of both spaces",
+        8192,
+        2,
+    ),
+    numbered(
+        Group::DoubledBits,
+        "serve: one bit marked doubly, each of 32, both spaces",
+        64,
+        100,
+    ),
+    numbered(
+        Group::DoubledKinds,
+        "serve: one bit marked doubly, both spaces, type codes",
+        12,
+        100,
+    ),
+    named(
+        Group::DoubledPlaces,
+        "serve: where bits are marked doubly, alone",
+        DOUBLED_PLACES,
+        50,
     ),
     numbered(
         Group::OtherFirstBytes,
@@ -93,6 +124,36 @@ pub const TABLE: [Line; 122] = [
         10,
     ),
     named(Group::Rules, "serve: rules of enabled bytes, success", RULES, 1000),
+    numbered(
+        Group::MarkedEnables,
+        "serve: marked bits cleared, kept, 0, enables, spaces",
+        120,
+        300,
+    ),
+    numbered(
+        Group::MarkedBits,
+        "serve: each marked bit cleared, kept, 0, both spaces",
+        256,
+        1000,
+    ),
+    named(
+        Group::Marked,
+        "serve: what was met of marked bits, success",
+        MARKED,
+        100,
+    ),
+    named(
+        Group::MarkedUnsupported,
+        "serve: UR to a write that would clear a bit, cause alone",
+        MARKED_UNSUPPORTED,
+        100,
+    ),
+    numbered(
+        Group::ClearedWords,
+        "serve: every word with a bit cleared, both spaces",
+        2048,
+        2,
+    ),
     named(Group::Correlation, "serve: the correlation word", CORRELATION, 100),
     named(Group::Captures, "serve and reset: captures", CAPTURES, 100),
     named(Group::KeptForms, "serve: forms of the kept capture", KEPT_FORMS, 100),
@@ -127,6 +188,12 @@ pub const TABLE: [Line; 122] = [
         Group::SpaceLengths,
         "all: spaces of 0 to 20 and 4,090 to 4,100",
         320,
+        10,
+    ),
+    numbered(
+        Group::MarksLengths,
+        "serve: marks of 0 to 20, 4,090 to 4,100 and 8,192",
+        66,
         10,
     ),
     numbered(

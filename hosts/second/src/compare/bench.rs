@@ -65,8 +65,10 @@ impl Bench {
             kept,
             ordinary: self.board.ordinary.ours_mut(),
             ordinary_rules: self.board.ordinary_rules.ours(),
+            ordinary_marks: self.board.ordinary_marks.ours(),
             trusted: self.board.trusted.ours_mut(),
             trusted_rules: self.board.trusted_rules.ours(),
+            trusted_marks: self.board.trusted_marks.ours(),
             packet: self.packet.ours(),
             reply: self.reply.ours_mut(),
         })
@@ -78,8 +80,10 @@ impl Bench {
             kept,
             ordinary: self.board.ordinary.theirs_mut(),
             ordinary_rules: self.board.ordinary_rules.theirs(),
+            ordinary_marks: self.board.ordinary_marks.theirs(),
             trusted: self.board.trusted.theirs_mut(),
             trusted_rules: self.board.trusted_rules.theirs(),
+            trusted_marks: self.board.trusted_marks.theirs(),
             packet: self.packet.theirs(),
             reply: self.reply.theirs_mut(),
         })
@@ -91,8 +95,10 @@ impl Bench {
         let buffers = [
             &board.ordinary,
             &board.ordinary_rules,
+            &board.ordinary_marks,
             &board.trusted,
             &board.trusted_rules,
+            &board.trusted_marks,
             &self.packet,
             &self.reply,
         ];
@@ -119,16 +125,24 @@ impl Bench {
                 &places,
             )
             .words("ordinary rules there", board.ordinary_rules.ours(), &places)
+            .words("ordinary marks there", board.ordinary_marks.ours(), &places)
             .words("trusted words there", board.trusted.before(), &places)
             .words("trusted rules there", board.trusted_rules.ours(), &places)
+            .words("trusted marks there", board.trusted_marks.ours(), &places)
+            .doubled("ordinary", board.ordinary_rules.ours(), board.ordinary_marks.ours())
+            .doubled("trusted", board.trusted_rules.ours(), board.trusted_marks.ours())
             .space("ordinary", board.ordinary.before())
             .space("ordinary rules", board.ordinary_rules.ours())
+            .space("ordinary marks", board.ordinary_marks.ours())
             .space("trusted", board.trusted.before())
             .space("trusted rules", board.trusted_rules.ours())
+            .space("trusted marks", board.trusted_marks.ours())
             .look("ordinary", &board.ordinary)
             .look("ordinary rules", &board.ordinary_rules)
+            .look("ordinary marks", &board.ordinary_marks)
             .look("trusted", &board.trusted)
             .look("trusted rules", &board.trusted_rules)
+            .look("trusted marks", &board.trusted_marks)
             .look("packet", &self.packet)
             .look("reply", &self.reply)
     }

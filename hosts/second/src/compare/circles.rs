@@ -9,7 +9,7 @@ use super::difference::Difference;
 use super::reference::meaning;
 use super::subject::Subject;
 use crate::classes::{CircleView, Tally, count_circle};
-use crate::generate::{Board, LONGEST_PACKET, PacketMaker, PartsMaker, Random, SPACE_BYTES};
+use crate::generate::{Board, LONGEST_PACKET, PacketMaker, PartsMaker, Random};
 
 /// The least room for a reply, and also for any request.
 const ROOM: usize = 16;
@@ -38,8 +38,8 @@ impl Circles {
     ) -> Result<(), Box<Difference>> {
         let bench = &mut self.bench;
         bench.live(random);
-        bench.board.lend([SPACE_BYTES; 4]);
         let parts = PartsMaker::of(&self.maker.fields(&bench.board, true, random), random);
+        bench.board.raise(parts.offset as usize, random);
         bench.packet.refill(|bytes| random.fill(bytes));
         bench.packet.lend(random.within(ROOM, LONGEST_PACKET));
         let written = write_request(parts, &mut bench.packet, subject)?;
@@ -65,7 +65,9 @@ fn view(board: &Board, parts: Parts, capture: Option<(u8, u8)>, heard: Heard) ->
         heard,
         ordinary: [board.ordinary.before(), board.ordinary.ours()],
         ordinary_rules: board.ordinary_rules.ours(),
+        ordinary_marks: board.ordinary_marks.ours(),
         trusted: [board.trusted.before(), board.trusted.ours()],
         trusted_rules: board.trusted_rules.ours(),
+        trusted_marks: board.trusted_marks.ours(),
     }
 }

@@ -90,6 +90,17 @@ impl Difference {
         self
     }
 
+    /// Adds the first bytes of a space that have a bit both in the rules and in the marks.
+    pub fn doubled(mut self, name: &str, rules: &[u8], marks: &[u8]) -> Self {
+        let mut text = format!("{name} bytes with a bit marked doubly:");
+        let pairs = rules.iter().zip(marks).enumerate();
+        for (place, (rule, mark)) in pairs.filter(|(_, (rule, mark))| *rule & *mark != 0).take(MOST_WORDS) {
+            let _ = write!(text, " {place:03x}={:02x}", rule & mark);
+        }
+        self.inputs.push(text);
+        self
+    }
+
     /// Looks for a cell that differs in a buffer, if none was found before.
     pub fn look<Cell: Copy + PartialEq + Default + Debug>(mut self, name: &str, buffer: &Twin<Cell>) -> Self {
         let Some((place, ours, theirs)) = buffer.first_difference() else {

@@ -41,6 +41,7 @@ impl Packets {
         let served = self.bench.serve(case.description, case.kept, subject)?;
         tally.add_if(is_noise, Group::Noise, 0);
         self.count(&case, served, tally);
+        self.bench.board.undo_doubling();
         if served.number == 0 {
             self.bench.board.capture = meaning(served.capture);
         }
@@ -85,16 +86,18 @@ impl Packets {
         if is_noise {
             return ServeCase::noise(board, random);
         }
-        let faults = random.weighted(&[65, 26, 6, 3]);
+        let faults = random.weighted(&[61, 29, 7, 3]);
         let packet = self.packet_maker.sound(board, faults == 0, random);
         let mut case = ServeCase::sound(board, packet, random);
         self.fault_maker.put_some(faults, &mut case, random);
         case
     }
 
-    /// Puts a case's packet, a random reply and the lengths in place.
+    /// Puts errors that have come up, a case's doubly marked bits, its packet, a random reply and the lengths in place.
     fn load(&mut self, case: &ServeCase, random: &mut Random) {
         let bench = &mut self.bench;
+        bench.board.raise(case.packet.offset(), random);
+        bench.board.double(case.doubled);
         bench.board.lend(case.lengths);
         bench.packet.set(0, &case.packet.bytes);
         bench.packet.lend(case.packet.length);
@@ -108,9 +111,11 @@ impl Packets {
             ordinary_before: board.ordinary.before(),
             ordinary_after: board.ordinary.ours(),
             ordinary_rules: board.ordinary_rules.ours(),
+            ordinary_marks: board.ordinary_marks.ours(),
             trusted_before: board.trusted.before(),
             trusted_after: board.trusted.ours(),
             trusted_rules: board.trusted_rules.ours(),
+            trusted_marks: board.trusted_marks.ours(),
             served,
             reply: self.bench.reply.ours(),
         };

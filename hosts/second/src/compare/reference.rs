@@ -73,8 +73,10 @@ impl Subject for Reference {
             meaning(call.kept),
             call.ordinary,
             call.ordinary_rules,
+            call.ordinary_marks,
             call.trusted,
             call.trusted_rules,
+            call.trusted_marks,
             call.packet,
             call.reply,
         );

@@ -10,8 +10,10 @@ pub struct ServeCall<'lent> {
     pub kept: Capture,
     pub ordinary: &'lent mut [u8],
     pub ordinary_rules: &'lent [u8],
+    pub ordinary_marks: &'lent [u8],
     pub trusted: &'lent mut [u8],
     pub trusted_rules: &'lent [u8],
+    pub trusted_marks: &'lent [u8],
     pub packet: &'lent [u8],
     pub reply: &'lent mut [u8],
 }
@@ -41,8 +43,10 @@ impl Subject for Library {
             call.kept,
             call.ordinary,
             call.ordinary_rules,
+            call.ordinary_marks,
             call.trusted,
             call.trusted_rules,
+            call.trusted_marks,
             call.packet,
             call.reply,
         )

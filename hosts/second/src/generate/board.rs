@@ -1,7 +1,8 @@
-//! A board that lives for some calls: its description, its capture, two spaces and two rule spaces.
+//! A board that lives for some calls: its description, its capture, and two spaces with their rules and their marks.
 
 use thawribbon::raw::{Capture, Description};
 
+use super::marks::{Doubling, LONGEST_MARKS, fill_marks};
 use super::random::Random;
 use crate::twin::Twin;
 
@@ -18,8 +19,12 @@ pub struct Board {
     pub capture: Option<(u8, u8)>,
     pub ordinary: Twin<u8>,
     pub ordinary_rules: Twin<u8>,
+    pub ordinary_marks: Twin<u8>,
     pub trusted: Twin<u8>,
     pub trusted_rules: Twin<u8>,
+    pub trusted_marks: Twin<u8>,
+    /// Whether bits of the ordinary and of the trusted space are marked doubly, until that is undone.
+    doubled: [bool; 2],
     calls_left: usize,
 }
 
@@ -32,8 +37,11 @@ impl Board {
             capture: None,
             ordinary: space(),
             ordinary_rules: space(),
+            ordinary_marks: Twin::new(LONGEST_MARKS),
             trusted: space(),
             trusted_rules: space(),
+            trusted_marks: Twin::new(LONGEST_MARKS),
+            doubled: [false; 2],
             calls_left: 0,
         }
     }
@@ -60,6 +68,56 @@ impl Board {
             rules.shift(random.below(8));
             fill_rules(rules, random);
         }
+        for (rules, marks) in self.ruled() {
+            marks.shift(random.below(8));
+            fill_marks(marks, rules.ours(), random);
+        }
+    }
+
+    /// The rules and the marks of the ordinary space, and those of the trusted one.
+    fn ruled(&mut self) -> [(&mut Twin<u8>, &mut Twin<u8>); 2] {
+        [
+            (&mut self.ordinary_rules, &mut self.ordinary_marks),
+            (&mut self.trusted_rules, &mut self.trusted_marks),
+        ]
+    }
+
+    /// Now and then, errors have come up before a call: marked bits of a word are set, as no packet can set them. It is
+    /// the word of both spaces that the call asks for, the one at A, or the one at B.
+    pub fn raise(&mut self, asked: usize, random: &mut Random) {
+        self.lend([SPACE_BYTES; 6]);
+        let (a, b) = (self.description.a as usize, self.description.b as usize);
+        let (ordinary, trusted) = match random.weighted(&[65, 20, 7, 8]) {
+            0 => (None, None),
+            1 => (Some(asked), Some(asked)),
+            2 => (Some(a), None),
+            _ => (None, Some(b)),
+        };
+        set_marked_bits(&mut self.ordinary, &self.ordinary_marks, ordinary);
+        set_marked_bits(&mut self.trusted, &self.trusted_marks, trusted);
+    }
+
+    /// Marks bits of the ordinary and of the trusted space doubly, for one call.
+    pub fn double(&mut self, doublings: [Option<Doubling>; 2]) {
+        self.lend([SPACE_BYTES; 6]);
+        self.doubled = doublings.map(|doubling| doubling.is_some());
+        for ((rules, marks), doubling) in self.ruled().into_iter().zip(doublings) {
+            if let Some(doubling) = doubling {
+                rules.remember();
+                marks.remember();
+                doubling.put(rules, marks);
+            }
+        }
+    }
+
+    /// Puts the rules and the marks back as they were.
+    pub fn undo_doubling(&mut self) {
+        let doubled = self.doubled;
+        for ((rules, marks), _) in self.ruled().into_iter().zip(doubled).filter(|(_, doubled)| *doubled) {
+            rules.restore();
+            marks.restore();
+        }
+        self.doubled = [false; 2];
     }
 
     /// The board's capture in one of the forms that the library takes for it: any number but 0 tells that something is
@@ -85,13 +143,30 @@ impl Board {
         }
     }
 
-    /// Lends the four spaces with these lengths: ordinary, its rules, trusted, its rules.
-    pub fn lend(&mut self, lengths: [usize; 4]) {
-        let [ordinary, ordinary_rules, trusted, trusted_rules] = lengths;
+    /// Lends the two spaces and what goes with them by these lengths: ordinary, its rules, trusted, its rules, and the
+    /// marks of both.
+    pub fn lend(&mut self, lengths: [usize; 6]) {
+        let [
+            ordinary,
+            ordinary_rules,
+            trusted,
+            trusted_rules,
+            ordinary_marks,
+            trusted_marks,
+        ] = lengths;
         self.ordinary.lend(ordinary);
         self.ordinary_rules.lend(ordinary_rules);
         self.trusted.lend(trusted);
         self.trusted_rules.lend(trusted_rules);
+        self.ordinary_marks.lend(ordinary_marks);
+        self.trusted_marks.lend(trusted_marks);
+    }
+}
+
+/// Sets all marked bits of the word at an offset, if one is given.
+fn set_marked_bits(space: &mut Twin<u8>, marks: &Twin<u8>, offset: Option<usize>) {
+    if let Some(offset) = offset {
+        space.set_word(offset, space.word(offset) | marks.word(offset));
     }
 }
 

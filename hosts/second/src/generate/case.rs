@@ -3,19 +3,22 @@
 use thawribbon::raw::{Capture, Description};
 
 use super::board::{Board, LONGEST_SPACE, SPACE_BYTES};
+use super::marks::Doubling;
 use super::packet::{Packet, noise};
 use super::random::Random;
 
 /// The longest reply that is lent.
 pub const LONGEST_REPLY: usize = 48;
 
-/// A call of `serve`, but for the bytes of the spaces.
+/// A call of `serve`, but for the bytes of the spaces, of their rules and of their marks.
 #[derive(Clone, Copy)]
 pub struct ServeCase {
     pub description: Description,
     pub kept: Capture,
-    /// The lengths of the ordinary space, its rules, the trusted space and its rules.
-    pub lengths: [usize; 4],
+    /// The lengths of the ordinary space, its rules, the trusted space and its rules, and of the marks of both.
+    pub lengths: [usize; 6],
+    /// The bits of the ordinary and of the trusted space that are marked doubly in this call.
+    pub doubled: [Option<Doubling>; 2],
     pub packet: Packet,
     pub reply_length: usize,
 }
@@ -36,7 +39,8 @@ impl ServeCase {
         Self {
             description: board.description,
             kept,
-            lengths: [SPACE_BYTES; 4],
+            lengths: [SPACE_BYTES; 6],
+            doubled: [None; 2],
             packet,
             reply_length,
         }
@@ -54,7 +58,7 @@ impl ServeCase {
             a: u32::from_le_bytes(a),
             b: random.bits() as u32,
         };
-        let lengths = [0; 4].map(|_| random.below(LONGEST_SPACE + 1));
+        let lengths = [0; 6].map(|_| random.below(LONGEST_SPACE + 1));
         let reply_length = random.below(LONGEST_REPLY + 1);
         Self {
             description,

@@ -5,14 +5,19 @@ use thawribbon::raw::Capture;
 use super::case::ServeCase;
 use super::cursor::Cursor;
 use super::lengths::WrongLengths;
+use super::marks::DoublingMaker;
 use super::packet_fault::{PacketFault, PacketFaultMaker};
 use super::random::Random;
 
 /// A cause for one of the numbers 1 to 6.
 #[derive(Clone, Copy)]
 enum Fault {
-    /// The length of one of the four spaces.
+    /// The length of one of the two spaces and their rules.
     Space(usize),
+    /// The length of the marks of the ordinary or of the trusted space.
+    Marks(usize),
+    /// Bits of the ordinary or of the trusted space that are marked doubly.
+    Doubled(usize),
     Device,
     Function,
     A(Way),
@@ -30,11 +35,15 @@ enum Way {
 }
 
 /// The faults, each with how often it is taken where it comes alone: those with many values more often.
-const FAULTS: [(Fault, usize); 20] = [
+const FAULTS: [(Fault, usize); 24] = [
     (Fault::Space(0), 4),
     (Fault::Space(1), 4),
     (Fault::Space(2), 4),
     (Fault::Space(3), 4),
+    (Fault::Marks(0), 4),
+    (Fault::Marks(1), 4),
+    (Fault::Doubled(0), 16),
+    (Fault::Doubled(1), 16),
     (Fault::Device, 3),
     (Fault::Function, 3),
     (Fault::A(Way::Below), 3),
@@ -56,6 +65,8 @@ const FAULTS: [(Fault, usize); 20] = [
 /// Puts faults into calls.
 pub struct FaultMaker {
     space_lengths: [WrongLengths; 4],
+    marks_lengths: [WrongLengths; 2],
+    doublings: [DoublingMaker; 2],
     replies: Cursor,
     packets: PacketFaultMaker,
 }
@@ -64,6 +75,8 @@ impl FaultMaker {
     pub fn new() -> Self {
         Self {
             space_lengths: [const { WrongLengths::new() }; 4],
+            marks_lengths: [const { WrongLengths::new() }; 2],
+            doublings: [const { DoublingMaker::new() }; 2],
             replies: Cursor::new(16),
             packets: PacketFaultMaker::new(),
         }
@@ -84,6 +97,8 @@ impl FaultMaker {
         let description = &mut case.description;
         match fault {
             Fault::Space(space) => case.lengths[space] = self.space_lengths[space].draw(random),
+            Fault::Marks(space) => case.lengths[4 + space] = self.marks_lengths[space].draw_for_marks(random),
+            Fault::Doubled(space) => case.doubled[space] = Some(self.doublings[space].draw(in_turn, case, random)),
             Fault::Device => case.kept = with_wrong_device(case.kept, random),
             Fault::Function => description.function = wrong_function(description.function, random),
             Fault::A(way) => description.a = wrong_offset(way, description.a, 0x104, random),

@@ -1,7 +1,9 @@
 //! Lengths of a space other than 4,096: those from 0 to 20 and from 4,090 to 4,100 in turn, and the nearest more often.
+//! Marks may also be as long as those of two spaces.
 
 use super::board::{LONGEST_SPACE, SPACE_BYTES};
 use super::cursor::Cursor;
+use super::marks::LONGEST_MARKS;
 use super::random::Random;
 
 /// The lengths of a space that are tried one by one.
@@ -13,6 +15,17 @@ pub const fn named_length_place(length: usize) -> Option<usize> {
         0..=20 => Some(length),
         4090..=4100 => Some(length - 4090 + 21),
         _ => None,
+    }
+}
+
+/// The lengths of marks that are tried one by one.
+pub const MARKS_LENGTHS: usize = NAMED_LENGTHS + 1;
+
+/// The place of the length of marks among them.
+pub const fn marks_length_place(length: usize) -> Option<usize> {
+    match length {
+        LONGEST_MARKS => Some(NAMED_LENGTHS),
+        _ => named_length_place(length),
     }
 }
 
@@ -42,6 +55,15 @@ impl WrongLengths {
             _ => any,
         };
         if length == SPACE_BYTES { SPACE_BYTES - 1 } else { length }
+    }
+
+    /// A length of marks that is not 4,096.
+    pub fn draw_for_marks(&mut self, random: &mut Random) -> usize {
+        if random.percent(12) {
+            LONGEST_MARKS
+        } else {
+            self.draw(random)
+        }
     }
 }
 

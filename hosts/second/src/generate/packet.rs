@@ -19,6 +19,11 @@ impl Packet {
         &self.bytes[..self.length]
     }
 
+    /// The offset of the word that it asks for, if it has so many bytes.
+    pub fn offset(&self) -> usize {
+        usize::from(self.bytes[10] & 0x0F) << 8 | usize::from(self.bytes[11] & 0xFC)
+    }
+
     /// The length that document 01 gives to a packet of this type code and digest bit.
     pub const fn right_length(&self) -> usize {
         let writes = (self.bytes[0] >> 6 & 1) as usize;
@@ -178,7 +183,7 @@ fn other_function(board: &Board, random: &mut Random) -> u8 {
     (board.description.function + random.within(1, 7) as u8) % 8
 }
 
-/// The bytes of a packet with these fields. Reserved bits are all 0, all 1 or at random.
+/// The bytes of a packet with these fields. Reserved bits are all 0, all 1 or at random, and so are the data.
 pub fn encode(fields: &Fields, random: &mut Random) -> Packet {
     let mut packet = noise(random);
     let digest = random.percent(25);
@@ -195,6 +200,11 @@ pub fn encode(fields: &Fields, random: &mut Random) -> Packet {
     bytes[9] = fields.device << 3 | fields.function;
     bytes[10] = (fields.offset >> 8) as u8 | fourth & 0xF0;
     bytes[11] = (fields.offset & 0xFC) as u8 | first & 0x03;
+    match random.below(10) {
+        0 => bytes[12..16].fill(0x00),
+        1 | 2 => bytes[12..16].fill(0xFF),
+        _ => {}
+    }
     packet.length = packet.right_length();
     packet
 }

@@ -245,7 +245,7 @@ fn a_board_between_the_two() {
         a: 0x104,
         b: 0x00C,
     };
-    let (mut ordinary, mut trusted, rules) = ([0x5A; 4096], [0xC3; 4096], [0xFF; 4096]);
+    let (mut ordinary, mut trusted, rules, marks) = ([0x5A; 4096], [0xC3; 4096], [0xFF; 4096], [0; 4096]);
     let mut capture = None;
     let sayings = [
         (0x1B, Said::Unsupported),
@@ -266,8 +266,10 @@ fn a_board_between_the_two() {
             capture,
             &mut ordinary,
             &rules,
+            &marks,
             &mut trusted,
             &rules,
+            &marks,
             &packet[..length],
             &mut reply,
         );

@@ -17,6 +17,8 @@ struct Bench {
     ordinary: [u8; 4096],
     trusted: [u8; 4096],
     rules: [u8; 4096],
+    /// No bit of the bench sheet's board is cleared by writing 1.
+    marks: [u8; 4096],
     reply: [u8; 24],
 }
 
@@ -35,6 +37,7 @@ impl Bench {
             ordinary: [0; 4096],
             trusted: [0; 4096],
             rules,
+            marks: [0; 4096],
             reply: [LENT; 24],
         }
     }
@@ -49,8 +52,10 @@ impl Bench {
             self.capture,
             &mut self.ordinary,
             &self.rules,
+            &self.marks,
             &mut self.trusted,
             &self.rules,
+            &self.marks,
             packet,
             &mut self.reply[..room],
         );

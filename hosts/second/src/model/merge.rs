@@ -21,7 +21,7 @@ const ENABLED: [u32; 16] = [
 ];
 
 /// The bits of the bytes that a pattern of four enables opens.
-const fn enabled(enables: u8) -> u32 {
+pub(super) const fn enabled(enables: u8) -> u32 {
     ENABLED[(enables & 0x0F) as usize]
 }
 

@@ -1,15 +1,16 @@
 //! The answer numbers 1 to 12, each with the documents' cause: document 01's 1 to 10, with the causes that the requests
-//! 1/13 and 5/13 add, and the 11 and 12 into which request 3/13 splits 7. Number 0 is the absence of a refusal, and "7
-//! is no longer given".
+//! 1/13, 5/13 and 6/13 add, and the 11 and 12 into which request 3/13 splits 7. Number 0 is the absence of a refusal, and
+//! "7 is no longer given".
 
 /// Why a call is refused. The lowest number that applies is given.
 #[derive(Clone, Copy, Debug, PartialEq, Eq)]
 #[repr(u8)]
 pub(super) enum Refusal {
     /// "a space or rule space isn't 4,096 bytes, a captured device is over 31, or a function number or offset is
-    /// outside its range"; for a list of ports, "if it is longer than 32, if a secondary exceeds its subordinate, or if
-    /// two ranges, ends included, meet"; for one who asks, "a kind outside the six, a device over 31, a function over 7,
-    /// an offset over FFCh or not a multiple of 4, or enables over 15"
+    /// outside its range"; of the marks of 6/13, "A bit marked both here and as writable", and "another buffer length";
+    /// for a list of ports, "if it is longer than 32, if a secondary exceeds its subordinate, or if two ranges, ends
+    /// included, meet"; for one who asks, "a kind outside the six, a device over 31, a function over 7, an offset over
+    /// FFCh or not a multiple of 4, or enables over 15"
     Outside = 1,
     /// "the reply is under 16 bytes, or the list room is under the list's maximum"; for the router, "What leaves is
     /// written into a lent buffer; under 20 bytes it is 2"; for one who asks, "a buffer shorter than those bytes"

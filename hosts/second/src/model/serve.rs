@@ -2,10 +2,10 @@
 
 use super::completion::{self, LONGEST_COMPLETION, Outcome};
 use super::description::Description;
-use super::merge::{merged, shown};
+use super::merge::shown;
 use super::refusal::Refusal;
 use super::request::{Access, Request, Route};
-use super::space::{Space, store_word, whole, whole_mut, word};
+use super::ruled::RuledSpace;
 
 /// The answer to a packet: its number, how many bytes of the reply are written, and the capture to keep.
 #[derive(Clone, Copy, Debug, PartialEq, Eq)]
@@ -24,12 +24,16 @@ pub fn serve(
     kept: Option<(u8, u8)>,
     ordinary: &mut [u8],
     ordinary_rules: &[u8],
+    ordinary_marks: &[u8],
     trusted: &mut [u8],
     trusted_rules: &[u8],
+    trusted_marks: &[u8],
     packet: &[u8],
     reply: &mut [u8],
 ) -> Served {
-    Board::new(description, kept, ordinary, ordinary_rules, trusted, trusted_rules)
+    let ordinary = RuledSpace::new(ordinary, ordinary_rules, ordinary_marks);
+    let trusted = RuledSpace::new(trusted, trusted_rules, trusted_marks);
+    Board::new(description, kept, ordinary, trusted)
         .and_then(|board| board.serve(packet, reply))
         .unwrap_or_else(|refusal| Served {
             number: refusal.number(),
@@ -44,10 +48,8 @@ struct Board<'lent> {
     a: usize,
     b: usize,
     capture: Option<(u8, u8)>,
-    ordinary: &'lent mut Space,
-    ordinary_rules: &'lent Space,
-    trusted: &'lent mut Space,
-    trusted_rules: &'lent Space,
+    ordinary: RuledSpace<'lent>,
+    trusted: RuledSpace<'lent>,
 }
 
 impl<'lent> Board<'lent> {
@@ -55,10 +57,8 @@ impl<'lent> Board<'lent> {
     fn new(
         description: Description,
         kept: Option<(u8, u8)>,
-        ordinary: &'lent mut [u8],
-        ordinary_rules: &'lent [u8],
-        trusted: &'lent mut [u8],
-        trusted_rules: &'lent [u8],
+        ordinary: Result<RuledSpace<'lent>, Refusal>,
+        trusted: Result<RuledSpace<'lent>, Refusal>,
     ) -> Result<Self, Refusal> {
         description.check(kept)?;
         Ok(Self {
@@ -66,10 +66,8 @@ impl<'lent> Board<'lent> {
             a: description.a as usize,
             b: description.b as usize,
             capture: kept,
-            ordinary: whole_mut(ordinary)?,
-            ordinary_rules: whole(ordinary_rules)?,
-            trusted: whole_mut(trusted)?,
-            trusted_rules: whole(trusted_rules)?,
+            ordinary: ordinary?,
+            trusted: trusted?,
         })
     }
 
@@ -114,16 +112,16 @@ impl<'lent> Board<'lent> {
 
     /// "The ordinary word at A reads as the four trusted bytes at B, under the same enables. An ordinary write there
     /// succeeds, captures, and changes no byte." "A successful Type 0 write captures its bus and device number before
-    /// the reply is written, also with no byte enabled."
+    /// the reply is written, also with no byte enabled." And request 6/13: "An ordinary write at A still changes nothing."
     fn ordinary_access(&mut self, request: &Request) -> Outcome {
-        let at_correlation = request.offset == self.a;
+        let (at_correlation, enables) = (request.offset == self.a, request.first_enables);
         match request.access {
-            Access::Read if at_correlation => Outcome::Read(shown(word(self.trusted, self.b), request.first_enables)),
-            Access::Read => Outcome::Read(shown(word(self.ordinary, request.offset), request.first_enables)),
+            Access::Read if at_correlation => Outcome::Read(shown(self.trusted.word(self.b), enables)),
+            Access::Read => Outcome::Read(shown(self.ordinary.word(request.offset), enables)),
             Access::Write(data) => {
                 self.capture = Some((request.bus, request.device));
                 if !at_correlation {
-                    write(self.ordinary, self.ordinary_rules, request, data);
+                    self.ordinary.write(request.offset, data, enables);
                 }
                 Outcome::Written
             }
@@ -132,10 +130,11 @@ impl<'lent> Board<'lent> {
 
     /// "No trusted request captures."
     fn trusted_access(&mut self, request: &Request) -> Outcome {
+        let enables = request.first_enables;
         match request.access {
-            Access::Read => Outcome::Read(shown(word(self.trusted, request.offset), request.first_enables)),
+            Access::Read => Outcome::Read(shown(self.trusted.word(request.offset), enables)),
             Access::Write(data) => {
-                write(self.trusted, self.trusted_rules, request, data);
+                self.trusted.write(request.offset, data, enables);
                 Outcome::Written
             }
         }
@@ -147,11 +146,4 @@ impl<'lent> Board<'lent> {
 fn captured(request: &Request, outcome: Outcome) -> Option<(u8, u8)> {
     let captures = request.route == Route::Type0 && outcome == Outcome::Written;
     captures.then_some((request.bus, request.device))
-}
-
-/// Merges a write's data into the word of a space under its rule word and the first enables.
-fn write(space: &mut Space, rules: &Space, request: &Request, data: u32) {
-    let old = word(space, request.offset);
-    let rule = word(rules, request.offset);
-    store_word(space, request.offset, merged(old, rule, data, request.first_enables));
 }

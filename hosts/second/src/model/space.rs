@@ -2,13 +2,14 @@
 
 use super::refusal::Refusal;
 
-/// The size of every space and rule space.
+/// The size of every space, of its rules and of its marks.
 pub(super) const SPACE_BYTES: usize = 4096;
 
-/// A space or a rule space of the right size.
+/// A space, its rules or its marks, of the right size.
 pub(super) type Space = [u8; SPACE_BYTES];
 
-/// The lent bytes as a space; refused with 1 where "a space or rule space isn't 4,096 bytes".
+/// The lent bytes as a space; refused with 1 where "a space or rule space isn't 4,096 bytes", and request 6/13 adds of
+/// the marks: "so does another buffer length".
 pub(super) fn whole(bytes: &[u8]) -> Result<&Space, Refusal> {
     bytes.try_into().map_err(|_| Refusal::Outside)
 }
