@@ -128,13 +128,13 @@ pub const TABLE: [Line; 133] = [
         Group::MarkedEnables,
         "serve: marked bits cleared, kept, 0, enables, spaces",
         120,
-        300,
+        200,
     ),
     numbered(
         Group::MarkedBits,
         "serve: each marked bit cleared, kept, 0, both spaces",
         256,
-        1000,
+        300,
     ),
     named(
         Group::Marked,

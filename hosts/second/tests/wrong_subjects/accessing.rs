@@ -2,6 +2,7 @@
 
 use second::compare::{Reference, ServeCall, Subject};
 
+use crate::clearer::expect_caught_leaving;
 use crate::harness::{Wrong, expect_caught, word};
 use crate::serving::{again, code, offset, rehearsed, succeeds, with_accepted_packet, with_packet};
 
@@ -87,32 +88,19 @@ fn disabled_bytes_of_a_read_shown() {
 
 #[test]
 fn rule_ignored_in_a_write() {
-    let ignored = |mut call: ServeCall<'_>| {
-        let (ordinary_rules, trusted_rules) = (
-            vec![0xFF; call.ordinary_rules.len()],
-            vec![0xFF; call.trusted_rules.len()],
-        );
-        Reference.serve(ServeCall {
-            ordinary_rules: &ordinary_rules,
-            trusted_rules: &trusted_rules,
-            ..again(&mut call)
-        })
-    };
-    expect_caught(Wrong::serve(ignored), "serve");
+    expect_caught_leaving(|word| {
+        let open = word.enabled & !word.mark;
+        word.right() & !open | word.data & open
+    });
 }
 
 #[test]
 fn a_write_takes_whole_bytes_where_the_rule_has_any_bit() {
-    let whole = |mut call: ServeCall<'_>| {
-        let widen = |rules: &[u8]| -> Vec<u8> { rules.iter().map(|&rule| if rule == 0 { 0 } else { 0xFF }).collect() };
-        let (ordinary_rules, trusted_rules) = (widen(call.ordinary_rules), widen(call.trusted_rules));
-        Reference.serve(ServeCall {
-            ordinary_rules: &ordinary_rules,
-            trusted_rules: &trusted_rules,
-            ..again(&mut call)
-        })
-    };
-    expect_caught(Wrong::serve(whole), "serve");
+    expect_caught_leaving(|word| {
+        let widened = word.rule.to_le_bytes().map(|rule| if rule == 0 { 0x00 } else { 0xFF });
+        let open = u32::from_le_bytes(widened) & word.enabled & !word.mark;
+        word.right() & !open | word.data & open
+    });
 }
 
 #[test]

@@ -10,8 +10,10 @@ pub fn again<'lent>(call: &'lent mut ServeCall<'_>) -> ServeCall<'lent> {
         kept: call.kept,
         ordinary: &mut *call.ordinary,
         ordinary_rules: call.ordinary_rules,
+        ordinary_marks: call.ordinary_marks,
         trusted: &mut *call.trusted,
         trusted_rules: call.trusted_rules,
+        trusted_marks: call.trusted_marks,
         packet: call.packet,
         reply: &mut *call.reply,
     }
