@@ -2,7 +2,7 @@
 
 use super::alone::only;
 use super::group::Group;
-use super::marked::{count_marked, count_marked_unsupported};
+use super::marked::{count_forms, count_marked, count_marked_unsupported};
 use super::names::{Captures, Correlation};
 use super::serve::{History, ServeView};
 use super::tally::Tally;
@@ -63,6 +63,7 @@ pub fn count_accepted(view: &ServeView<'_>, history: &mut History, tally: &mut T
         .expect("number 0 has one of the six type codes");
     let form = usize::from(bytes[0] >> 7) | usize::from(bytes[2] >> 6) << 1;
     tally.add(Group::TypeForms, 8 * code + form);
+    count_forms(view, tally);
     let causes = unsupported_causes(view, &parts);
     let unsupported = causes.contains(&true);
     assert_eq!(

@@ -12,7 +12,8 @@ use super::tally::Tally;
 /// A bit is in just one of two words exactly where their or is their xor. All pairs are first gone through without a way
 /// out, which is fast, since mostly there is none.
 pub fn doubled_bits(rules: &[u8], marks: &[u8]) -> Vec<usize> {
-    let pairs = || rules.iter().zip(marks).take(4096);
+    let common = rules.len().min(marks.len()).min(4096);
+    let pairs = || rules[..common].iter().zip(&marks[..common]);
     let lost = |rule: u8, mark: u8| (rule | mark) ^ (rule ^ mark);
     if pairs().fold(0, |all, (&rule, &mark)| all | lost(rule, mark)) == 0 {
         return Vec::new();

@@ -24,6 +24,7 @@ pub enum Group {
     TrustedReads,
     TrustedWrites,
     Rules,
+    MarksForms,
     MarkedEnables,
     MarkedBits,
     Marked,

@@ -51,6 +51,24 @@ impl Word {
     }
 }
 
+/// Counts a board that serves by the form of the marks of both spaces.
+pub fn count_forms(view: &ServeView<'_>, tally: &mut Tally) {
+    for (space, trusted) in [false, true].into_iter().enumerate() {
+        let (rules, marks) = view.ruled(trusted);
+        let either = rules
+            .iter()
+            .zip(marks)
+            .fold(0xFF, |all, (rule, mark)| all & (rule | mark));
+        let some = marks.iter().fold(0x00, |some, mark| some | mark);
+        let form = match (some, either) {
+            (0x00, _) => 0,
+            (_, 0xFF) => 1,
+            _ => 2,
+        };
+        tally.add(Group::MarksForms, 3 * space + form);
+    }
+}
+
 /// Counts a success. A write at A has no marks of its own.
 pub fn count_marked(view: &ServeView<'_>, parts: &Parts, history: &mut History, tally: &mut Tally) {
     let at_a = !parts.trusted && parts.offset == view.case.description.a as usize;

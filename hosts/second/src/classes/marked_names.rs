@@ -43,6 +43,15 @@ pub const DOUBLED_PLACES: &[&str] = &[
     "trusted, marks that are as the rules",
 ];
 
+pub const MARKS_FORMS: &[&str] = &[
+    "ordinary, no bit is marked",
+    "ordinary, every bit that may not be written is marked",
+    "ordinary, some are",
+    "trusted, no bit is marked",
+    "trusted, every bit that may not be written is marked",
+    "trusted, some are",
+];
+
 /// What a success met of marked bits, once for each space, in the order of the names.
 #[derive(Clone, Copy)]
 pub enum Met {

@@ -51,7 +51,8 @@ impl CircleView<'_> {
         spaces.map(|space| four_bytes(space, self.parts.offset))
     }
 
-    /// Whether an enabled one of a write at A stands where a marked bit is 1, of the bytes stored there or of those at B.
+    /// Whether an enabled one of a write at A stands where a marked bit is 1, of the bytes stored there or of those at
+    /// B.
     pub fn meets_marks_at_a(&self) -> bool {
         let at_b = [self.trusted[0], self.trusted_marks].map(|space| four_bytes(space, self.description.b));
         let [stored, _, _, marks] = self.bytes();
@@ -145,8 +146,8 @@ mod tests {
     const TRUSTED: [u8; 16] = [0x99; 16];
     const DATA: [u8; 4] = [0xAA, 0xBB, 0xCC, 0xDD];
 
-    /// What the space has at 004h when the write has landed: of each enabled byte, bits 7:4 are as the data, bits 2:1 are 0
-    /// where these have 1, and the others are as they were.
+    /// What the space has at 004h when the write has landed: of each enabled byte, bits 7:4 are as the data, bits 2:1 are
+    /// 0 where these have 1, and the others are as they were.
     const LANDED: [u8; 4] = [0x3C, 0xBC, 0xC8, 0xD8];
 
     /// An ordinary write at 004h, of all bytes but the first, to a board with function 1; A is 008h and B is 00Ch. Here

@@ -5,7 +5,7 @@ use super::ask_names::{
 };
 use super::fault_names::{ELSEWHERE, END_PLACES, LOOP_PLACES, WALK_TOGETHER};
 use super::group::{Classes, Group, Line};
-use super::marked_names::{DOUBLED_PLACES, MARKED, MARKED_UNSUPPORTED};
+use super::marked_names::{DOUBLED_PLACES, MARKED, MARKED_UNSUPPORTED, MARKS_FORMS};
 use super::names::{
     BOTTOM_BITS, CAPTURES, CORRELATION, DECLARED_EMPTY, DUAL_CAUSES, DUAL_IGNORED, DUAL_ORDER, DVSEC_BODIES,
     DVSEC_CAUSES, FIRST_NULLS, KEPT_FORMS, NOISE, NULL_FORMS, RULES, SERVE_CAUSES, SERVE_TOGETHER, UNSUPPORTED,
@@ -32,7 +32,7 @@ const fn named(group: Group, title: &'static str, names: &'static [&'static str]
 }
 
 /// All groups. "Alone" means that the call has no other cause for a refusal, or for Unsupported Request.
-pub const TABLE: [Line; 133] = [
+pub const TABLE: [Line; 134] = [
     numbered(Group::ServeAnswers, "serve: answers 0 to 6", 7, 1000),
     named(
         Group::ServeCauses,
@@ -124,6 +124,12 @@ pub const TABLE: [Line; 133] = [
         10,
     ),
     named(Group::Rules, "serve: rules of enabled bytes, success", RULES, 1000),
+    named(
+        Group::MarksForms,
+        "serve: forms of the marks of a board that serves",
+        MARKS_FORMS,
+        1000,
+    ),
     numbered(
         Group::MarkedEnables,
         "serve: marked bits cleared, kept, 0, enables, spaces",

@@ -237,6 +237,19 @@ fn a_fault_of_a_lower_number_is_told_first() {
     }
 }
 
+/// Kinds that are asked for one after the other, and what the board of the next test says to each.
+const SAYINGS: [(u8, Said); 9] = [
+    (0x1B, Said::Unsupported),
+    (0x04, Said::WithData([0x5A; 4])),
+    (0x44, Said::WithoutData),
+    (0x04, Said::WithData(P2.data)),
+    (0x05, Said::Unsupported),
+    (0x45, Said::Unsupported),
+    (0x1B, Said::WithData([0xC3; 4])),
+    (0x5B, Said::WithoutData),
+    (0x1B, Said::WithData(P2.data)),
+];
+
 /// "what the board replies must read back as the same completion": what it says is what became of the request.
 #[test]
 fn a_board_between_the_two() {
@@ -247,18 +260,7 @@ fn a_board_between_the_two() {
     };
     let (mut ordinary, mut trusted, rules, marks) = ([0x5A; 4096], [0xC3; 4096], [0xFF; 4096], [0; 4096]);
     let mut capture = None;
-    let sayings = [
-        (0x1B, Said::Unsupported),
-        (0x04, Said::WithData([0x5A; 4])),
-        (0x44, Said::WithoutData),
-        (0x04, Said::WithData(P2.data)),
-        (0x05, Said::Unsupported),
-        (0x45, Said::Unsupported),
-        (0x1B, Said::WithData([0xC3; 4])),
-        (0x5B, Said::WithoutData),
-        (0x1B, Said::WithData(P2.data)),
-    ];
-    for (kind, said) in sayings {
+    for (kind, said) in SAYINGS {
         let (mut packet, mut reply) = ([0; 16], [0; 16]);
         let length = write_request(&Parts { kind, ..P2 }, &mut packet).length;
         let served = serve(

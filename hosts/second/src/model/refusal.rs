@@ -1,6 +1,6 @@
 //! The answer numbers 1 to 12, each with the documents' cause: document 01's 1 to 10, with the causes that the requests
-//! 1/13, 5/13 and 6/13 add, and the 11 and 12 into which request 3/13 splits 7. Number 0 is the absence of a refusal, and
-//! "7 is no longer given".
+//! 1/13, 5/13 and 6/13 add, and the 11 and 12 into which request 3/13 splits 7. Number 0 is the absence of a refusal,
+//! and "7 is no longer given".
 
 /// Why a call is refused. The lowest number that applies is given.
 #[derive(Clone, Copy, Debug, PartialEq, Eq)]

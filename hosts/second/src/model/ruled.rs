@@ -13,7 +13,8 @@ pub(super) struct RuledSpace<'lent> {
 }
 
 impl<'lent> RuledSpace<'lent> {
-    /// Refused with 1 where a buffer has another length, or a bit is marked both as writable and as cleared by writing 1.
+    /// Refused with 1 where a buffer has another length, or a bit is marked both as writable and as cleared by writing
+    /// 1.
     pub(super) fn new(bytes: &'lent mut [u8], rules: &'lent [u8], marks: &'lent [u8]) -> Result<Self, Refusal> {
         let ruled = Self {
             bytes: whole_mut(bytes)?,
@@ -29,8 +30,8 @@ impl<'lent> RuledSpace<'lent> {
         word(self.bytes, offset)
     }
 
-    /// Does a write to the word at an offset: the data bits are taken where that may be, and marked bits are cleared. No
-    /// bit is both, so it does not matter which is done first.
+    /// Does a write to the word at an offset: the data bits are taken where that may be, and marked bits are cleared. As
+    /// no bit is both, it does not matter which is done first.
     pub(super) fn write(&mut self, offset: usize, data: u32, enables: u8) {
         let (rule, mark) = (word(self.rules, offset), word(self.marks, offset));
         debug_assert_eq!(rule & mark, 0, "a bit is marked doubly");

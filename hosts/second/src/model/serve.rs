@@ -112,7 +112,8 @@ impl<'lent> Board<'lent> {
 
     /// "The ordinary word at A reads as the four trusted bytes at B, under the same enables. An ordinary write there
     /// succeeds, captures, and changes no byte." "A successful Type 0 write captures its bus and device number before
-    /// the reply is written, also with no byte enabled." And request 6/13: "An ordinary write at A still changes nothing."
+    /// the reply is written, also with no byte enabled." And request 6/13: "An ordinary write at A still changes
+    /// nothing."
     fn ordinary_access(&mut self, request: &Request) -> Outcome {
         let (at_correlation, enables) = (request.offset == self.a, request.first_enables);
         match request.access {

@@ -1,11 +1,11 @@
-//! Wrong ways to judge a board by its marks: by bits that are marked both as writable and as cleared by writing 1, and by
-//! the lengths of the buffers.
+//! Wrong ways to judge a board by its marks: by bits that are marked both as writable and as cleared by writing 1, and
+//! by the lengths of the buffers.
 
-use second::compare::{Reference, ServeCall, Subject};
+use second::compare::{Reference, ServeCall, Subject, meaning};
 use thawribbon::raw::Served;
 
 use crate::harness::{Wrong, expect_caught, expect_not_caught, word};
-use crate::serving::{again, code, offset, short_completion};
+use crate::serving::{again, code, offset, rehearsed, short_completion};
 
 /// A refusal with a number.
 fn refused(call: &ServeCall<'_>, number: u8) -> Served {
@@ -26,7 +26,7 @@ fn repaired(rules: &[u8], marks: &[u8]) -> Vec<u8> {
     repaired
 }
 
-/// Serves with marks that are not at fault, of the spaces for which this is wished: the ordinary one and the trusted one.
+/// Serves with marks that are not at fault, of the spaces for which this is wished: the ordinary and the trusted one.
 fn served_with_repaired(call: &mut ServeCall<'_>, wished: [bool; 2]) -> Served {
     let pairs = [
         (call.ordinary_rules, call.ordinary_marks),
@@ -303,7 +303,7 @@ fn at_fault(other: impl Fn(&mut ServeCall<'_>, bool) -> Option<Served> + 'static
     Wrong::serve(move |mut call| {
         let lengths = [call.ordinary_marks.len(), call.trusted_marks.len()];
         let by_length = lengths != [4096; 2];
-        let is_at_fault = super::serving::rehearsed(&mut call).0.number == 1 && number_without(&mut call) != 1;
+        let is_at_fault = rehearsed(&mut call).0.number == 1 && number_without(&mut call) != 1;
         let answer = if is_at_fault { other(&mut call, by_length) } else { None };
         answer.unwrap_or_else(|| Reference.serve(call))
     })
@@ -342,7 +342,7 @@ fn a_fault_of_the_marks_answered_by_unsupported_request() {
         expect_caught(
             at_fault(move |call, by_length| {
                 let due = by_length == length && number_without(call) == 0;
-                let kept = second::compare::meaning(call.kept);
+                let kept = meaning(call.kept);
                 due.then(|| short_completion(call, kept, 0x20))
             }),
             "serve",
@@ -386,7 +386,7 @@ fn expect_caught_taking(trusted: bool, is_taken: impl Fn(usize) -> bool + 'stati
             call.ordinary_marks
         };
         if marks.len() != 4096 && is_taken(marks.len()) {
-            served_with_repaired(&mut call, [!trusted, trusted].map(|wished| wished))
+            served_with_repaired(&mut call, [!trusted, trusted])
         } else {
             Reference.serve(call)
         }
