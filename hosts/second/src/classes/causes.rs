@@ -102,8 +102,11 @@ pub fn count_causes(view: &ServeView<'_>, number: u8, tally: &mut Tally) {
 
 /// Counts a call that has two causes and no other, one of which or both are of the marks.
 fn count_two(causes: u32, tally: &mut Tally) {
+    if causes.count_ones() != 2 {
+        return;
+    }
     let (first, last) = (causes.trailing_zeros(), 31 - causes.leading_zeros());
-    if causes.count_ones() == 2 && (OF_MARKS.contains(&first) || OF_MARKS.contains(&last)) {
+    if OF_MARKS.contains(&first) || OF_MARKS.contains(&last) {
         tally.add(Group::MarksTogether, two_place(first, last));
     }
 }

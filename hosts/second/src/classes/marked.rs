@@ -84,19 +84,24 @@ pub fn count_marked(view: &ServeView<'_>, parts: &Parts, history: &mut History, 
     }
 }
 
-/// Counts a write that may clear something.
+/// Counts a write that may clear something. Where the model clears other marked bits, or sets one, the run stops.
 fn count_write(view: &ServeView<'_>, parts: &Parts, history: &mut History, tally: &mut Tally) {
     let word = Word::of(view, parts);
     let space = usize::from(parts.trusted);
     let sorts = word.sorts();
-    for (sort, bits) in sorts.into_iter().enumerate() {
+    for (sort, bits) in sorts.into_iter().enumerate().filter(|(_, bits)| *bits != 0) {
         let first = 4 * space + sort;
-        tally.add_if(bits != 0, Group::MarkedEnables, 15 * first + enables_place(sort, parts));
+        tally.add(Group::MarkedEnables, 15 * first + enables_place(sort, parts));
         for bit in (0..32).filter(|bit| bits >> bit & 1 == 1) {
             tally.add(Group::MarkedBits, 32 * first + bit);
         }
     }
     let [cleared, ..] = sorts;
+    assert_eq!(
+        (word.old ^ word.new) & word.mark,
+        cleared,
+        "the model and the classes disagree on the marked bits that a write clears"
+    );
     if cleared != 0 {
         tally.add(Group::ClearedWords, 1024 * space + parts.offset / 4);
         count_cleared(&word, cleared, space, tally);
@@ -112,7 +117,7 @@ fn count_write(view: &ServeView<'_>, parts: &Parts, history: &mut History, tally
 /// of a byte that is not, some byte is not.
 fn enables_place(sort: usize, parts: &Parts) -> usize {
     let enables = usize::from(parts.enables);
-    if sort == 2 { enables } else { enables.wrapping_sub(1) }
+    if sort == 2 { enables } else { enables - 1 }
 }
 
 /// Counts a write that clears something by what else became of the same bytes and of the word.

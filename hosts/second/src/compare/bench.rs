@@ -112,38 +112,36 @@ impl Bench {
             _ => 0,
         };
         let places = [offset, description.a as usize & !3, description.b as usize & !3];
-        Difference::new("serve", ours, theirs)
+        let difference = Difference::new("serve", ours, theirs)
             .input("description", description)
             .input("kept", kept)
+            .input("the packet's offset, A and B", places)
             .bytes("packet", self.packet.ours())
             .bytes("reply as lent", self.reply.before())
             .bytes("reply of the model", self.reply.ours())
-            .bytes("reply of the subject", self.reply.theirs())
-            .words(
-                "ordinary words at the packet's offset, A and B",
-                board.ordinary.before(),
-                &places,
-            )
-            .words("ordinary rules there", board.ordinary_rules.ours(), &places)
-            .words("ordinary marks there", board.ordinary_marks.ours(), &places)
-            .words("trusted words there", board.trusted.before(), &places)
-            .words("trusted rules there", board.trusted_rules.ours(), &places)
-            .words("trusted marks there", board.trusted_marks.ours(), &places)
-            .doubled("ordinary", board.ordinary_rules.ours(), board.ordinary_marks.ours())
-            .doubled("trusted", board.trusted_rules.ours(), board.trusted_marks.ours())
-            .space("ordinary", board.ordinary.before())
-            .space("ordinary rules", board.ordinary_rules.ours())
-            .space("ordinary marks", board.ordinary_marks.ours())
-            .space("trusted", board.trusted.before())
-            .space("trusted rules", board.trusted_rules.ours())
-            .space("trusted marks", board.trusted_marks.ours())
-            .look("ordinary", &board.ordinary)
-            .look("ordinary rules", &board.ordinary_rules)
-            .look("ordinary marks", &board.ordinary_marks)
-            .look("trusted", &board.trusted)
-            .look("trusted rules", &board.trusted_rules)
-            .look("trusted marks", &board.trusted_marks)
+            .bytes("reply of the subject", self.reply.theirs());
+        let ordinary = [&board.ordinary, &board.ordinary_rules, &board.ordinary_marks];
+        let trusted = [&board.trusted, &board.trusted_rules, &board.trusted_marks];
+        let difference = with_space(difference, "ordinary", ordinary, &places);
+        with_space(difference, "trusted", trusted, &places)
             .look("packet", &self.packet)
             .look("reply", &self.reply)
     }
+}
+
+/// Adds a space, its rules and its marks: the words at some places, the first of their words, and what differs.
+fn with_space(difference: Difference, name: &str, buffers: [&Twin<u8>; 3], places: &[usize]) -> Difference {
+    let [space, rules, marks] = buffers;
+    let [rules_name, marks_name] = ["rules", "marks"].map(|part| format!("{name} {part}"));
+    difference
+        .words(&format!("{name} words there"), space.before(), places)
+        .words(&format!("{rules_name} there"), rules.ours(), places)
+        .words(&format!("{marks_name} there"), marks.ours(), places)
+        .doubled(name, rules.ours(), marks.ours())
+        .space(name, space.before())
+        .space(&rules_name, rules.ours())
+        .space(&marks_name, marks.ours())
+        .look(name, space)
+        .look(&rules_name, rules)
+        .look(&marks_name, marks)
 }

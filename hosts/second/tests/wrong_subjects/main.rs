@@ -67,7 +67,18 @@ fn expect_told(failure: &Failure, parts: &[&str]) {
 #[test]
 fn a_difference_is_told_in_full() {
     let failure = expect_caught(Wrong::serve(answering::unsupported_always), "serve");
-    expect_told(&failure, &["entry: serve", "description", "kept", "packet", "reply"]);
+    let parts = [
+        "entry: serve",
+        "description",
+        "kept",
+        "packet",
+        "reply",
+        "ordinary words there",
+        "trusted marks there",
+        "ordinary bytes with a bit marked doubly:",
+        "trusted marks: 4096 bytes",
+    ];
+    expect_told(&failure, &parts);
 }
 
 #[test]
