@@ -9,7 +9,7 @@ use super::tally::Tally;
 /// The bits of a space that are marked doubly, by their places from its start on. Of buffers with other lengths than
 /// 4,096, the bytes count that both have and that lie in the space.
 ///
-/// A bit is in just one of two words exactly where their or is their xor. All pairs are first gone through without a way
+/// No bit is in both of two bytes exactly where their or is their xor. All pairs are first gone through without a way
 /// out, which is fast, since mostly there is none.
 pub fn doubled_bits(rules: &[u8], marks: &[u8]) -> Vec<usize> {
     let common = rules.len().min(marks.len()).min(4096);

@@ -86,7 +86,7 @@ impl Packets {
         if is_noise {
             return ServeCase::noise(board, random);
         }
-        let faults = random.weighted(&[61, 29, 7, 3]);
+        let faults = random.weighted(&[59, 29, 9, 3]);
         let packet = self.packet_maker.sound(board, faults == 0, random);
         let mut case = ServeCase::sound(board, packet, random);
         self.fault_maker.put_some(faults, &mut case, random);
