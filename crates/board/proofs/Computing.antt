@@ -6,11 +6,11 @@ use Rattle.packet.specs.Fields.{typeOf}
 use Rattle.packet.specs.Request.{requestOf}
 use Rattle.packet.specs.Completion.{withData, withoutData}
 use Rattle.capture.specs.Kept.{completer}
-use Rattle.board.specs.Description.{doublyMarked}
+use Rattle.board.specs.Description.{doublyMarked, badlyDescribed}
 use Rattle.board.specs.Access.{unsupported, storedBytes, storedOrdinary, afterWrite, shownWord}
 use Rattle.board.specs.Serving.{respond, serve}
 use Rattle.board.specs.Promise.{shows}
 
 unfoldable pub computing : Unit {0}
-unfolding placed mergedByte merged shown typeOf requestOf withData withoutData completer doublyMarked unsupported storedBytes storedOrdinary afterWrite shownWord respond serve shows
+unfolding placed mergedByte merged shown typeOf requestOf withData withoutData completer doublyMarked badlyDescribed unsupported storedBytes storedOrdinary afterWrite shownWord respond serve shows
 computing = tt

@@ -24,7 +24,7 @@ use Rattle.capture.specs.declared.Capture.the-variants.{Nothing, Number}
 use Rattle.capture.specs.declared.Identified.{Identified}
 use Rattle.capture.specs.Kept.{completer, identified}
 use Rattle.board.specs.declared.Description.{Description}
-use Rattle.board.specs.Description.{Space, Board, outOfRange, ranges, wrongSize, wrongSizes, doublyMarked, causes, WellDescribed}
+use Rattle.board.specs.Description.{Space, Board, outOfRange, ranges, wrongSize, wrongSizes, doublyMarked, causes, badlyDescribed, WellDescribed}
 use Rattle.board.specs.Access.{addressed, unsupported, storedBytes, storedOrdinary, shownWord}
 use Rattle.board.specs.Promise.{over}
 use Rattle.board.specs.Inner.{Sized, Readable, done}
@@ -53,6 +53,7 @@ right-sizes s e once =
     record { bytes = right-size (s .bytes) (n .0); rules = right-size (s .rules) (n .1 .0); marks = right-size (s .marks) (n .1 .1 .0); once = once }
 
 pub well-described : (d : Board) → WellDescribed d → Well d
+unfolding badlyDescribed
 well-described d e =
     let n = none-of (causes d) e in
     let r = none-of (ranges (d .description) (d .capture)) (n .1 .1 .0) in
@@ -67,6 +68,7 @@ well-described d e =
 -- and the other way
 pub described-well : (e : Description) (kept : Capture) (o t : Space) → WellSpace o → WellSpace t → outOfRange e kept ≡ false
     → WellDescribed (record { description = e; capture = kept; ordinary = o; trusted = t })
+unfolding badlyDescribed
 described-well e kept o t wo wt inRange =
     rw (wo .bytes, wo .rules, wo .marks, wt .bytes, wt .rules, wt .marks, inRange, wo .once, wt .once)
 

@@ -16,7 +16,7 @@ use Rattle.packet.specs.declared.Request.{Request}
 use Rattle.packet.specs.Fields.{dataOf}
 use Rattle.packet.specs.Request.{isTrusted, requestOf}
 use Rattle.packet.proofs.Laws.{offset-inside, offset-aligned}
-use Rattle.board.specs.Description.{withBytes, Board, WellDescribed}
+use Rattle.board.specs.Description.{withBytes, Board, badlyDescribed, WellDescribed}
 use Rattle.board.specs.Access.{unsupported, storedBytes, storedOrdinary, afterWrite, shownWord}
 use Rattle.board.specs.Serving.{Outcome, respond, serveNumber, byNumber, serve}
 use Rattle.board.proofs.Laws.{Well, well-described, stored-at-a, stored-ordinary}
@@ -134,6 +134,7 @@ module _ (d : Board) (other : List ℕ) (w : Well d) (s : SameBut (d .descriptio
 
 module _ (d : Board) (other : List ℕ) (w : Well d) (s : SameBut (d .description .a) (d .ordinary .bytes) other) (p : List ℕ) where
   number-same : (size : ℕ) → serveNumber d p size ≡ serveNumber (withOrdinary d other) p size
+  unfolding badlyDescribed
   number-same size = rw (s .sizes)
 
   by-same : (n : ℕ) → AlikeButAtA (byNumber n d p) (byNumber n (withOrdinary d other) p)

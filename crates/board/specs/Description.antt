@@ -68,7 +68,7 @@ causes d =
     ∷ doublyMarked (d .trusted .rules) (d .trusted .marks)
     ∷ []
 
-abbrev pub badlyDescribed : Board → Bool
+unfoldable pub badlyDescribed : Board → Bool
 badlyDescribed d = any (causes d)
 
 -- a well-described board

@@ -20,7 +20,7 @@ use Rattle.capture.specs.declared.Capture.the-variants.{Number}
 use Rattle.capture.specs.Kept.{completer}
 use Rattle.capture.proofs.Laws.{completer-exact}
 use Rattle.circle.specs.Plain.{Octets}
-use Rattle.board.specs.Description.{Board, doublyMarked, WellDescribed}
+use Rattle.board.specs.Description.{Board, doublyMarked, badlyDescribed, WellDescribed}
 use Rattle.board.specs.Access.{unsupported, afterWrite, shownWord}
 use Rattle.board.specs.Serving.{Outcome, respond, serve}
 use Rattle.board.specs.Promise.{spaceOf}
@@ -73,7 +73,7 @@ unfolding zeros doublyMarked
 zeros-once = refl
 
 board-well : (high low : ℕ) (new : List ℕ) → WellDescribed (boardOf high low new)
-unfolding placed
+unfolding placed badlyDescribed
 board-well high low new =
     rw (holding-length new, zeros-length, le-ltb 31 (deviceOf low) (omega arith), le-ltb 7 (functionOf low) (omega arith), zeros-once)
 
