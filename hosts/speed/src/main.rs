@@ -59,7 +59,6 @@ fn measure_all(plan: Plan) -> Result<(), String> {
     machine::print_heading(plan);
     table::print_rows(&rows);
     table::print_looks(&rows);
-    table::print_trials(&rows);
     table::print_variants(&variants);
     table::print_summary(&rows);
     table::print_reading(&rows);

@@ -2,8 +2,7 @@
 //! write.
 //!
 //! The library exports no merge. The library's side here is the same proved function, from an archive that is built for
-//! this program alone (crates/trials). It has a trial too: the merge bit by bit, as request 4/13 of document 02 speaks of
-//! it.
+//! this program alone (crates/trials).
 
 mod sides;
 
@@ -48,7 +47,6 @@ fn row(what: &str, seed: u64, enables: fn(&mut Random) -> u8) -> Result<Row, Str
     let sides = [
         (Peer::SafeRust, sides::SAFE_RUST),
         (Peer::Masks, sides::MASKS),
-        (Peer::Bits, sides::BITS),
     ];
     for (peer, side) in sides {
         check(what, peer, side, &registers, &writes)?;

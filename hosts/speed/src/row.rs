@@ -11,8 +11,6 @@ pub enum Peer {
     Masks,
     /// The pointers followed, and nothing else.
     Chase,
-    /// A trial: the merge bit by bit.
-    Bits,
     /// The loop over mask bytes in C, after a look at all rules and marks.
     Looking,
     /// That look by itself, in C.

@@ -26,20 +26,6 @@ pub fn print_rows(rows: &[Row]) {
     println!("\n{NOTES}");
 }
 
-/// Prints what a trial takes beside the library.
-pub fn print_trials(rows: &[Row]) {
-    println!(
-        "The merge bit by bit, as request 4/13 speaks of it: a trial (crates/trials), proved to leave the same bytes.\n"
-    );
-    println!("| what | library ns | bit by bit ns | ratio |");
-    println!("|---|---:|---:|---|");
-    for row in rows.iter().filter(|row| row.side(Peer::Bits).is_some()) {
-        let library = nanoseconds(row.contest.median(0));
-        println!("| {} | {library} | {} |", row.what, peer_cells(row, Peer::Bits));
-    }
-    println!();
-}
-
 /// Prints what packets that are served take beside the look at all rules and marks, and beside reading them once.
 pub fn print_looks(rows: &[Row]) {
     println!(

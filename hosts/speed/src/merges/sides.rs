@@ -9,13 +9,11 @@ pub type Merge = extern "C" fn(&mut Register, &Register, &Register, &Register, u
 pub const LIBRARY: Merge = trial_merge;
 pub const SAFE_RUST: Merge = safe_rust;
 pub const MASKS: Merge = masks_write;
-pub const BITS: Merge = trial_merge_bits;
 
-// SAFETY: the two of crates/trials and the one of peer.c take pointers to four bytes each, write to the first and keep
-// none of them.
+// SAFETY: the one of crates/trials and the one of peer.c take pointers to four bytes each, write to the first and keep none
+// of them.
 unsafe extern "C" {
     safe fn trial_merge(register: &mut Register, rules: &Register, marks: &Register, data: &Register, enables: u8);
-    safe fn trial_merge_bits(register: &mut Register, rules: &Register, marks: &Register, data: &Register, enables: u8);
     safe fn masks_write(register: &mut Register, rules: &Register, marks: &Register, data: &Register, enables: u8);
 }
 
