@@ -44,10 +44,7 @@ fn row(what: &str, seed: u64, enables: fn(&mut Random) -> u8) -> Result<Row, Str
     let writes: Rc<[Write]> = (0..WRITES)
         .map(|register| write(register, &mut random, enables))
         .collect();
-    let sides = [
-        (Peer::SafeRust, sides::SAFE_RUST),
-        (Peer::Masks, sides::MASKS),
-    ];
+    let sides = [(Peer::SafeRust, sides::SAFE_RUST), (Peer::Masks, sides::MASKS)];
     for (peer, side) in sides {
         check(what, peer, side, &registers, &writes)?;
     }
