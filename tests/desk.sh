@@ -91,8 +91,24 @@ walk compatible extended|'extended' stands where a number, a comma or the line's
 dvsec compatible 100|'compatible' stands where the name of a list or a space is wanted
 dvsec ordinary|the line's end stands where a number is still wanted
 merge 01 02|the line's end stands where a number is still wanted
-merge 0 0 0 0 0 0 0 0 0 0 0 0 0 -> bytes 00 00 00|the line's end stands where a number is still wanted
-merge 0 0 0 0 0 0 0 0 0 0 0 0 1F|'1F' is too large here
+merge 0 0 0 0 0 0 0 0 0 0 0 0 0 0 0 0 0 -> bytes 00 00 00|the line's end stands where a number is still wanted
+merge 0 0 0 0 0 0 0 0 0 0 0 0 0 0 0 0 1F|'1F' is too large here
+merge 0 0 0 0 0 0 0 0 0 0 0 0 0 0 0 0 -> bytes 00 00 00 00|'->' stands where a number is still wanted
+merge 0 0 0 0 0 0 0 0 0 0 0 0 0 0 0 0 0 1|'1' is a number too many
+merge 0F 0F 0F 0F F0 F0 F0 F0 A5 A5 A5 A5 0F -> bytes AF AF AF AF|'->' stands where four numbers more are wanted: merge has seventeen, with four marks behind the rules
+sizes 1000 1000 1000 1000|the line's end stands where two numbers more are wanted: sizes has six, each space with its rules and its marks
+sizes 1000 1000 1000|the line's end stands where a number is still wanted
+sizes 1000 1000 1000 1000 1000|the line's end stands where a number is still wanted
+sizes 1000 1000 1000 1000 1000 1000 0|'0' is a number too many
+sizes 1000 1000 1002 1000 1000 1000|'1002' is too large here
+ordinary-marks FFF 01 02|'02' does not fit: a space ends at FFF
+trusted-marks 1000 01|'1000' is too large here
+trusted-marks 004|the line's end stands where a number is still wanted
+ordinary-marks 004 01 -> number 0|'->' stands behind a statement that has no answer to expect
+show ordinary-marks FF8 9|'9' does not fit: a space ends at FFF
+show marks 004 4|'marks' is no word of the desk, and no number of one to sixteen hexadecimal digits
+dvsec trusted-marks 100|'trusted-marks' stands where the name of a list or a space is wanted
+packet 1B -> number 3, ordinary-marks 004 51|'ordinary-marks' cannot be expected of this
 dvsec ordinary 100 -> number 0, body FFC 6|'6' does not fit: a space ends at FFF
 chain extended 0 100 4 0|the chain does not fit: its headers leave the space, or a pointer is too large
 chain extended 2 FFC 4 0|the chain does not fit: its headers leave the space, or a pointer is too large
@@ -149,10 +165,50 @@ printf 'room F\nwalrus\npacket 1B 00 00 -> number 3\n' | answers "a mistake afte
 # A number in lower case is one, blanks and comments change nothing, and a sheet from another system reads the same.
 {
     printf 'reset -> forgotten # a comment, -> number 9\n\n   \t\n# packet\n'
-    printf 'merge 0f 0f 0f 0f f0 f0 f0 f0 a5 a5 a5 a5 0f  ->  bytes\taf af af af\r\n'
+    printf 'merge 0f 0f 0f 0f f0 f0 f0 f0 0c 0c 0c 0c a5 a5 a5 a5 0f  ->  bytes\tab ab ab ab\r\n'
 } >"$work/in"
 printf 'as expected\nas expected\nchecks 2, as expected 2, lines not understood 0\n' >"$work/wanted"
 answers "lower case, blanks, comments" 0 <"$work/in"
+
+# Marks are put and shown as rules are, and a new board has none. A bit that is marked twice is told with its space and its byte, the first of each; a buffer
+# is looked at as far as it is lent.
+cat >"$work/in" <<'LINES'
+open
+ordinary-marks 010 0F 03
+trusted-marks FFF 80
+show ordinary-marks 00F 4
+show trusted-marks FFE 2
+packet
+ordinary-rules 010 F0
+sizes 1000 1000 1000 1000 1000 FFF
+packet
+fresh
+show ordinary-marks 00F 4
+packet -> number 3
+LINES
+cat >"$work/wanted" <<'LINES'
+ok
+ok
+ok
+00F: 00 0F 03 00
+FFE: 00 80
+number 1: badly described: a buffer of another size than 1000, a number or an offset out of range, or a bit that is writable and marked
+  ordinary 010: rule FF and mark 0F have a bit in common
+  trusted FFF: rule FF and mark 80 have a bit in common
+  captured: nothing
+  no byte changed
+ok
+ok
+number 1: badly described: a buffer of another size than 1000, a number or an offset out of range, or a bit that is writable and marked
+  ordinary 011: rule FF and mark 03 have a bit in common
+  captured: nothing
+  no byte changed
+ok
+00F: 00 00 00 00
+as expected
+checks 1, as expected 1, lines not understood 0
+LINES
+answers "marks, and a bit that is marked twice" 0 <"$work/in"
 
 # A sheet that breaks off, inside a line or between two.
 half=$(($(wc -c <"$sheet") / 2))
@@ -197,7 +253,8 @@ packet 04 00 00 01 01 00 08 0F 05 18 00 04 -> number 0, reply 4A 00 00 01 06 20 
 packet 5B 00 00 01 01 00 08 0F 06 20 00 10 01 02 03 04 -> number 0, reply 0A 00 00 00 06 20 00 04 01 00 08 00, trusted 010 01 02 03 04
 packet 1B -> number 3
 packet 44 00 00 01 01 00 07 00 07 28 00 04 11 22 33 44 -> number 0, reply 0A 00 00 00 07 28 00 04 01 00 07 00, captured 07 05
-merge 0F 0F 0F 0F F0 F0 F0 F0 A5 A5 A5 A5 0F -> bytes AF AF AF AF
+packet 44 00 00 01 01 00 07 0F 06 20 00 50 11 00 00 00 -> number 0, reply 0A 00 00 00 06 20 00 04 01 00 07 00, ordinary 050 40 51 51 51
+merge 0F 0F 0F 0F F0 F0 F0 F0 0C 0C 0C 0C A5 A5 A5 A5 0F -> bytes AB AB AB AB
 walk extended -> number 0, offsets 100 104 108
 walk extended -> number 0, steps 3 100 4
 walk compatible -> number 0
@@ -227,6 +284,8 @@ ordinary 200 23 00 01 00 C0 1E C3 00 02 00 B0 B1 B2
 ordinary 300 23 00 01 00 C0 1E 00 01 02 00
 ordinary 006 00
 ordinary 040 09 00 0C 01 C0 1E C0 00 02 00 40 05
+ordinary-rules 050 00 00 00 00
+ordinary-marks 050 FF FF FF FF
 ports 02 03 0 05 08 1'
 # wrong FILE: for each number behind an arrow, its line with that number made another
 wrong() {

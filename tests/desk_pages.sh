@@ -48,8 +48,8 @@ page() {
         echo "ok the blocks of $page are what the desk answers"
     fi
 }
-page LEARN 1 60 24 # LEARN shows a mistake, and what the desk says of it
-page ANSWERS 0 98 54
+page LEARN 1 68 26 # LEARN shows a mistake, and what the desk says of it
+page ANSWERS 0 113 59
 page SHARED 0 47 17
 
 # noticed WORDS TEXT: of the page on standard input, in which every line is to be understood, this is told

@@ -10,6 +10,7 @@ use crate::requests;
 use crate::routing;
 use crate::slots;
 use crate::slots::Desk;
+use crate::slots::Sizes;
 use crate::spaces;
 use crate::spaces::LONG;
 use crate::spaces::Store;
@@ -32,7 +33,9 @@ pub fn perform(desk: &mut Desk, tokens: &Tokens, store: &mut Store) {
         vocabulary::ORDINARY
         | vocabulary::TRUSTED
         | vocabulary::ORDINARY_RULES
-        | vocabulary::TRUSTED_RULES => {
+        | vocabulary::TRUSTED_RULES
+        | vocabulary::ORDINARY_MARKS
+        | vocabulary::TRUSTED_MARKS => {
             spaces::put_behind(store, tokens, 0, tokens::count(tokens));
             done();
         }
@@ -62,11 +65,14 @@ fn begin_board(desk: &mut Desk, store: &mut Store, word: usize) {
     done();
 }
 
+// No bit of a new board is marked.
 fn fill(store: &mut Store, ordinary: u8, trusted: u8, rule: u8) {
     put_all(store, spaces::ORDINARY, ordinary);
     put_all(store, spaces::ORDINARY_RULES, rule);
+    put_all(store, spaces::ORDINARY_MARKS, 0);
     put_all(store, spaces::TRUSTED, trusted);
     put_all(store, spaces::TRUSTED_RULES, rule);
+    put_all(store, spaces::TRUSTED_MARKS, 0);
 }
 
 fn put_all(store: &mut Store, base: usize, byte: u8) {
@@ -148,13 +154,7 @@ fn note(desk: &mut Desk, tokens: &Tokens) {
     let first = tokens::at(tokens, 1);
     let second = tokens::at(tokens, 2);
     match word {
-        vocabulary::SIZES => slots::lend(
-            desk,
-            first,
-            second,
-            tokens::at(tokens, 3),
-            tokens::at(tokens, 4),
-        ),
+        vocabulary::SIZES => slots::lend(desk, sizes_of(tokens)),
         vocabulary::CAPTURED => {
             slots::set(desk, slots::CAPTURED, slots::capture(first, second));
         }
@@ -162,6 +162,17 @@ fn note(desk: &mut Desk, tokens: &Tokens) {
         _ => slots::set(desk, slot_of(word), first),
     }
     done();
+}
+
+fn sizes_of(tokens: &Tokens) -> Sizes {
+    [
+        tokens::at(tokens, 1),
+        tokens::at(tokens, 2),
+        tokens::at(tokens, 3),
+        tokens::at(tokens, 4),
+        tokens::at(tokens, 5),
+        tokens::at(tokens, 6),
+    ]
 }
 
 fn slot_of(word: usize) -> usize {

@@ -1,4 +1,5 @@
 // What an answer means, in words: the number, what was asked, what the completion says, what is captured.
+use crate::marking;
 use crate::packets;
 use crate::pieces;
 use crate::saying::put;
@@ -35,7 +36,10 @@ pub const NO_TCS: usize = 5;
 
 const ASKING: usize = 6;
 
-const BOARD: usize = 13;
+// And 1 where a packet is served: a list or a record has not all of its causes.
+const BAD_BOARD: usize = 13;
+
+const BOARD: usize = 14;
 
 // An answer number and what it means.
 pub fn put_number(number: u8) {
@@ -75,6 +79,7 @@ the completion has fewer than 12 bytes
 the first byte is neither 4A nor 0A
 the completion's length does not fit its first byte: 16 bytes after 4A, 12 after 0A
 a byte that no reply with this first byte has at its place
+badly described: a buffer of another size than 1000, a number or an offset out of range, or a bit that is writable and marked
 answered
 badly described: a space of another size than 1000, or a number or an offset out of range
 no room: the reply's buffer or the list room is too small
@@ -97,9 +102,19 @@ a pointer to an offset that is in the chain already
 pub fn packet(desk: &Desk, served: Served, store: &Store) {
     let answer = served.answer;
     let state = served.capture;
-    put_number(answer.number());
+    put_answer(desk, answer.number(), store);
     request(desk, packets::sent(desk, store), served.length, store);
     captured(packets::capture_number(state));
+}
+
+// The number, and of a badly described board the bits that are marked twice.
+fn put_answer(desk: &Desk, number: u8, store: &Store) {
+    if number == 1 {
+        put_number_as(number, BAD_BOARD);
+        marking::tell(desk, store);
+    } else {
+        put_number(number);
+    }
 }
 
 fn request(desk: &Desk, packet: &[u8], replied: usize, store: &Store) {

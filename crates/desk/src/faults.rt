@@ -61,6 +61,10 @@ pub const UNREAD: usize = 24;
 
 pub const NO_SEVEN: usize = 25;
 
+pub const NO_MARKS_SIZES: usize = 26;
+
+pub const NO_MARKS_MERGED: usize = 27;
+
 // A line is not understood: from `from` on it does not fit.
 pub fn tell(desk: &mut Desk, line: &[u8], from: usize, what: usize) {
     begin(desk);
@@ -121,6 +125,8 @@ a carriage return stands within the line; none of it is read
 the chain does not fit: its headers leave the space, or a pointer is too large
 the input could not be read to its end
 is given no more: a broken list is 11 or 12, with its place
+stands where two numbers more are wanted: sizes has six, each space with its rules and its marks
+stands where four numbers more are wanted: merge has seventeen, with four marks behind the rules
 ",
         what,
     ));

@@ -29,8 +29,15 @@ const ROW: usize = 50;
 // What a limit reads as that is none.
 const ANY: usize = 0xfffff;
 
-// How many numbers of a request stand before its offset.
+// How many numbers of a request stand before its offset, and how many of a merge before its enables.
 const OFFSET_ASKED: usize = 7;
+
+const ENABLES_MERGED: usize = 16;
+
+// How many numbers `sizes` and `merge` had before there were marks.
+const OLD_SIZES: usize = 4;
+
+const OLD_MERGE: usize = 13;
 
 // What a column of one character reads as where there is no mark.
 const UNMARKED: usize = 16;
@@ -58,14 +65,16 @@ ordinary        02 41 00FFF 000FF - -11 1------1-
 trusted         02 41 00FFF 000FF - 111 1------1-
 ordinary-rules  02 41 00FFF 000FF - -1- ---------
 trusted-rules   02 41 00FFF 000FF - -1- ---------
+ordinary-marks  02 41 00FFF 000FF - -1- ---------
+trusted-marks   02 41 00FFF 000FF - -1- ---------
 chain           04 04 0FFFF 0FFFF 0 --- ---------
 ports           00 7E 000FF 000FF - --- ---------
-sizes           04 04 01001 01001 - --- ---------
+sizes           06 06 01001 01001 - --- ---------
 room            01 01 FFFFF FFFFF - --- ---------
 show            02 02 01000 01000 1 --- ---------
 packet          00 40 000FF 000FF - --- ---------
 reset           00 00 00000 00000 - --- ---------
-merge           0D 0D 000FF 000FF - --- ---------
+merge           11 11 000FF 000FF - --- ---------
 walk            00 00 00000 00000 0 --- ---------
 dvsec           01 01 FFFFF FFFFF 2 --- ---------
 dual            01 01 FFFFF FFFFF 2 --- ---------
@@ -237,7 +246,7 @@ fn is_too_large(word: usize, given: usize, number: usize) -> bool {
 // may be any number, and a device or enables any byte: what cannot be asked for is refused with 1, and is no mistake in the line.
 fn largest_of(word: usize, given: usize) -> usize {
     if word == MERGE {
-        if given == 12 {
+        if given == ENABLES_MERGED {
             return 0xf;
         }
     }
@@ -255,10 +264,8 @@ fn end_of(word: usize, offset: usize, given: usize, number: usize) -> usize {
         return 0;
     }
     match word {
-        ORDINARY | TRUSTED | ORDINARY_RULES | TRUSTED_RULES => std::num::wrapping_add_usize(
-            offset,
-            given,
-        ),
+        ORDINARY | TRUSTED | ORDINARY_RULES | TRUSTED_RULES | ORDINARY_MARKS | TRUSTED_MARKS =>
+            std::num::wrapping_add_usize(offset, given),
         SHOW | BODY => std::num::wrapping_add_usize(offset, number),
         _ => 0,
     }
@@ -270,10 +277,26 @@ fn fault_of_end(tokens: &Tokens, head: usize, place: usize) -> usize {
     if place < begin {
         return wanted_first(head, place);
     }
-    if is_short(tokens, tokens::word(tokens, head), place - begin) {
-        return faults::TOO_FEW;
+    let word = tokens::word(tokens, head);
+    if is_short(tokens, word, place - begin) {
+        return fault_of_few(word, place - begin);
     }
     faults::NONE
+}
+
+// A line from before there were marks is told what it lacks.
+fn fault_of_few(word: usize, given: usize) -> usize {
+    if word == SIZES {
+        if given == OLD_SIZES {
+            return faults::NO_MARKS_SIZES;
+        }
+    }
+    if word == MERGE {
+        if given == OLD_MERGE {
+            return faults::NO_MARKS_MERGED;
+        }
+    }
+    faults::TOO_FEW
 }
 
 // Whether a word wants more numbers than it has: a port has three, and a request has its data whole, or not at all where it is no write.

@@ -8,19 +8,23 @@ The board:
   fresh              bytes 51 in the ordinary space, 72 in the trusted one, every rule 00
   open               the same with every rule FF
   blank              every byte and every rule 00
-                     (each with function 0, A 104, B 00C, nothing captured; a session begins with the last)
+                     (each with every mark 00, function 0, A 104, B 00C, nothing captured; a session begins with the last)
   function F   A N   B N
   captured BUS DEVICE   forgotten
-  ordinary N b b ..  bytes at offset N; also: trusted, ordinary-rules, trusted-rules
+  ordinary N b b ..  bytes at offset N; also: trusted
+  ordinary-rules N b b ..
+                     a bit that is 1 here may be written; also: trusted-rules
+  ordinary-marks N b b ..
+                     a bit that is 1 here is cleared by writing 1; also: trusted-marks. No bit may be 1 in both
   chain LIST C F S P C headers, the first at F, each the next S further, the last pointing to P
 The switch:
   ports S U T ..     its ports in order, three numbers each: secondary, subordinate, and 0 where it does not support TCS routing
                      (without numbers it has none, as when a session begins; a new board leaves them as they are)
 Lent to the next question only:
-  sizes O R T L      so many bytes of the ordinary space, its rules, the trusted space, its rules
+  sizes O R M T S N  so many bytes of the ordinary space, its rules, its marks, the trusted space, its rules, its marks
   room N             so many bytes of the reply's buffer, of the one for what leaves or for what ask writes, or entries of the list room
 To look, without asking:
-  show SPACE N C     C bytes from offset N on; also of ordinary-rules and trusted-rules
+  show SPACE N C     C bytes from offset N on; also of rules and marks
 Questions:
   packet b b ..      the board is sent a packet
   route b b ..       the switch is sent one
@@ -31,7 +35,7 @@ Questions:
   reset              the board is reset
   walk LIST          compatible, extended or trusted
   dvsec SPACE N      the record at offset N; SPACE is ordinary or trusted; also: dual
-  merge b b ..       four old bytes, four rules, four data bytes, the enables
+  merge b b ..       four old bytes, four rules, four marks, four data bytes, the enables
 A question with an expectation is a check, and everything that is not said is expected to stay.
 A refusal has no reply, no port, no offsets and no fields; that of a broken list, 11 or 12, has the place of the fault, 0 for the start.
 A request that cannot be written has no bytes and is not sent.

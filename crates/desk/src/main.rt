@@ -10,6 +10,7 @@ mod helping;
 mod input;
 mod judging;
 mod leaving;
+mod marking;
 mod packets;
 mod pieces;
 mod reading;

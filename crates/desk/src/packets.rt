@@ -62,15 +62,17 @@ pub fn send(desk: &Desk, store: &mut Store) -> Served {
     let first = spaces::within(desk, slots::ORDINARY_SIZE, &ordinary);
     let second = spaces::within(desk, slots::TRUSTED_SIZE, &trusted);
     let room = spaces::within(desk, slots::ROOM, &reply);
-    let rules = &*store;
+    let lent = &*store;
     let served = board::serve(
         description_of(desk),
         capture_of(desk),
         &mut ordinary[..first],
-        spaces::lent(desk, rules, spaces::ORDINARY_RULES),
+        spaces::lent(desk, lent, spaces::ORDINARY_RULES),
+        spaces::lent(desk, lent, spaces::ORDINARY_MARKS),
         &mut trusted[..second],
-        spaces::lent(desk, rules, spaces::TRUSTED_RULES),
-        sent(desk, rules),
+        spaces::lent(desk, lent, spaces::TRUSTED_RULES),
+        spaces::lent(desk, lent, spaces::TRUSTED_MARKS),
+        sent(desk, lent),
         &mut reply[..room],
     );
     spaces::put_back(store, spaces::ORDINARY, &ordinary);
@@ -219,13 +221,14 @@ fn answer_reset(desk: &Desk, tokens: &Tokens, found: usize) -> bool {
     false
 }
 
-// A merge is asked for: four old bytes, four rules, four data bytes, the enables.
+// A merge is asked for: four old bytes, four rules, four marks, four data bytes, the enables.
 pub fn merge(desk: &Desk, tokens: &Tokens) -> bool {
     let found = registers::merge(
         four_at(tokens, 1),
         four_at(tokens, 5),
         four_at(tokens, 9),
-        tokens::byte(tokens, 13),
+        four_at(tokens, 13),
+        tokens::byte(tokens, 17),
     );
     let wanted = four_at(tokens, tokens::behind(tokens, vocabulary::BYTES));
     answer_merge(desk, tokens, &found, &wanted)

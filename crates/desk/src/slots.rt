@@ -1,5 +1,5 @@
 // What the desk keeps in numbers from line to line, each at a place of its own.
-pub const SLOTS: usize = 21;
+pub const SLOTS: usize = 23;
 
 // The line's number; how many statements had an expectation, and how many of them were right; how many lines were not understood.
 pub const LINE: usize = 0;
@@ -24,35 +24,39 @@ pub const B: usize = 8;
 
 pub const CAPTURED: usize = 9;
 
-// What is lent to the next question: so much of each of the four buffers, in their order in the store, and of the reply, what leaves, what is
+// What is lent to the next question: so much of each of the six buffers, in their order in the store, and of the reply, what leaves, what is
 // written or the list room.
 pub const ORDINARY_SIZE: usize = 10;
 
 pub const ORDINARY_RULES_SIZE: usize = 11;
 
-pub const TRUSTED_SIZE: usize = 12;
+pub const ORDINARY_MARKS_SIZE: usize = 12;
 
-pub const TRUSTED_RULES_SIZE: usize = 13;
+pub const TRUSTED_SIZE: usize = 13;
 
-pub const ROOM: usize = 14;
+pub const TRUSTED_RULES_SIZE: usize = 14;
+
+pub const TRUSTED_MARKS_SIZE: usize = 15;
+
+pub const ROOM: usize = 16;
 
 // The rest of a line that is too long is being read past.
-pub const SKIPPING: usize = 15;
+pub const SKIPPING: usize = 17;
 
 // The input could not be read to its end.
-pub const UNREAD: usize = 16;
+pub const UNREAD: usize = 18;
 
 // Somebody types, and is asked for each line.
-pub const PROMPT: usize = 17;
+pub const PROMPT: usize = 19;
 
 // How many bytes of a line that is not whole yet the piece begins with.
-pub const REST: usize = 18;
+pub const REST: usize = 20;
 
 // How many ports the switch has.
-pub const PORTS: usize = 19;
+pub const PORTS: usize = 21;
 
 // How many bytes the packet has that stands in the store, or the completion.
-pub const SENT: usize = 20;
+pub const SENT: usize = 22;
 
 // The capture while there is none: over every bus and device.
 pub const NOTHING: usize = 0x10000;
@@ -95,23 +99,22 @@ pub fn capture(bus: usize, device: usize) -> usize {
     bus << 8 | device
 }
 
+// So much of each of the six buffers, in their order.
+pub type Sizes = [usize; 6];
+
 // The next question is lent so much of each buffer.
-pub fn lend(
-    desk: &mut Desk,
-    ordinary: usize,
-    ordinary_rules: usize,
-    trusted: usize,
-    trusted_rules: usize,
-) {
-    desk[ORDINARY_SIZE] = ordinary;
-    desk[ORDINARY_RULES_SIZE] = ordinary_rules;
-    desk[TRUSTED_SIZE] = trusted;
-    desk[TRUSTED_RULES_SIZE] = trusted_rules;
+pub fn lend(desk: &mut Desk, sizes: Sizes) {
+    desk[ORDINARY_SIZE] = sizes[0];
+    desk[ORDINARY_RULES_SIZE] = sizes[1];
+    desk[ORDINARY_MARKS_SIZE] = sizes[2];
+    desk[TRUSTED_SIZE] = sizes[3];
+    desk[TRUSTED_RULES_SIZE] = sizes[4];
+    desk[TRUSTED_MARKS_SIZE] = sizes[5];
 }
 
 // The next question is lent whole buffers.
 pub fn lend_all(desk: &mut Desk) {
-    lend(desk, words::SPACE, words::SPACE, words::SPACE, words::SPACE);
+    lend(desk, [words::SPACE; 6]);
     lend_room(desk);
 }
 

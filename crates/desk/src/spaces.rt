@@ -1,4 +1,4 @@
-// The store: the board's four buffers at the desk one behind the other, then the packet that it is sent, or a completion, and the reply, and of the
+// The store: the board's six buffers at the desk one behind the other, then the packet that it is sent, or a completion, and the reply, and of the
 // switch what leaves it and its ports. They are filled, put and shown by hand, and held against what they should be.
 use crate::judging;
 use crate::pieces;
@@ -15,7 +15,7 @@ use crate::wording::say;
 use crate::wording::say_one;
 ghost use Rattle.io.specs.Counts.{Counts};
 
-// The bytes of each of the four: a few more than a space has, so that one of another size can be lent.
+// The bytes of each of the six: a few more than a space has, so that one of another size can be lent.
 pub const LONG: usize = 4100;
 
 pub type Buffer = [u8; LONG];
@@ -24,24 +24,28 @@ pub const ORDINARY: usize = 0;
 
 pub const ORDINARY_RULES: usize = 4100;
 
-pub const TRUSTED: usize = 8200;
+pub const ORDINARY_MARKS: usize = 8200;
 
-pub const TRUSTED_RULES: usize = 12300;
+pub const TRUSTED: usize = 12300;
 
-// Where the four end: here the packet begins, of up to 64 bytes, and behind it the reply's buffer, that of what leaves, and the ports, three
+pub const TRUSTED_RULES: usize = 16400;
+
+pub const TRUSTED_MARKS: usize = 20500;
+
+// Where the six end: here the packet begins, of up to 64 bytes, and behind it the reply's buffer, that of what leaves, and the ports, three
 // bytes each.
-const BOARD_END: usize = 16400;
+const BOARD_END: usize = 24600;
 
-pub const PACKET: usize = 16400;
+pub const PACKET: usize = 24600;
 
-pub const REPLY: usize = 16464;
+pub const REPLY: usize = 24664;
 
-pub const LEAVING: usize = 16484;
+pub const LEAVING: usize = 24684;
 
-pub const PORTS: usize = 16508;
+pub const PORTS: usize = 24708;
 
 // Past the ports, of which a line has up to 42, are a few bytes more, so that no byte of them ends where the store does.
-pub const STORE: usize = 16640;
+pub const STORE: usize = 24840;
 
 pub type Store = [u8; STORE];
 
@@ -50,8 +54,10 @@ pub fn base_of(word: usize) -> usize {
     match word {
         vocabulary::ORDINARY => ORDINARY,
         vocabulary::ORDINARY_RULES => ORDINARY_RULES,
+        vocabulary::ORDINARY_MARKS => ORDINARY_MARKS,
         vocabulary::TRUSTED => TRUSTED,
         vocabulary::TRUSTED_RULES => TRUSTED_RULES,
+        vocabulary::TRUSTED_MARKS => TRUSTED_MARKS,
         _ => STORE,
     }
 }
@@ -155,9 +161,9 @@ fn tell_place(desk: &Desk, judging: bool, word: usize) {
 }
 
 // The name of a buffer.
-fn put_buffer(number: usize) {
+pub fn put_buffer(number: usize) {
     put(texts::entry(
-        b"ordinary \nordinary-rules \ntrusted \ntrusted-rules \n",
+        b"ordinary \nordinary-rules \nordinary-marks \ntrusted \ntrusted-rules \ntrusted-marks \n",
         number,
     ));
 }

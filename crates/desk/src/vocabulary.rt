@@ -40,81 +40,85 @@ pub const ORDINARY_RULES: usize = 16;
 
 pub const TRUSTED_RULES: usize = 17;
 
-pub const CHAIN: usize = 18;
+pub const ORDINARY_MARKS: usize = 18;
 
-pub const PORTS: usize = 19;
+pub const TRUSTED_MARKS: usize = 19;
 
-pub const SIZES: usize = 20;
+pub const CHAIN: usize = 20;
 
-pub const ROOM: usize = 21;
+pub const PORTS: usize = 21;
+
+pub const SIZES: usize = 22;
+
+pub const ROOM: usize = 23;
 
 // To look, and the questions.
-pub const SHOW: usize = 22;
+pub const SHOW: usize = 24;
 
-pub const PACKET: usize = 23;
+pub const PACKET: usize = 25;
 
-pub const RESET: usize = 24;
+pub const RESET: usize = 26;
 
-pub const MERGE: usize = 25;
+pub const MERGE: usize = 27;
 
-pub const WALK: usize = 26;
+pub const WALK: usize = 28;
 
-pub const DVSEC: usize = 27;
+pub const DVSEC: usize = 29;
 
-pub const DUAL: usize = 28;
+pub const DUAL: usize = 30;
 
-pub const ROUTE: usize = 29;
+pub const ROUTE: usize = 31;
 
-pub const ASK: usize = 30;
+pub const ASK: usize = 32;
 
-pub const COMPLETION: usize = 31;
+pub const COMPLETION: usize = 33;
 
 // What is only expected.
-pub const NUMBER: usize = 32;
+pub const NUMBER: usize = 34;
 
-pub const REPLY: usize = 33;
+pub const REPLY: usize = 35;
 
-pub const BYTES: usize = 34;
+pub const BYTES: usize = 36;
 
-pub const OFFSETS: usize = 35;
+pub const OFFSETS: usize = 37;
 
-pub const STEPS: usize = 36;
+pub const STEPS: usize = 38;
 
-pub const PLACE: usize = 37;
+pub const PLACE: usize = 39;
 
-pub const HEADER: usize = 38;
+pub const HEADER: usize = 40;
 
-pub const BODY: usize = 39;
+pub const BODY: usize = 41;
 
-pub const ALTERNATE: usize = 40;
+pub const ALTERNATE: usize = 42;
 
-pub const PORT: usize = 41;
+pub const PORT: usize = 43;
 
-pub const LEAVES: usize = 42;
+pub const LEAVES: usize = 44;
 
-pub const WRITES: usize = 43;
+pub const WRITES: usize = 45;
 
-pub const COMPLETER: usize = 44;
+pub const COMPLETER: usize = 46;
 
-pub const REQUESTER: usize = 45;
+pub const REQUESTER: usize = 47;
 
-pub const TAG: usize = 46;
+pub const TAG: usize = 48;
 
-pub const SHOWN: usize = 47;
+pub const SHOWN: usize = 49;
 
-pub const DONE: usize = 48;
+pub const DONE: usize = 50;
 
-pub const UNSUPPORTED: usize = 49;
+pub const UNSUPPORTED: usize = 51;
 
 // The lists, beside the trusted one.
-pub const COMPATIBLE: usize = 50;
+pub const COMPATIBLE: usize = 52;
 
-pub const EXTENDED: usize = 51;
+pub const EXTENDED: usize = 53;
 
 // The marks of an expectation.
-pub const ARROW: usize = 52;
+pub const ARROW: usize = 54;
 
-pub const COMMA: usize = 53;
+pub const COMMA: usize = 55;
 
 // The table has the words in the order of their numbers, from HELP on.
 pub fn word_of(text: &[u8]) -> usize {
@@ -136,6 +140,8 @@ ordinary
 trusted
 ordinary-rules
 trusted-rules
+ordinary-marks
+trusted-marks
 chain
 ports
 sizes

@@ -52,102 +52,104 @@ pub const MERGED: usize = 20;
 
 pub const SHOWN: usize = 21;
 
+pub const TWICE: usize = 22;
+
 // Lists and records.
-pub const LISTED: usize = 22;
+pub const LISTED: usize = 23;
 
-pub const SHORT_HEADER: usize = 23;
+pub const SHORT_HEADER: usize = 24;
 
-pub const LONG_HEADER: usize = 24;
+pub const LONG_HEADER: usize = 25;
 
-pub const HOLDER: usize = 25;
+pub const HOLDER: usize = 26;
 
-pub const NO_HOLDER: usize = 26;
+pub const NO_HOLDER: usize = 27;
 
-pub const ALTERNATE: usize = 27;
+pub const ALTERNATE: usize = 28;
 
-pub const HEADER: usize = 28;
+pub const HEADER: usize = 29;
 
-pub const BODY: usize = 29;
+pub const BODY: usize = 30;
 
 // What leaves the switch.
-pub const LEAVES: usize = 30;
+pub const LEAVES: usize = 31;
 
-pub const TURNED: usize = 31;
+pub const TURNED: usize = 32;
 
 // What the asking side writes, and what it reads.
-pub const WRITES: usize = 32;
+pub const WRITES: usize = 33;
 
-pub const READS: usize = 33;
+pub const READS: usize = 34;
 
-pub const READS_DATA: usize = 34;
+pub const READS_DATA: usize = 35;
 
-pub const READS_DONE: usize = 35;
+pub const READS_DONE: usize = 36;
 
-pub const READS_UR: usize = 36;
+pub const READS_UR: usize = 37;
 
 // What is not as expected.
-pub const DIFFERENCE: usize = 37;
+pub const DIFFERENCE: usize = 38;
 
-pub const WRONG_NUMBER: usize = 38;
+pub const WRONG_NUMBER: usize = 39;
 
-pub const WRONG_LENGTH: usize = 39;
+pub const WRONG_LENGTH: usize = 40;
 
-pub const WRONG_BYTE: usize = 40;
+pub const WRONG_BYTE: usize = 41;
 
-pub const WRONG_CAPTURE: usize = 41;
+pub const WRONG_CAPTURE: usize = 42;
 
-pub const EXPECTED_CAPTURE: usize = 42;
+pub const EXPECTED_CAPTURE: usize = 43;
 
-pub const WRONG_BYTES: usize = 43;
+pub const WRONG_BYTES: usize = 44;
 
-pub const WRONG_COUNT: usize = 44;
+pub const WRONG_COUNT: usize = 45;
 
-pub const WRONG_PLACE: usize = 45;
+pub const WRONG_PLACE: usize = 46;
 
-pub const WRONG_ENTRY: usize = 46;
+pub const WRONG_ENTRY: usize = 47;
 
-pub const WRONG_FIELDS: usize = 47;
+pub const WRONG_FIELDS: usize = 48;
 
-pub const WRONG_FIELD: usize = 48;
+pub const WRONG_FIELD: usize = 49;
 
-pub const WRONG_BODY: usize = 49;
+pub const WRONG_BODY: usize = 50;
 
-pub const WRONG_BODY_PLACE: usize = 50;
+pub const WRONG_BODY_PLACE: usize = 51;
 
-pub const WRONG_PORT: usize = 51;
+pub const WRONG_PORT: usize = 52;
 
-pub const WRONG_LEAVING: usize = 52;
+pub const WRONG_LEAVING: usize = 53;
 
-pub const WRONG_LEAVING_BYTE: usize = 53;
+pub const WRONG_LEAVING_BYTE: usize = 54;
 
-pub const WRONG_WRITTEN: usize = 54;
+pub const WRONG_WRITTEN: usize = 55;
 
-pub const WRONG_WRITTEN_BYTE: usize = 55;
+pub const WRONG_WRITTEN_BYTE: usize = 56;
 
-pub const WRONG_SAID: usize = 56;
+pub const WRONG_SAID: usize = 57;
 
-pub const WRONG_COMPLETER: usize = 57;
+pub const WRONG_COMPLETER: usize = 58;
 
-pub const WRONG_REQUESTER: usize = 58;
+pub const WRONG_REQUESTER: usize = 59;
 
-pub const WRONG_TAG: usize = 59;
+pub const WRONG_TAG: usize = 60;
 
-pub const WRONG_SHOWN: usize = 60;
+pub const WRONG_SHOWN: usize = 61;
 
-pub const NONE: usize = 61;
+pub const NONE: usize = 62;
 
 // The session.
-pub const LINE: usize = 62;
+pub const LINE: usize = 63;
 
-pub const PROMPT: usize = 63;
+pub const PROMPT: usize = 64;
 
-pub const QUOTE: usize = 64;
+pub const QUOTE: usize = 65;
 
-pub const UNQUOTE: usize = 65;
+pub const UNQUOTE: usize = 66;
 
-pub const LINE_END: usize = 66;
+pub const LINE_END: usize = 67;
 
-pub const TALLY: usize = 67;
+pub const TALLY: usize = 68;
 
 // A text with its numbers, as many as it has places for.
 pub fn say_all(
@@ -181,6 +183,7 @@ nothing
 , expected
   merged:
 %3:
+%3: rule %2 and mark %2 have a bit in common%n
   listed: %v%n
   %3: ID %2%n
   %3: ID %4 version %1%n
