@@ -47,8 +47,8 @@ pub record Well (d : Board) : Type 0 where
 right-size : (buffer : List ℕ) → wrongSize buffer ≡ false → length buffer ≡ 4096
 right-size buffer e = eqb-true (length buffer) 4096 (not-false (eqb (length buffer) 4096) e)
 
-right-sizes : (s : Space) → wrongSizes s ≡ false → doublyMarked (s .rules) (s .marks) ≡ false → WellSpace s
-right-sizes s e once =
+well-space : (s : Space) → wrongSizes s ≡ false → doublyMarked (s .rules) (s .marks) ≡ false → WellSpace s
+well-space s e once =
     let n = none-of (wrongSize (s .bytes) ∷ wrongSize (s .rules) ∷ wrongSize (s .marks) ∷ []) e in
     record { bytes = right-size (s .bytes) (n .0); rules = right-size (s .rules) (n .1 .0); marks = right-size (s .marks) (n .1 .1 .0); once = once }
 
@@ -58,8 +58,8 @@ well-described d e =
     let n = none-of (causes d) e in
     let r = none-of (ranges (d .description) (d .capture)) (n .1 .1 .0) in
     record {
-      ordinary = right-sizes (d .ordinary) (n .0) (n .1 .1 .1 .0);
-      trusted = right-sizes (d .trusted) (n .1 .0) (n .1 .1 .1 .1 .0);
+      ordinary = well-space (d .ordinary) (n .0) (n .1 .1 .1 .0);
+      trusted = well-space (d .trusted) (n .1 .0) (n .1 .1 .1 .1 .0);
       inRange = n .1 .1 .0;
       atAAligned = placed-true _ 0x104 0xffc (not-false _ (r .1 .1 .0)) .aligned;
       register = placed-true _ 0x00c 0xffc (not-false _ (r .1 .1 .1 .0)) .below;
@@ -72,7 +72,7 @@ unfolding badlyDescribed
 described-well e kept o t wo wt inRange =
     rw (wo .bytes, wo .rules, wo .marks, wt .bytes, wt .rules, wt .marks, inRange, wo .once, wt .once)
 
--- three whole buffers, by the test that the code makes
+-- whole rules and marks, by the test that the code makes
 pub whole : (s : Space) → wrongSizes s ≡ false → (length (s .rules) ≡ 4096) × (length (s .marks) ≡ 4096)
 whole s e =
     let n = none-of (wrongSize (s .bytes) ∷ wrongSize (s .rules) ∷ wrongSize (s .marks) ∷ []) e in

@@ -3,6 +3,7 @@ pub mod Laws
 pub mod Outcomes
 pub mod Keeps
 pub mod Refusals
+pub mod Causes
 pub mod Lands
 pub mod Stale
 pub mod Digest

@@ -24,7 +24,7 @@ pub record Space : Type 0 where
 abbrev pub withBytes : Space → List ℕ → Space
 withBytes s bytes = record { bytes = bytes; rules = s .rules; marks = s .marks }
 
--- "A board has its function number (0 to 7), two spaces [with their rules], and two offsets [A and B: `Description`]. The board also
+-- "A board has its function number (0 to 7), two spaces [with their rules and marks], and two offsets [A and B: `Description`]. The board also
 -- keeps the captured bus and device number between packets, or the fact that none is captured."
 pub record Board : Type 0 where
   pub description : Description

@@ -1,4 +1,4 @@
--- The enables as a mask of four bytes, and rule and marks under it: a merge without a test of an enable does what document 01 says. Assumes nothing.
+-- The enables as a mask of four bytes, and rule and marks under it: a merge without a test of an enable does what the documents say. Assumes nothing.
 use Prim.Native.Nat.{ℕ, zero, suc, _+_, _*_, _/_, _%_, _^_, _≤_, _<_}
 use mathlib.Core.Bool.{Bool, true, false, cond}
 use mathlib.Core.List.{List, [], _∷_}

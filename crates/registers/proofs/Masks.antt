@@ -26,7 +26,7 @@ bit-suc k n = rw (pow-suc, mul-comm (2 ^ k) 2, ← (div-div-eq-div-mul n 2 (2 ^ 
 pub bit-zero : (n : ℕ) → bit 0 n ≡ n % 2
 bit-zero n = omega arith
 
--- one bit: at a rule bit r, the old bit and its complement's choice; then at a mark m, what the data bit leaves
+-- one bit: the old bit where the rule bit is 0, or the data bit where it is 1; then what mark and data bit leave of that
 one-merged : (o r d : ℕ) → o < 2 → r < 2 → d < 2 → max (min o (1 - r)) (min d r) ≡ mergedBit r o d
 one-merged o zero d ho hr hd = omega arith
 one-merged o (suc r) d ho hr hd = omega arith

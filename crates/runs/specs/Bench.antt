@@ -19,15 +19,15 @@ abbrev pub benchRules : List ℕ
 benchRules = holding 0x004 (0xff ∷ 0xff ∷ 0xff ∷ 0xff ∷ [])
 
 -- a space of the bench: those rules, and no bit that is cleared by writing 1, of which document 01 does not know
-abbrev pub unmarked : List ℕ → Space
-unmarked bytes = record { bytes = bytes; rules = benchRules; marks = zeros }
+abbrev pub benchSpace : List ℕ → Space
+benchSpace bytes = record { bytes = bytes; rules = benchRules; marks = zeros }
 
 -- "Function 0", fresh, with the trusted space given; A and B at the lowest places they may have
 abbrev pub bench : List ℕ → Board
 bench trusted =
     freshBoard (record { function = 0; a = 0x104; b = 0x00c })
-    (unmarked zeros)
-    (unmarked trusted)
+    (benchSpace zeros)
+    (benchSpace trusted)
 
 -- the same, once a write to bus 05h and device 3 has been captured, as P2's is
 abbrev pub benchAfter : List ℕ → List ℕ → Board
@@ -35,8 +35,8 @@ benchAfter ordinary trusted =
     record {
       description = record { function = 0; a = 0x104; b = 0x00c };
       capture = Number 0x05 0x03;
-      ordinary = unmarked ordinary;
-      trusted = unmarked trusted;
+      ordinary = benchSpace ordinary;
+      trusted = benchSpace trusted;
     }
 
 -- P1's packet, a trusted read at 004h, and P2's, a Type 0 write there

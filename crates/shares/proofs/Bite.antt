@@ -1,7 +1,7 @@
 -- The two halves of demand 3 say something. Runs A and B differ in B, trusted bytes, rules and marks and the number of trusted packets, meet the
--- first half's premises, and in both an ordinary read at A is answered with the data in the register, not with the stale bytes there, and one of
--- the status with the bits that a write of ones has left. Runs C and D differ in A, B, ordinary bytes, rules and marks, capture and the number of
--- ordinary packets and resets, meet the second half's premises, and in both a trusted read is answered with the data written before, and one of
+-- first half's premises, and in A, so by the half in both, an ordinary read at A is answered with the data in the register, not with the stale bytes there, and one of
+-- the status with the bits that a write has left. Runs C and D differ in A, B, ordinary bytes, rules and marks, capture and the number of
+-- ordinary packets and resets, meet the second half's premises, and in C, so in both, a trusted read is answered with the data written before, and one of
 -- the trusted status with the bits that are left. Assumes nothing.
 use Prim.Native.Nat.{ℕ}
 use mathlib.Core.Bool.{false}

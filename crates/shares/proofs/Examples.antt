@@ -73,7 +73,7 @@ runA =
     ∷ []
 
 -- the same, but that the register gets its value in two halves, with a trusted read between; the trusted status is cleared; and another
--- trusted read is refused after the reset
+-- trusted read is answered UR after the reset
 abbrev pub runB : List Event
 runB =
     sent p2

@@ -161,6 +161,10 @@ fixed = full 0x008
 abbrev status : Space
 status = withStatus zero
 
+-- a space whose writable bits are marked too, so that no board with it is well described
+abbrev twice : Space
+twice = record { bytes = zeros; rules = benchRules; marks = benchRules }
+
 abbrev atA : List Event
 atA = sent (readAt 0x01 0x04) ∷ []
 
@@ -207,7 +211,7 @@ first-premises-needed = (
   refuted ordinary WellDescribed whole butPlaces whole (usual zero zero) (usual zero zero)
       (reset ∷ sent (readAt 0x00 0x04) ∷ []) (sent (readAt 0x00 0x04) ∷ reset ∷ [])
       refl refl refl refl refl (replied 0 4) refl,
-  refuted ordinary (λ d. Unit {0}) whole whole whole (usual zero zero) (usual zero (plain [] [])) (sent [] ∷ []) (sent [] ∷ [])
+  refuted ordinary (λ d. Unit {0}) whole whole whole (usual zero zero) (usual zero twice) (sent [] ∷ []) (sent [] ∷ [])
       tt tt refl refl refl (answer 0) refl,
 )
 
@@ -229,6 +233,6 @@ second-premises-needed = (
       refl refl refl refl refl (replied 0 12) refl,
   refuted trusted WellDescribed whole (map noSize) whole (usual zero zero) (usual zero zero) trusted4 (packet p1 15 ∷ [])
       refl refl refl refl refl (answer 0) refl,
-  refuted trusted (λ d. Unit {0}) whole whole whole (usual zero zero) (usual (plain [] []) zero) trusted4 trusted4
+  refuted trusted (λ d. Unit {0}) whole whole whole (usual zero zero) (usual twice zero) trusted4 trusted4
       tt tt refl refl refl (answer 0) refl,
 )

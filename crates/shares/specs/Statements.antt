@@ -29,7 +29,8 @@ FirstHalfAtEach =
 
 -- "The other way round, with the same function number, trusted packets, their reply sizes, trusted bytes and rules, and equal capture at
 -- each trusted packet, all trusted answers, written reply bytes and trusted bytes agree": at each trusted packet, and at the end. "A, B
--- and all ordinary bytes, rules, packets and resets may differ in its second [half]."
+-- and all ordinary bytes, rules, packets and resets may differ in its second [half]." With 02, 6/13, "the new trusted buffer" is the same, and the ordinary
+-- one may differ as the ordinary rules may.
 abbrev pub SecondHalf : Type 0
 SecondHalf =
     (d e : Board) (run other : List Event) → WellDescribed d → WellDescribed e
