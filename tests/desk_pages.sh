@@ -90,7 +90,7 @@ differ_only() {
     same "$(beginning "$1" | grep -v -E "^(${3// /|})( |\$)")" "$(beginning "$2" | grep -v -E "^(${3// /|})( |\$)")"
 }
 agree() { # X Y
-    differ_only "$1" "$2" 'B trusted trusted-rules' && same "$(ordinary "$1")" "$(ordinary "$2")" && [ "$(trusted "$1")" != "$(trusted "$2")" ]
+    differ_only "$1" "$2" 'B trusted trusted-rules trusted-marks' && same "$(ordinary "$1")" "$(ordinary "$2")" && [ "$(trusted "$1")" != "$(trusted "$2")" ]
 }
 disagree() { # X Y WORDS
     differ_only "$1" "$2" "$3" && same "$(asked "$1")" "$(asked "$2")" && [ "$(questions "$1")" != "$(questions "$2")" ]
