@@ -121,7 +121,7 @@ written d q new e inside aligned =
 
 -- ---- by the answer
 
-served : (d : Board) (p : List ℕ) (size : ℕ) → serve d p size .number ≡ 0 → serve d p size ≡ respond d (requestOf p) (dataOf p)
+pub served : (d : Board) (p : List ℕ) (size : ℕ) → serve d p size .number ≡ 0 → serve d p size ≡ respond d (requestOf p) (dataOf p)
 unfolding serve
 served d p size n = rw (sym (outcome-number d p size) ∙ n)
 
@@ -138,7 +138,7 @@ unfolding withoutData withData
 succeeded d q new true w u = rw (respond-write d q new u w)
 succeeded d q new false w u = rw (respond-read d q new u w)
 
-supported : (d : Board) (p : List ℕ) (size : ℕ) (u : Bool) → unsupported (d .description) (d .capture) (requestOf p) ≡ u
+pub supported : (d : Board) (p : List ℕ) (size : ℕ) (u : Bool) → unsupported (d .description) (d .capture) (requestOf p) ≡ u
     → serve d p size .number ≡ 0 → byte (serve d p size .written) 6 ≡ statusByte Success → unsupported (d .description) (d .capture) (requestOf p) ≡ false
 supported d p size true u n s =
     absurd (omega (arith, sym (status d (requestOf p) (dataOf p) u) ∙ ap (λ (o : Outcome). byte (o .written) 6) (sym (served d p size n)) ∙ s))

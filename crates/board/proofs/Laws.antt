@@ -12,7 +12,6 @@ use Rattle.answers.proofs.Checks.{none-of}
 use Rattle.words.specs.Bytes.{four, fourOrZero, Puts}
 use Rattle.words.proofs.Laws.{four-inside, puts-is, placed-true}
 use Rattle.registers.specs.Merge.{merged}
-use Rattle.registers.specs.Shown.{shown}
 use Rattle.registers.proofs.Laws.{merged-length}
 use Rattle.packet.specs.declared.Target.the-variants.{Type0, Type1, Trusted}
 use Rattle.packet.specs.declared.Request.{Request}
@@ -25,7 +24,7 @@ use Rattle.capture.specs.declared.Identified.{Identified}
 use Rattle.capture.specs.Kept.{completer, identified}
 use Rattle.board.specs.declared.Description.{Description}
 use Rattle.board.specs.Description.{Space, Board, outOfRange, ranges, wrongSize, wrongSizes, doublyMarked, causes, badlyDescribed, WellDescribed}
-use Rattle.board.specs.Access.{addressed, unsupported, storedBytes, storedOrdinary, shownWord}
+use Rattle.board.specs.Access.{addressed, unsupported, storedBytes, storedOrdinary, pickedWord}
 use Rattle.board.specs.Promise.{over}
 use Rattle.board.specs.Inner.{Sized, Readable, done}
 
@@ -123,20 +122,17 @@ pub stored-ordinary : (a : ℕ) (s : Space) (q : Request) (new : List ℕ) → (
 unfolding storedOrdinary
 stored-ordinary a s q new h = rw (ne-eqb (q .offset) a h)
 
--- the three words that a read can show
+-- the three words that a read can be for
 module _ (d : Description) (ordinary trusted : List ℕ) (q : Request) (ready : Readable d ordinary trusted q) where
-  pub shown-trusted : isTrusted (q .target) ≡ true → shown (fourOrZero trusted (q .offset)) (q .enables) ≡ shownWord d ordinary trusted q
-  unfolding shownWord
-  shown-trusted t = rw (t, four-inside trusted (q .offset) (omega (arith, ready)))
+  pub picked-trusted : isTrusted (q .target) ≡ true → fourOrZero trusted (q .offset) ≡ pickedWord d ordinary trusted q
+  picked-trusted t = rw (t, four-inside trusted (q .offset) (omega (arith, ready)))
 
   module _ (t : isTrusted (q .target) ≡ false) where
-    pub shown-correlation : q .offset ≡ d .a → shown (fourOrZero trusted (d .b)) (q .enables) ≡ shownWord d ordinary trusted q
-    unfolding shownWord
-    shown-correlation e = rw (t, eq-eqb (q .offset) (d .a) e, four-inside trusted (d .b) (omega (arith, ready)))
+    pub picked-correlation : q .offset ≡ d .a → fourOrZero trusted (d .b) ≡ pickedWord d ordinary trusted q
+    picked-correlation e = rw (t, eq-eqb (q .offset) (d .a) e, four-inside trusted (d .b) (omega (arith, ready)))
 
-    pub shown-ordinary : (q .offset ≡ d .a → ⊥) → shown (fourOrZero ordinary (q .offset)) (q .enables) ≡ shownWord d ordinary trusted q
-    unfolding shownWord
-    shown-ordinary h = rw (t, ne-eqb (q .offset) (d .a) h, four-inside ordinary (q .offset) (omega (arith, ready)))
+    pub picked-ordinary : (q .offset ≡ d .a → ⊥) → fourOrZero ordinary (q .offset) ≡ pickedWord d ordinary trusted q
+    picked-ordinary h = rw (t, ne-eqb (q .offset) (d .a) h, four-inside ordinary (q .offset) (omega (arith, ready)))
 
 -- ---- the reply
 

@@ -5,6 +5,7 @@ pub mod Keeps
 pub mod Refusals
 pub mod Causes
 pub mod Lands
+pub mod Whole
 pub mod Stale
 pub mod Digest
 pub mod Computing

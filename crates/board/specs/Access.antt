@@ -84,16 +84,18 @@ afterWrite d q new =
 abbrev pub correlation : Board → List ℕ
 correlation d = four (d .trusted .bytes) (d .description .b)
 
--- "The ordinary word at A reads as the four trusted bytes at B, under the same enables." "The bytes stored at A in the ordinary space
--- never appear in a reply. Full decoding: no two offsets reach the same byte, save through this word.": description, ordinary bytes,
--- trusted bytes
-unfoldable pub shownWord : Description → List ℕ → List ℕ → Request → List ℕ
-shownWord description ordinary trusted q =
-    shown
-    (cond (isTrusted (q .target))
+-- the four bytes that a read is for. "The ordinary word at A reads as the four trusted bytes at B": and no longer, since 02, 7/13, "under the same
+-- enables". "The bytes stored at A in the ordinary space never appear in a reply. Full decoding: no two offsets reach the same byte, save through
+-- this word.": description, ordinary bytes, trusted bytes
+abbrev pub pickedWord : Description → List ℕ → List ℕ → Request → List ℕ
+pickedWord description ordinary trusted q =
+    cond (isTrusted (q .target))
     (four trusted (q .offset))
-    (cond (eqb (q .offset) (description .a)) (four trusted (description .b)) (four ordinary (q .offset))))
-    (q .enables)
+    (cond (eqb (q .offset) (description .a)) (four trusted (description .b)) (four ordinary (q .offset)))
+
+-- 02, 7/13: "every successful read returns all four bytes whatever the enables, also at A": those four, as a read shows them
+unfoldable pub shownWord : Description → List ℕ → List ℕ → Request → List ℕ
+shownWord description ordinary trusted q = shown (pickedWord description ordinary trusted q)
 
 -- what a successful read shows
 abbrev pub readWord : Board → Request → List ℕ

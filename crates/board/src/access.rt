@@ -1,7 +1,7 @@
 // The access: which requests are unsupported, what a write leaves in a space, what a read shows.
 ghost use mathlib.Core.Path.{_≡_};
 ghost use mathlib.Core.Bool.{_&&_};
-ghost use Rattle.board.specs.Access.{addressed, unsupported, storedBytes, storedOrdinary, shownWord};
+ghost use Rattle.board.specs.Access.{addressed, unsupported, storedBytes, storedOrdinary, pickedWord, shownWord};
 ghost use Rattle.board.specs.Promise.{spaceOf};
 ghost use Rattle.board.specs.Inner.{Sized, Readable};
 use super::Description;
@@ -79,6 +79,27 @@ pub(super) fn store_ordinary(
     }
 }
 
+// The four bytes that a read is for: at the correlation word's place those of the trusted space.
+fn pick_word(
+    description: Description,
+    ordinary: &[u8],
+    trusted: &[u8],
+    request: Request,
+) -> [u8; 4]
+    requires { ⌜ Readable description (now ordinary) (now trusted) request ⌝ }
+    ensures { λ r. ⌜ r ≡ pickedWord description (now (ordinary .entry)) (now (trusted .entry)) request ⌝ }
+{
+    let target = request.target;
+    let offset = request.offset;
+    if target.is_trusted() {
+        return words::four(trusted, offset);
+    }
+    if offset == description.a {
+        return words::four(trusted, description.b);
+    }
+    words::four(ordinary, offset)
+}
+
 // The four bytes that a read shows.
 pub(super) fn read_word(
     description: Description,
@@ -89,13 +110,6 @@ pub(super) fn read_word(
     requires { ⌜ Readable description (now ordinary) (now trusted) request ⌝ }
     ensures { λ r. ⌜ r ≡ shownWord description (now (ordinary .entry)) (now (trusted .entry)) request ⌝ }
 {
-    let target = request.target;
-    let offset = request.offset;
-    if target.is_trusted() {
-        return registers::show(words::four(trusted, offset), request.enables);
-    }
-    if offset == description.a {
-        return registers::show(words::four(trusted, description.b), request.enables);
-    }
-    registers::show(words::four(ordinary, offset), request.enables)
+    let word = pick_word(description, ordinary, trusted, request);
+    registers::show(word)
 }

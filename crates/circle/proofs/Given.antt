@@ -3,14 +3,13 @@
 use Prim.Native.Nat.{ℕ, zero, suc, _<_}
 use mathlib.Core.Bool.{false}
 use mathlib.Core.List.{List, [], _∷_}
-use mathlib.Core.Path.{_≡_, refl, ap, _∙_}
+use mathlib.Core.Path.{_≡_, refl, ap, ap₂, _∙_}
 use native.Mathlib.Nat.{zero-lt-suc}
 use native.Mathlib.Omega.{arith}
 use lib.ListN.{length, replicate, length-replicate}
 use borrow.Author.Tests.{eq-eqb, le-ltb}
 use Rattle.words.specs.Bytes.{byte, four}
 use Rattle.words.specs.Places.{placed}
-use Rattle.registers.specs.Shown.{shown}
 use Rattle.packet.specs.declared.Id.{Id}
 use Rattle.packet.specs.declared.Status.the-variants.{Success, Unsupported}
 use Rattle.packet.specs.Fields.{typeOf, deviceOf, functionOf, dataOf}
@@ -21,11 +20,12 @@ use Rattle.capture.specs.Kept.{completer}
 use Rattle.capture.proofs.Laws.{completer-exact}
 use Rattle.circle.specs.Plain.{Octets}
 use Rattle.board.specs.Description.{Board, doublyMarked, badlyDescribed, WellDescribed}
-use Rattle.board.specs.Access.{unsupported, afterWrite, shownWord}
+use Rattle.board.specs.Access.{unsupported, afterWrite}
 use Rattle.board.specs.Serving.{Outcome, respond, serve}
 use Rattle.board.specs.Promise.{spaceOf}
 use Rattle.board.proofs.Laws.{unsupported-type0, unsupported-type1}
 use Rattle.board.proofs.Outcomes.{respond-unsupported, respond-write, respond-read, served-is}
+use Rattle.board.proofs.Whole.{read-whole}
 use Rattle.circle.specs.Replies.{Reply}
 
 -- ---- real bytes
@@ -132,14 +132,14 @@ module _ (high low : ℕ) (requester : Id) (tag : ℕ) (new : List ℕ) (h : hig
   read = packetFor 0x04 high low requester tag []
 
   pub gives-data : Reply (withData completerId requester tag (four new 0))
-  unfolding requestOf typeOf shownWord shown holding
+  unfolding requestOf typeOf holding
   gives-data =
       let q = requestOf read in
       let u : unsupported (d .description) (d .capture) q ≡ false = unsupported-type0 (d .description) (d .capture) q refl refl ∙ rw (eq-eqb (functionOf low) (functionOf low) refl) in
       let r = respond-read d q (dataOf read) u refl in
       given read _ (packet-octets 0x04 high low requester tag [] (omega arith) h l rh rl t tt) refl
       (ap (λ (x : Outcome). x .number) r)
-      (ap (λ (x : Outcome). x .written) r ∙ ap (λ (id : Id). withData id requester tag (four new 0)) (completer-given high low l))
+      (ap (λ (x : Outcome). x .written) r ∙ ap₂ (λ (id : Id) (word : List ℕ). withData id requester tag word) (completer-given high low l) (read-whole d q))
 
   -- a Type 0 write there
   abbrev write : List ℕ

@@ -18,7 +18,7 @@ use Rattle.board.specs.Description.{Board}
 use Rattle.board.specs.Access.{unsupported, afterWrite, readWord}
 use Rattle.board.specs.Serving.{Outcome, completerOf, respond, serve}
 use Rattle.board.proofs.Outcomes.{respond-unsupported, respond-write, respond-read}
-use Rattle.board.proofs.Refusals.{outcome-number}
+use Rattle.board.proofs.Lands.{served}
 use Rattle.circle.specs.Replies.{shownFour, meant}
 
 -- bytes read back as a completion
@@ -49,10 +49,6 @@ unfolding withoutData completionOf
 reads-unsupported completer requester tag = record { number = refl; same = refl }
 
 -- ---- by the way that a request goes
-
-pub served : (d : Board) (p : List ℕ) (size : ℕ) → serve d p size .number ≡ 0 → serve d p size ≡ respond d (requestOf p) (dataOf p)
-unfolding serve
-served d p size n = rw (sym (outcome-number d p size) ∙ n)
 
 -- what is said, in the three ways
 said-unsupported : (u writes : Bool) (said : Said) → u ≡ true → Unsupported ≡ cond u Unsupported (cond writes Done said)

@@ -1,7 +1,8 @@
 -- THEOREM. The night shift's sentence: a renewal that is answered "successful" has landed, as far as its enables, the rules and the marks let it. Over writer,
 -- board and reader together, as their promises tell it: a request that we wrote, served by any well-described board, and the completion read back. "Success
 -- without data": the enabled writable bits at that place of that space equal the data, the enabled marked bits are cleared exactly where the data has a 1, and
--- nothing else changed (at A: nothing changed). "Success with data": the data is what the space shows there. UR: nothing changed. Assumes nothing.
+-- nothing else changed (at A: nothing changed). "Success with data": the data is all four bytes that the space
+-- shows there, whatever was enabled. UR: nothing changed. Assumes nothing.
 use Prim.Native.Nat.{ℕ, zero, suc, _+_, _<_}
 use mathlib.Core.Bool.{Bool, true, false, cond}
 use mathlib.Core.List.{List, [], _∷_}
@@ -19,7 +20,6 @@ use Rattle.answers.proofs.Unique.{number-positive}
 use Rattle.words.specs.Bytes.{byte, four}
 use Rattle.words.specs.Fields.{bit}
 use Rattle.registers.specs.Merge.{enabled, merged}
-use Rattle.registers.specs.Shown.{shown}
 use Rattle.registers.proofs.Laws.{merged-disabled, merged-taken, merged-cleared, merged-kept}
 use Rattle.packet.specs.declared.Request.{Request}
 use Rattle.packet.specs.declared.Status.the-variants as status
@@ -39,7 +39,7 @@ use Rattle.asking.proofs.Numbers.{served-packet}
 use Rattle.circle.proofs.Asked.{asked, packet-number, request-is, data-is}
 use Rattle.board.specs.declared.Served.{Served}
 use Rattle.board.specs.Description.{Space, doublyMarked, Board, WellDescribed}
-use Rattle.board.specs.Access.{unsupported, readWord, shownWord}
+use Rattle.board.specs.Access.{unsupported, readWord}
 use Rattle.board.specs.Serving.{Outcome, completerOf, respond, serveNumber, refused, serve}
 use Rattle.board.specs.Promise.{Seen, afterCall, shows, Serves}
 use Rattle.board.proofs.Outcomes.{respond-unsupported, respond-write}
@@ -48,10 +48,11 @@ use Rattle.board.proofs.Laws.{Well, well-described}
 use Rattle.board.proofs.MarkedTwice.{unmarked, unwritable}
 use Rattle.board.proofs.Keeps.{serve-keeps, call-holds}
 use Rattle.board.proofs.Lands as lands
-use Rattle.board.proofs.Lands.{write-lands, others-keep}
+use Rattle.board.proofs.Lands.{served, write-lands, others-keep}
+use Rattle.board.proofs.Whole.{read-four}
 use Rattle.circle.specs.Replies.{shownFour, meant}
 use Rattle.circle.specs.Sentence.{BitsLanded, Landed, shownThere, Means}
-use Rattle.circle.proofs.Heard.{served, replies-read-back}
+use Rattle.circle.proofs.Heard.{replies-read-back}
 
 -- what the caller of `board::serve` holds afterwards: the capture that was handed back and the two spaces as the call left them; the description, which
 -- goes in by value, and the rules and marks, which are only read, are the caller's own
@@ -167,8 +168,8 @@ landed d e a new well w description =
 
 -- what a read shows, in four bytes
 shown-is : (d : Board) (a : Parts) → let w = readWord d (asked a) in (byte w 0 ∷ byte w 1 ∷ byte w 2 ∷ byte w 3 ∷ []) ≡ shownThere d a
-unfolding asked shownWord shown
-shown-is d a = refl
+unfolding asked
+shown-is d a = read-four d (asked a)
 
 -- ---- the three ways
 

@@ -1,6 +1,7 @@
 -- The night shift's sentence: what a completion that reads back tells about the board. Issue of 02, 5/13: "success without data": the enabled writable
 -- bits at that place of that space equal the data and nothing else changed (at A: nothing changed); "success with data": the data is what the space
--- shows there; UR: nothing changed. With 02, 6/13, a third case: "A marked bit becomes 0 if the enabled data bit is 1, else stays." Assumes nothing.
+-- shows there; UR: nothing changed. With 02, 6/13, a third case: "A marked bit becomes 0 if the enabled data bit is 1, else stays." With 02, 7/13, what the
+-- space shows is "all four bytes whatever the enables, also at A". Assumes nothing.
 use Prim.Native.Nat.{ℕ, _+_, _≤_, _<_}
 use mathlib.Core.Bool.{Bool, true, false, cond}
 use mathlib.Core.List.{List, [], _∷_}
@@ -11,7 +12,6 @@ use lib.ListN.{length}
 use Rattle.words.specs.Bytes.{byte, four}
 use Rattle.words.specs.Fields.{bit}
 use Rattle.registers.specs.Merge.{enabled}
-use Rattle.registers.specs.Shown.{shown}
 use Rattle.packet.specs.Fields.{typeOf}
 use Rattle.packet.specs.Request.{isTrusted, targetOf}
 use Rattle.capture.specs.declared.Capture.the-variants.{Number}
@@ -54,14 +54,12 @@ pub record Landed (d e : Board) (a : Parts) (new : List ℕ) : Type 0 where
       → BitsLanded (d .ordinary) (e .ordinary) (a .offset) (a .enables) new × (e .trusted ≡ d .trusted) × (e .capture ≡ Number (a .bus) (a .device))
   pub description : e .description ≡ d .description
 
--- "what the space shows there", under the enables; at A, the correlation register
+-- "what the space shows there": all four bytes; at A, the correlation register
 abbrev pub shownThere : Board → Parts → List ℕ
 shownThere d a =
-    shown
-    (cond (asksTrusted a)
+    cond (asksTrusted a)
     (four (d .trusted .bytes) (a .offset))
-    (cond (eqb (a .offset) (d .description .a)) (correlation d) (four (d .ordinary .bytes) (a .offset))))
-    (a .enables)
+    (cond (eqb (a .offset) (d .description .a)) (correlation d) (four (d .ordinary .bytes) (a .offset)))
 
 -- what it means that a completion says something: the board before and after, the request's parts and data
 abbrev pub Means : Board → Board → Parts → List ℕ → Said → Type 0

@@ -1,4 +1,5 @@
 pub mod Laws
 pub mod Numbers
 pub mod Digest
+pub mod EnablesAside
 pub mod Unique

@@ -6,20 +6,17 @@ use mathlib.Core.Logic.{_⊎_, inl, inr}
 use mathlib.Core.Path.{_≡_, refl, sym, ap, _∙_}
 use native.Mathlib.Nat.{mod-lt, zero-lt-suc, le-of-suc-le-suc, not-suc-le-zero, pow-suc}
 use native.Mathlib.Omega.{arith}
-use lib.Bits.{bitAnd, and-mask}
 use lib.ListN.{length}
-use borrow.Author.Tests.{eq-eqb, ne-eqb}
 use Rattle.words.specs.Bytes.{byte, four}
 use Rattle.words.specs.Fields.{bit}
-use Rattle.registers.specs.Merge.{lowestSet, enabled, writtenByte, merged, mergedByte, mergedBit, clearedBit, writtenBit, fromBits}
+use Rattle.registers.specs.Merge.{enabled, writtenByte, merged, mergedByte, mergedBit, clearedBit, writtenBit, fromBits}
+use Rattle.registers.specs.Shown.{shown}
 use Rattle.registers.proofs.Masks.{from-low, bit-suc, bit-zero}
 
--- the test that the code makes of the lowest enable
-pub lowest-set : (enables : ℕ) → bitAnd enables 1 ≡ 1 → lowestSet enables ≡ true
-lowest-set e h = eq-eqb _ _ (sym (and-mask e 1) ∙ h)
-
-pub lowest-clear : (enables : ℕ) → (bitAnd enables 1 ≡ 1 → ⊥) → lowestSet enables ≡ false
-lowest-clear e h = ne-eqb _ _ (λ k. h (and-mask e 1 ∙ k))
+-- a read shows four bytes as they are
+pub shown-whole : (bytes : List ℕ) → shown bytes ≡ bytes
+unfolding shown
+shown-whole bytes = refl
 
 -- four bytes stay four
 pub merged-length : (old rules marks new : List ℕ) (enables : ℕ) → length (merged old rules marks new enables) ≡ 4

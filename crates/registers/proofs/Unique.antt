@@ -9,5 +9,5 @@ pub merge-unique : (old rules marks new : List ℕ) (enables : ℕ) (r q : List 
     → q ≡ merged old rules marks new enables → r ≡ q
 merge-unique old rules marks new enables r q e f = e ∙ sym f
 
-pub show-unique : (bytes : List ℕ) (enables : ℕ) (r q : List ℕ) → r ≡ shown bytes enables → q ≡ shown bytes enables → r ≡ q
-show-unique bytes enables r q e f = e ∙ sym f
+pub show-unique : (bytes r q : List ℕ) → r ≡ shown bytes → q ≡ shown bytes → r ≡ q
+show-unique bytes r q e f = e ∙ sym f

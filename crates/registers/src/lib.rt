@@ -1,8 +1,7 @@
-// What a write leaves of four register bytes, and what a read shows of them, under four byte enables.
+// What a write leaves of four register bytes under four byte enables, and what a read shows of them whatever the enables.
 // Enable bit 0 is the byte at the lowest address. Promised for every value: specs/Merge.antt and specs/Shown.antt.
 ghost use mathlib.Core.Path.{_≡_};
-ghost use mathlib.Core.Bool.{cond};
-ghost use Rattle.registers.specs.Merge.{lowestSet, mergedByte, merged};
+ghost use Rattle.registers.specs.Merge.{mergedByte, merged};
 ghost use Rattle.registers.specs.Inner.{enabledBytes, UnderMask};
 ghost use Rattle.registers.specs.Shown.{shown};
 
@@ -35,13 +34,6 @@ fn write_byte(mask: u8, old: u8, rule: u8, mark: u8, new: u8) -> u8
     merge_byte(old, rule & mask, mark & mask, new)
 }
 
-// A byte as a read returns it, under the lowest of these enables.
-fn show_byte(enables: u8, byte: u8) -> u8
-    ensures { λ r. ⌜ r ≡ cond (lowestSet enables) byte 0 ⌝ }
-{
-    if enables & 1 == 1 { byte } else { 0 }
-}
-
 // Four bytes after a write.
 pub fn merge(old: [u8; 4], rules: [u8; 4], marks: [u8; 4], new: [u8; 4], enables: u8) -> [u8; 4]
     ensures { λ r. ⌜ r ≡ merged old rules marks new enables ⌝ }
@@ -55,14 +47,9 @@ pub fn merge(old: [u8; 4], rules: [u8; 4], marks: [u8; 4], new: [u8; 4], enables
     ]
 }
 
-// Four bytes as a read returns them.
-pub fn show(bytes: [u8; 4], enables: u8) -> [u8; 4]
-    ensures { λ r. ⌜ r ≡ shown bytes enables ⌝ }
+// Four bytes as a read returns them: all of them.
+pub fn show(bytes: [u8; 4]) -> [u8; 4]
+    ensures { λ r. ⌜ r ≡ shown bytes ⌝ }
 {
-    [
-        show_byte(enables >> 0, bytes[0]),
-        show_byte(enables >> 1, bytes[1]),
-        show_byte(enables >> 2, bytes[2]),
-        show_byte(enables >> 3, bytes[3]),
-    ]
+    bytes
 }
