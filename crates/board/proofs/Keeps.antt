@@ -93,7 +93,7 @@ captured-range d kept bus device h e =
     rw (le-ltb 31 device h, n .1 .0, n .1 .1 .0, n .1 .1 .1 .0)
 
 -- a space with other bytes, as many
-with-bytes : (s : Space) (bytes : List ℕ) → WellSpace s → length bytes ≡ 4096 → WellSpace (withBytes s bytes)
+pub with-bytes : (s : Space) (bytes : List ℕ) → WellSpace s → length bytes ≡ 4096 → WellSpace (withBytes s bytes)
 with-bytes s bytes w e = record { bytes = e; rules = w .rules; marks = w .marks; once = w .once }
 
 module _ (s : Space) (q : Request) (new : List ℕ) (w : WellSpace s) (inside : q .offset + 4 ≤ 4096) where

@@ -80,12 +80,7 @@ pub(super) fn store_ordinary(
 }
 
 // The four bytes that a read is for: at the correlation word's place those of the trusted space.
-fn pick_word(
-    description: Description,
-    ordinary: &[u8],
-    trusted: &[u8],
-    request: Request,
-) -> [u8; 4]
+fn pick_word(description: Description, ordinary: &[u8], trusted: &[u8], request: Request) -> [u8; 4]
     requires { ⌜ Readable description (now ordinary) (now trusted) request ⌝ }
     ensures { λ r. ⌜ r ≡ pickedWord description (now (ordinary .entry)) (now (trusted .entry)) request ⌝ }
 {

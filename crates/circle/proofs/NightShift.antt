@@ -3,12 +3,12 @@
 -- without data": the enabled writable bits at that place of that space equal the data, the enabled marked bits are cleared exactly where the data has a 1, and
 -- nothing else changed (at A: nothing changed). "Success with data": the data is all four bytes that the space
 -- shows there, whatever was enabled. UR: nothing changed. Assumes nothing.
-use Prim.Native.Nat.{ℕ, zero, suc, _+_, _<_}
+use Prim.Native.Nat.{ℕ, _+_, _<_}
 use mathlib.Core.Bool.{Bool, true, false, cond}
 use mathlib.Core.List.{List, [], _∷_}
 use mathlib.Core.Logic.{_⊎_, inl, inr, ⊎-elim}
 use mathlib.Core.Path.{_≡_, refl, sym, ap, _∙_, subst}
-use native.Mathlib.Nat.{zero-add, add-zero}
+use native.Mathlib.Nat.{zero-add}
 use native.Mathlib.Omega.{arith}
 use lib.Dec.{ltb}
 use lib.ListN.{length, take}
@@ -19,6 +19,7 @@ use Rattle.answers.specs.Checks.{any}
 use Rattle.answers.proofs.Unique.{number-positive}
 use Rattle.words.specs.Bytes.{byte, four}
 use Rattle.words.specs.Fields.{bit}
+use Rattle.words.proofs.Laws.{four-at}
 use Rattle.registers.specs.Merge.{enabled, merged}
 use Rattle.registers.proofs.Laws.{merged-disabled, merged-taken, merged-cleared, merged-kept}
 use Rattle.packet.specs.declared.Request.{Request}
@@ -89,13 +90,6 @@ abbrev pub SuccessfulMeansLanded : Type 0
 SuccessfulMeansLanded = (a : Parts) (new : List ℕ) (d : Board) → WellDescribed d → (s : Asked a new d) → Sentence a new d s
 
 -- ---- bits that land, by the merge
-
-four-at : (s : List ℕ) (at k : ℕ) → k < 4 → byte (four s at) k ≡ byte s (at + k)
-four-at s at zero h = ap (byte s) (sym (add-zero at))
-four-at s at (suc zero) h = refl
-four-at s at (suc (suc zero)) h = refl
-four-at s at (suc (suc (suc zero))) h = refl
-four-at s at (suc (suc (suc (suc k)))) h = absurd (omega arith)
 
 module _ (before after : Space) (once : doublyMarked (before .rules) (before .marks) ≡ false) (q : Request) (new : List ℕ)
     (l : lands.Landed before after q (four new 0)) where

@@ -3,3 +3,4 @@ pub mod Calls
 pub mod Bench
 pub mod Servers
 pub mod Clearing
+pub mod Hiding

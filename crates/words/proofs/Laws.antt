@@ -40,6 +40,14 @@ word-joins s at = go (leb (at + 4) (length s))
     go true = refl
     go false = refl
 
+-- one of the four bytes
+pub four-at : (s : List ℕ) (at k : ℕ) → k < 4 → byte (four s at) k ≡ byte s (at + k)
+four-at s at zero h = ap (byte s) (sym (add-zero at))
+four-at s at (suc zero) h = refl
+four-at s at (suc (suc zero)) h = refl
+four-at s at (suc (suc (suc zero))) h = refl
+four-at s at (suc (suc (suc (suc k)))) h = absurd (omega arith)
+
 module _ (s : List ℕ) (at : ℕ) (bytes : List ℕ) where
   pub puts-inside : at + length bytes ≤ length s → Puts s at bytes true (put s at bytes)
   puts-inside h = record { fitted = sym (le-leb _ _ h); left = rw (le-leb (at + length bytes) (length s) h) }

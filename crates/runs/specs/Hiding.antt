@@ -1,0 +1,73 @@
+-- Document 02, 7/13, "Whole words on reads": faults of a server that looks at the enables of a read, for any server at all, and in each of the three
+-- places that a read can be for. Assumes nothing.
+use Prim.Native.Nat.{ℕ, _+_, _≤_, _<_}
+use mathlib.Core.Bool.{true, false}
+use mathlib.Core.List.{List, [], _∷_}
+use mathlib.Core.Path.{_≡_}
+use lib.ListN.{length, drop}
+use Rattle.words.specs.Bytes.{byte, put}
+use Rattle.registers.specs.Merge.{enabled}
+use Rattle.packet.specs.declared.Request.{Request}
+use Rattle.packet.specs.Request.{isTrusted, packetNumber, requestOf}
+use Rattle.board.specs.Description.{Board, WellDescribed}
+use Rattle.board.specs.Access.{unsupported}
+use Rattle.board.specs.Promise.{Seen, afterCall}
+use Rattle.runs.specs.Servers.{Server, completion}
+
+-- the trusted space, the word at A, the rest of the ordinary space
+pub data Place : Type 0 where
+  inTrusted : Place
+  atA : Place
+  elsewhere : Place
+
+-- a request is for that place
+abbrev pub IsAt : Place → Board → Request → Type 0
+IsAt inTrusted d q = isTrusted (q .target) ≡ true
+IsAt atA d q = (isTrusted (q .target) ≡ false) × (q .offset ≡ d .description .a)
+IsAt elsewhere d q = (isTrusted (q .target) ≡ false) × (q .offset ≡ d .description .a → ⊥)
+
+-- a read there that succeeds
+pub record Reads (place : Place) (d : Board) (p reply : List ℕ) : Type 0 where
+  pub well : WellDescribed d
+  pub room : 16 ≤ length reply
+  pub sound : packetNumber p ≡ 0
+  pub reads : requestOf p .writes ≡ false
+  pub there : IsAt place d (requestOf p)
+  pub supported : unsupported (d .description) (d .capture) (requestOf p) ≡ false
+
+-- the bytes in which the word lies that it reads, and where; at A that is the trusted word at B
+abbrev pub bytesFor : Place → Board → List ℕ
+bytesFor inTrusted d = d .trusted .bytes
+bytesFor atA d = d .trusted .bytes
+bytesFor elsewhere d = d .ordinary .bytes
+
+abbrev pub offsetFor : Place → Board → Request → ℕ
+offsetFor inTrusted d q = q .offset
+offsetFor atA d q = d .description .b
+offsetFor elsewhere d q = q .offset
+
+-- the board with other bytes there
+abbrev pub withBytesFor : Place → Board → List ℕ → Board
+withBytesFor inTrusted d bytes = afterCall d (d .capture) (d .ordinary .bytes) bytes
+withBytesFor atA d bytes = afterCall d (d .capture) (d .ordinary .bytes) bytes
+withBytesFor elsewhere d bytes = afterCall d (d .capture) bytes (d .trusted .bytes)
+
+-- the board with another value in byte k of that word
+abbrev pub altered : Place → Board → Request → ℕ → ℕ → Board
+altered place d q k x = withBytesFor place d (put (bytesFor place d) (offsetFor place d q + k) (x ∷ []))
+
+-- the data that a server returns
+abbrev pub returned : Seen → List ℕ
+returned x = drop 12 (completion x)
+
+-- what it returns in the place of a byte that is not enabled does not hang on that byte. It may be 00h, as document 01 had it, or FFh, what the lent reply
+-- held, another byte of the word, or at A what is stored there
+abbrev pub Hides : Place → Server → Type 0
+Hides place server =
+    (d : Board) (p reply : List ℕ) → Reads place d p reply → (k x : ℕ) → k < 4 → enabled k (requestOf p .enables) ≡ false
+    → byte (returned (server d p reply)) k ≡ byte (returned (server (altered place d (requestOf p) k x) p reply)) k
+
+-- where no byte is enabled it returns no data, as success or as UR
+abbrev pub ReturnsNothing : Place → Server → Type 0
+ReturnsNothing place server =
+    (d : Board) (p reply : List ℕ) → Reads place d p reply → requestOf p .enables ≡ 0 → server d p reply .count ≡ 12
