@@ -10,4 +10,5 @@ pub mod Entries
 pub mod Quickly
 pub mod Examples
 pub mod Needed
+pub mod WholeRegister
 pub mod Bite
