@@ -5,7 +5,7 @@
 page=docs/LIBRARY.md
 sources=hosts/thawribbon/src
 # The tests and examples that there are at least.
-least_tests=129
+least_tests=132
 least_examples=37
 export CARGO_TERM_COLOR=never
 

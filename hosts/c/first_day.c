@@ -13,6 +13,7 @@ int main(void)
 {
     packets();
     captures();
+    reads();
     marks();
     walks();
     records();

@@ -60,9 +60,9 @@ extern "C" {
 #endif
 
 /* The version of this header, and of the archive that came with it. */
-#define THAWRIBBON_VERSION "0.7.0"
+#define THAWRIBBON_VERSION "0.8.0"
 #define THAWRIBBON_VERSION_MAJOR 0
-#define THAWRIBBON_VERSION_MINOR 7
+#define THAWRIBBON_VERSION_MINOR 8
 #define THAWRIBBON_VERSION_PATCH 0
 
 /* An answer that is dropped is an answer that nobody looked at: compilers that can, warn. */
@@ -235,7 +235,8 @@ typedef struct thawribbon_parts {
     uint8_t bus;          /* whom it is for */
     uint8_t device;       /* 0 to 31 */
     uint8_t function;     /* 0 to 7 */
-    uint8_t enables;      /* the first enables, 0 to 15: bit 0 is the byte at the lowest address; 0x0F for all four, and not named it is 0 */
+    uint8_t enables;      /* the bytes that a write may change, 0 to 15: bit 0 is the byte at the lowest address; 0x0F for all four, and not
+                             named it is 0. A read gives all four bytes whatever they are */
     uint8_t data[4];      /* what a write writes; for a read it is ignored */
 } thawribbon_parts;
 
@@ -249,7 +250,7 @@ typedef struct thawribbon_written {
 enum thawribbon_said {
     /* nothing, since it is refused */
     THAWRIBBON_SAID_NOTHING = 0,
-    /* success with data: a read was done, and these are its four bytes */
+    /* success with data: a read was done, and these are its four bytes, whatever it enabled */
     THAWRIBBON_SAID_DATA = 1,
     /* success without data: a write was done */
     THAWRIBBON_SAID_DONE = 2,
@@ -273,7 +274,8 @@ typedef struct thawribbon_heard {
  * Takes the board's description, what it has captured (kept), its two spaces, which an access may change, the rules and the marks of each,
  * the packet, and the reply to write into. Of the bytes that a write enables, a bit that is 1 in the rules becomes the data bit. A bit that
  * is 1 in the marks becomes 0 where the data bit is 1, and stays where it is 0: error status bits are such. Every other bit stays, and an
- * ordinary write at A changes none. A space without marked bits has marks of 4,096 zeros: thawribbon_no_marks of the helpers.
+ * ordinary write at A changes none. A space without marked bits has marks of 4,096 zeros: thawribbon_no_marks of the helpers. A read gives
+ * all four bytes of its word, whatever it enables; an ordinary one at A gives the four trusted bytes at b.
  *
  * The lowest number that applies is given:
  *   0  served. `length` bytes of the reply are the completion, and those past them stay as lent. Its byte 6 is 00h where the access was

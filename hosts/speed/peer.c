@@ -3,7 +3,7 @@
  * that can be written, and `w1cmask` those that are cleared by writing 1.
  *
  * It tests the type code and the fixed header fields, gives Unsupported Request in the cases of document 01, captures,
- * reads and writes under the enables, and writes the completion. It answers the completion's length, or 0 for a packet
+ * reads four bytes, writes under the enables, and writes the completion. It answers the completion's length, or 0 for a packet
  * with another type code or another fixed field.
  *
  * It does less than the library, for it leaves to its caller: the sizes of the spaces, of the packet and of the reply
@@ -28,15 +28,6 @@ struct masks_board {
 static uint32_t joined(const uint8_t *bytes)
 {
     return bytes[0] | bytes[1] << 8 | bytes[2] << 16 | (uint32_t)bytes[3] << 24;
-}
-
-static uint32_t read_bytes(const uint8_t *config, unsigned enables)
-{
-    uint32_t value = 0;
-    for (int i = 0; i < 4; i++)
-        if (enables >> i & 1)
-            value |= (uint32_t)config[i] << (8 * i);
-    return value;
 }
 
 static void write_bytes(uint8_t *config, const uint8_t *wmask, const uint8_t *w1cmask, unsigned enables, uint32_t value)
@@ -108,9 +99,8 @@ size_t masks_serve(struct masks_board *board, uint8_t *config, const uint8_t *wm
     }
 
     const uint8_t *source = is_trusted ? trusted + offset : offset == board->a ? trusted + board->b : config + offset;
-    uint32_t value = read_bytes(source, enables);
-    for (int i = 0; i < 4; i++, value >>= 8)
-        reply[12 + i] = value;
+    for (int i = 0; i < 4; i++)
+        reply[12 + i] = source[i];
     return complete(board, packet, reply, 1, 0x00);
 }
 

@@ -157,7 +157,7 @@ impl Completion {
         }
     }
 
-    /// The four bytes that a read gave: those not enabled are 00h. A write and an Unsupported Request have none.
+    /// The four bytes that a read gave, all of them whatever it enabled. A write and an Unsupported Request have none.
     #[must_use]
     #[inline]
     pub fn data(&self) -> Option<[u8; 4]> {

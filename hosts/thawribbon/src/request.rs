@@ -91,7 +91,8 @@ pub struct Request {
     pub target: Id,
     /// The offset of the word: a multiple of 4 up to FFCh.
     pub offset: Offset,
-    /// The first enables, 0 to 15: bit 0 is the byte at the lowest address.
+    /// The first enables, 0 to 15, the bytes that a write may change: bit 0 is the byte at the lowest address. A read gives
+    /// all four bytes whatever they are.
     pub enables: u8,
     /// What a write writes; for a read it is not looked at.
     pub data: [u8; 4],
@@ -149,7 +150,8 @@ impl Request {
         self
     }
 
-    /// The same request with these bytes enabled: bit 0 is the byte at the lowest address.
+    /// The same request with these bytes enabled, which is for a write: it changes no other. Bit 0 is the byte at the lowest
+    /// address.
     pub const fn enabling(mut self, enables: u8) -> Self {
         self.enables = enables;
         self

@@ -81,8 +81,7 @@ fn a_round_trip_of_each_kind() {
                 let request = request(kind, TARGET, offset, [1, 2, 3, 4])
                     .by([0xFF, 0xFF], 0xFE)
                     .enabling(enables);
-                let byte = if kind == Kind::TrustedRead { 0x72 } else { 0x51 };
-                let held = [0, 1, 2, 3].map(|at| if enables & 1 << at == 0 { 0x00 } else { byte });
+                let held = [if kind == Kind::TrustedRead { 0x72 } else { 0x51 }; 4];
                 let heard = ask(board, request);
                 assert_eq!(
                     heard.map_err(|error| assert!(matches!(error, NotAnswered::Unsupported(_)))),
