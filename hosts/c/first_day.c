@@ -13,7 +13,7 @@ int main(void)
 {
     packets();
     captures();
-    reads();
+    whole_reads();
     marks();
     walks();
     records();

@@ -4,7 +4,7 @@
 
 void packets(void);
 void captures(void);
-void reads(void);
+void whole_reads(void);
 void marks(void);
 void walks(void);
 void records(void);

@@ -69,7 +69,7 @@ static void poisoned_or_with_a_digest(void)
     }
 }
 
-void reads(void)
+void whole_reads(void)
 {
     group("serve, a read under every enable gives all four bytes, in both spaces and at A", under_every_enable);
     group("serve, the same of reads that are poisoned or have a digest", poisoned_or_with_a_digest);
