@@ -37,6 +37,8 @@ mod table;
 mod tally;
 mod turn;
 mod walk;
+mod whole;
+mod whole_names;
 
 pub use ask::{AskView, count as count_ask};
 pub use chain::Pointers;

@@ -1,5 +1,5 @@
-//! Document 01's rules, one module for each of its sections: packets, lists and records, as the requests 2/13, 3/13
-//! and 6/13 change them. And the requests 1/13, the router, and 5/13, the asking side.
+//! Document 01's rules, one module for each of its sections: packets, lists and records, as the requests 2/13, 3/13,
+//! 6/13 and 7/13 change them. And the requests 1/13, the router, and 5/13, the asking side.
 //!
 //! Every function answers every input. A number other than 0 leaves all that was lent as it was.
 
@@ -36,6 +36,8 @@ mod null;
 mod shapes;
 #[cfg(test)]
 mod status_bits;
+#[cfg(test)]
+mod whole_words;
 
 pub use ask::{Parts, Written, write_request};
 pub use description::Description;

@@ -6,6 +6,7 @@ use super::marked::{count_forms, count_marked, count_marked_unsupported};
 use super::names::{Captures, Correlation};
 use super::serve::{History, ServeView};
 use super::tally::Tally;
+use super::whole::count_whole;
 use crate::twin::word;
 
 /// The enabled bytes' bits.
@@ -18,6 +19,8 @@ pub const fn enabled(enables: u8) -> u32 {
 /// A packet of number 0, taken apart.
 pub struct Parts {
     code: u8,
+    /// Bit 7 of the first byte, poison and the digest bit, as a number of three bits from the lowest on.
+    pub form: usize,
     pub trusted: bool,
     pub writes: bool,
     poisoned: bool,
@@ -34,6 +37,7 @@ impl Parts {
         let code = bytes[0] & 0x7F;
         Self {
             code,
+            form: usize::from(bytes[0] >> 7) | usize::from(bytes[2] >> 6) << 1,
             trusted: code & 0x3F == 0x1B,
             writes: code & 0x40 != 0,
             poisoned: bytes[2] & 0x40 != 0,
@@ -50,6 +54,11 @@ impl Parts {
     const fn access(&self) -> usize {
         2 * self.trusted as usize + self.writes as usize
     }
+
+    /// Whether an ordinary packet asks for the word at A.
+    pub const fn is_at_a(&self, view: &ServeView<'_>) -> bool {
+        !self.trusted && self.offset == view.case.description.a as usize
+    }
 }
 
 /// Counts a call of number 0, and takes it into the board's history.
@@ -61,8 +70,7 @@ pub fn count_accepted(view: &ServeView<'_>, history: &mut History, tally: &mut T
         .iter()
         .position(|&code| code == parts.code)
         .expect("number 0 has one of the six type codes");
-    let form = usize::from(bytes[0] >> 7) | usize::from(bytes[2] >> 6) << 1;
-    tally.add(Group::TypeForms, 8 * code + form);
+    tally.add(Group::TypeForms, 8 * code + parts.form);
     count_forms(view, tally);
     let causes = unsupported_causes(view, &parts);
     let unsupported = causes.contains(&true);
@@ -76,6 +84,8 @@ pub fn count_accepted(view: &ServeView<'_>, history: &mut History, tally: &mut T
     } else {
         count_reserved(bytes, Group::ReservedBits, 0, tally);
         count_success(view, &parts, tally);
+        // First, as the other two forget what has been shown at A.
+        count_whole(view, &parts, history, tally);
         count_correlation(view, &parts, history, tally);
         count_marked(view, &parts, history, tally);
         count_capture(view, &parts, tally);
@@ -140,15 +150,10 @@ fn count_success(view: &ServeView<'_>, parts: &Parts, tally: &mut Tally) {
 
 /// Counts a successful write by the rules of its enabled bytes, and by its word where that was changed.
 fn count_write(view: &ServeView<'_>, parts: &Parts, words: Group, tally: &mut Tally) {
-    let spaces = if parts.trusted {
-        [view.trusted_before, view.trusted_after, view.trusted_rules]
-    } else {
-        [view.ordinary_before, view.ordinary_after, view.ordinary_rules]
-    };
-    let [old, new, rule] = spaces.map(|bytes| word(bytes, parts.offset));
+    let ([before, after], (rules, _)) = (view.spaces(parts.trusted), view.ruled(parts.trusted));
+    let [old, new, rule] = [before, after, rules].map(|bytes| word(bytes, parts.offset));
     let mask = enabled(parts.enables);
-    let at_a = !parts.trusted && parts.offset == view.case.description.a as usize;
-    if mask != 0 && !at_a {
+    if mask != 0 && !parts.is_at_a(view) {
         let first = 4 * usize::from(parts.trusted);
         let sort = match rule & mask {
             0 => 0,
@@ -165,7 +170,7 @@ fn count_write(view: &ServeView<'_>, parts: &Parts, words: Group, tally: &mut Ta
 fn count_correlation(view: &ServeView<'_>, parts: &Parts, history: &mut History, tally: &mut Tally) {
     let (a, b) = (view.case.description.a as usize, view.case.description.b as usize);
     let class = match (parts.access(), parts.offset == a, parts.offset == b) {
-        (0, true, _) => return count_read_at_a(view, parts, history, tally),
+        (0, true, _) => return count_read_at_a(view, history, tally),
         (1, true, _) => Correlation::OrdinaryWriteAtA,
         (2, _, true) => Correlation::TrustedReadAtB,
         (3, _, true) => Correlation::TrustedWriteAtB,
@@ -183,14 +188,14 @@ fn count_correlation(view: &ServeView<'_>, parts: &Parts, history: &mut History,
     }
 }
 
-fn count_read_at_a(view: &ServeView<'_>, parts: &Parts, history: &mut History, tally: &mut Tally) {
+/// Counts an ordinary read at A. It shows the whole word, whatever its enables.
+fn count_read_at_a(view: &ServeView<'_>, history: &mut History, tally: &mut Tally) {
     let (a, b) = (view.case.description.a as usize, view.case.description.b as usize);
-    let mask = enabled(parts.enables);
-    let stale = (word(view.ordinary_before, a) ^ word(view.trusted_before, b)) & mask != 0;
+    let stale = word(view.ordinary_before, a) != word(view.trusted_before, b);
     let mut add_if = |condition, class| tally.add_if(condition, Group::Correlation, class as usize);
     add_if(true, Correlation::OrdinaryReadAtA);
-    add_if(history.b_read && mask != 0, Correlation::TrustedReadThenShown);
-    add_if(history.b_changed & mask != 0, Correlation::TrustedWriteThenShown);
+    add_if(history.b_read, Correlation::TrustedReadThenShown);
+    add_if(history.b_changed != 0, Correlation::TrustedWriteThenShown);
     add_if(stale, Correlation::StaleBytesAtA);
     add_if(a == b, Correlation::AIsB);
     add_if(a == 0x104, Correlation::AIsLowest);
@@ -198,7 +203,7 @@ fn count_read_at_a(view: &ServeView<'_>, parts: &Parts, history: &mut History, t
     add_if(b == 0x00C, Correlation::BIsLowest);
     add_if(b == 0xFFC, Correlation::BIsHighest);
     history.b_read = false;
-    history.b_changed &= !mask;
+    history.b_changed = 0;
 }
 
 fn count_capture(view: &ServeView<'_>, parts: &Parts, tally: &mut Tally) {

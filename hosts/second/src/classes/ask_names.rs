@@ -118,7 +118,7 @@ pub const EFFECTS: &[&str] = &[
     "trusted write that leaves the word",
     "trusted write that changes some bits and not others",
     "trusted write at B that changes the word",
-    "read with no byte enabled",
+    "read with no byte enabled that shows something",
     "write with no byte enabled",
     "write that captures something else",
     "ordinary write that clears a marked bit",

@@ -5,8 +5,9 @@ use thawribbon::raw::Parts;
 use super::alone::only;
 use super::ask_names::Effect;
 use super::group::Group;
-use super::meaning::{CircleView, is_answer, is_done};
+use super::meaning::{CircleView, is_answer, is_done, shown};
 use super::tally::Tally;
+use super::whole::Read;
 use crate::generate::is_write;
 
 /// Counts a circle in all its classes. Where what was heard is not what became of the request, the run stops.
@@ -29,7 +30,24 @@ pub fn count(view: &CircleView<'_>, tally: &mut Tally) {
         tally.add(Group::CircleOffsets, place);
         let access = 2 * usize::from(view.is_trusted()) + usize::from(is_write(view.parts.kind));
         tally.add(Group::CircleEnables, 16 * access + usize::from(view.parts.enables));
+        if !is_write(view.parts.kind) {
+            count_read(view, tally);
+        }
         count_effect(view, tally);
+    }
+}
+
+/// Counts a read by its enables, where what was heard tells that it is under none.
+fn count_read(view: &CircleView<'_>, tally: &mut Tally) {
+    let [stored, ..] = view.bytes();
+    let read = Read {
+        trusted: view.is_trusted(),
+        enables: view.parts.enables,
+        due: shown(view),
+        stored_at_a: view.is_at_a().then_some(stored),
+    };
+    if let Some(class) = read.enables_class() {
+        tally.add(Group::CircleReads, class);
     }
 }
 
@@ -74,7 +92,7 @@ fn count_effect(view: &CircleView<'_>, tally: &mut Tally) {
         add_if(shows && at_a, Effect::OrdinaryShownAtA);
         add_if(shows && trusted && !at_b, Effect::TrustedShown);
         add_if(shows && at_b, Effect::TrustedShownAtB);
-        return add_if(parts.enables == 0, Effect::NothingEnabledRead);
+        return add_if(shows && parts.enables == 0, Effect::NothingEnabledRead);
     }
     let enabled = |place: usize| parts.enables >> place & 1 == 1;
     let wanted = (0..4).any(|place| enabled(place) && parts.data[place] != old[place]);

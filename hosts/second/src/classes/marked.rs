@@ -22,11 +22,7 @@ impl Word {
     fn of(view: &ServeView<'_>, parts: &Parts) -> Self {
         let (rules, marks) = view.ruled(parts.trusted);
         let (_, other_marks) = view.ruled(!parts.trusted);
-        let [before, after] = if parts.trusted {
-            [view.trusted_before, view.trusted_after]
-        } else {
-            [view.ordinary_before, view.ordinary_after]
-        };
+        let [before, after] = view.spaces(parts.trusted);
         Self {
             old: word(before, parts.offset),
             new: word(after, parts.offset),
@@ -69,17 +65,16 @@ pub fn count_forms(view: &ServeView<'_>, tally: &mut Tally) {
     }
 }
 
-/// Counts a success. A write at A has no marks of its own.
+/// Counts a success. A write at A has no marks of its own, and a read shows the marked bits of all four bytes.
 pub fn count_marked(view: &ServeView<'_>, parts: &Parts, history: &mut History, tally: &mut Tally) {
-    let at_a = !parts.trusted && parts.offset == view.case.description.a as usize;
-    match (parts.writes, at_a) {
+    match (parts.writes, parts.is_at_a(view)) {
         (true, true) => count_write_at_a(view, parts, tally),
         (true, false) => count_write(view, parts, history, tally),
-        (false, true) => count_read_at_a(view, parts, history, tally),
+        (false, true) => count_read_at_a(view, history, tally),
         (false, false) => {
             let word = Word::of(view, parts);
             let class = Met::COUNT * usize::from(parts.trusted) + Met::Shown as usize;
-            tally.add_if(word.mark & word.mask & word.old != 0, Group::Marked, class);
+            tally.add_if(word.mark & word.old != 0, Group::Marked, class);
         }
     }
 }
@@ -165,24 +160,19 @@ fn count_write_at_a(view: &ServeView<'_>, parts: &Parts, tally: &mut Tally) {
     tally.add_if(those_at_b & ones != 0, Group::Marked, at(MetAt::WriteAtAOverThoseAtB));
 }
 
-fn count_read_at_a(view: &ServeView<'_>, parts: &Parts, history: &mut History, tally: &mut Tally) {
+fn count_read_at_a(view: &ServeView<'_>, history: &mut History, tally: &mut Tally) {
     let b = view.case.description.b as usize;
-    let (mark, shown, mask) = (
-        word(view.trusted_marks, b),
-        word(view.trusted_before, b),
-        enabled(parts.enables),
-    );
-    tally.add_if(mark & shown & mask != 0, Group::Marked, at(MetAt::ShownAtA));
-    let still_cleared = history.b_cleared & !shown & mask;
+    let (mark, shown) = (word(view.trusted_marks, b), word(view.trusted_before, b));
+    tally.add_if(mark & shown != 0, Group::Marked, at(MetAt::ShownAtA));
+    let still_cleared = history.b_cleared & !shown;
     tally.add_if(still_cleared != 0, Group::Marked, at(MetAt::ClearedAtBThenShown));
-    history.b_cleared &= !mask;
+    history.b_cleared = 0;
 }
 
 /// Counts a write that has just one cause of Unsupported Request, at a place among seven, and that would have cleared a
 /// bit. A write at A would not have.
 pub fn count_marked_unsupported(view: &ServeView<'_>, parts: &Parts, cause: usize, tally: &mut Tally) {
-    let at_a = !parts.trusted && parts.offset == view.case.description.a as usize;
-    if !parts.writes || at_a {
+    if !parts.writes || parts.is_at_a(view) {
         return;
     }
     let [cleared, ..] = Word::of(view, parts).sorts();

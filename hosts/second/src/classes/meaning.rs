@@ -82,8 +82,9 @@ pub fn is_answer(view: &CircleView<'_>) -> bool {
 }
 
 /// Whether what was heard is what became of the request. UR: nothing changed. Success with data: nothing changed, and
-/// the data are what the space shows. Success without: the enabled bits that may be written are as the data, the enabled
-/// marked bits are 0 where the data have 1, and nothing else changed; at A nothing did.
+/// the data are all four bytes of what the space shows, whatever was enabled. Success without: the enabled bits that
+/// may be written are as the data, the enabled marked bits are 0 where the data have 1, and nothing else changed; at A
+/// nothing did.
 pub fn is_done(view: &CircleView<'_>, unsupported: bool) -> bool {
     let target = Some((view.parts.bus, view.parts.device));
     let captured = if !unsupported && view.parts.kind == 0x44 {
@@ -100,15 +101,13 @@ pub fn is_done(view: &CircleView<'_>, unsupported: bool) -> bool {
     done && without_data && view.captured_then == captured
 }
 
-/// What the space shows at the place that was asked for: at A the trusted bytes at B, and 00h where not enabled.
-fn shown(view: &CircleView<'_>) -> [u8; 4] {
-    let b = view.description.b as usize;
+/// What the space shows at the place that was asked for: all four bytes, and at A those of the trusted space at B.
+pub fn shown(view: &CircleView<'_>) -> [u8; 4] {
+    if view.is_at_a() {
+        return four_bytes(view.trusted[0], view.description.b);
+    }
     let [bytes, ..] = view.bytes();
-    [0, 1, 2, 3].map(|place| match view.parts.enables >> place & 1 {
-        0 => 0x00,
-        _ if view.is_at_a() => view.trusted[0][b + place],
-        _ => bytes[place],
-    })
+    bytes
 }
 
 /// Whether a write has landed, and nothing else.
@@ -242,16 +241,22 @@ mod tests {
 
     #[test]
     fn a_read_shows_what_is_there_and_changes_nothing() {
-        let read = |offset, ordinary, data| {
-            let mut view = asked(0x04, 1, ordinary, &TRUSTED);
-            (view.parts.offset, view.heard.data) = (offset, data);
-            is_done(&view, false)
-        };
-        assert!(read(0x004, &BEFORE, [0x00, 0x3C, 0x3C, 0x3C]));
-        assert!(read(0x008, &BEFORE, [0x00, 0x99, 0x99, 0x99]));
-        assert!(!read(0x004, &BEFORE, [0x3C; 4]));
-        assert!(!read(0x008, &BEFORE, [0x00, 0x3C, 0x3C, 0x3C]));
-        assert!(!read(0x004, &with(BEFORE, 0x000, [0]), [0x00, 0x3C, 0x3C, 0x3C]));
+        for enables in 0..16 {
+            let read = |offset, ordinary, data| {
+                let mut view = asked(0x04, 1, ordinary, &TRUSTED);
+                (view.parts.enables, view.parts.offset, view.heard.data) = (enables, offset, data);
+                is_done(&view, false)
+            };
+            assert!(read(0x004, &BEFORE, [0x3C; 4]));
+            assert!(read(0x008, &BEFORE, [0x99; 4]));
+            for wrong in [[0x00, 0x3C, 0x3C, 0x3C], [0x3C, 0x3C, 0x3C, 0xFF], [0x99; 4], [0x00; 4]] {
+                assert!(!read(0x004, &BEFORE, wrong));
+            }
+            for wrong in [[0x99, 0x00, 0x99, 0x99], [0x99, 0x99, 0x3C, 0x99], [0x3C; 4], [0x00; 4]] {
+                assert!(!read(0x008, &BEFORE, wrong));
+            }
+            assert!(!read(0x004, &with(BEFORE, 0x000, [0]), [0x3C; 4]));
+        }
     }
 
     #[test]

@@ -25,6 +25,15 @@ pub struct ServeView<'call> {
 }
 
 impl ServeView<'_> {
+    /// The trusted space before and after, or the ordinary one.
+    pub const fn spaces(&self, trusted: bool) -> [&[u8]; 2] {
+        if trusted {
+            [self.trusted_before, self.trusted_after]
+        } else {
+            [self.ordinary_before, self.ordinary_after]
+        }
+    }
+
     /// The rules and the marks of the trusted space, or of the ordinary one.
     pub const fn ruled(&self, trusted: bool) -> (&[u8], &[u8]) {
         if trusted {
@@ -46,6 +55,16 @@ pub struct History {
     pub b_changed: u32,
     /// The marked bits of the trusted word at B that were cleared since they were last shown at A.
     pub b_cleared: u32,
+    /// The word of the ordinary space, and that of the trusted one, that a write last changed, and which of its bits.
+    pub last_changes: [(usize, u32); 2],
+}
+
+impl History {
+    /// The bits of a word that were changed by the last write that changed anything in its space.
+    pub const fn last_changed(&self, trusted: bool, offset: usize) -> u32 {
+        let (at, bits) = self.last_changes[trusted as usize];
+        if at == offset { bits } else { 0 }
+    }
 }
 
 /// Counts a call in all its classes, and takes it into the board's history.

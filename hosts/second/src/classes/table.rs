@@ -12,6 +12,7 @@ use super::names::{
 };
 use super::route_names::{LIST_SHAPES, MEETINGS, MET_BUSES, ROUTE_ANSWERS, ROUTE_CAUSES, ROUTE_ROOMS, ROUTE_TOGETHER};
 use super::turn::TURN_NAMES;
+use super::whole_names::NEIGHBOURS;
 
 const fn numbered(group: Group, title: &'static str, count: usize, per_million: u64) -> Line {
     Line {
@@ -32,7 +33,7 @@ const fn named(group: Group, title: &'static str, names: &'static [&'static str]
 }
 
 /// All groups. "Alone" means that the call has no other cause for a refusal, or for Unsupported Request.
-pub const TABLE: [Line; 134] = [
+pub const TABLE: [Line; 140] = [
     numbered(Group::ServeAnswers, "serve: answers 0 to 6", 7, 1000),
     named(
         Group::ServeCauses,
@@ -159,6 +160,36 @@ pub const TABLE: [Line; 134] = [
         "serve: every word with a bit cleared, both spaces",
         2048,
         2,
+    ),
+    numbered(
+        Group::WholeEnables,
+        "serve: 16 enables of reads, ordinary, at A, trusted",
+        48,
+        200,
+    ),
+    numbered(
+        Group::WholeBytes,
+        "serve: each byte read, not enabled, three places",
+        12,
+        1000,
+    ),
+    numbered(
+        Group::WholeForms,
+        "serve: read, not enabled, bit 7, poison, digest, places",
+        24,
+        50,
+    ),
+    named(
+        Group::Neighbours,
+        "serve: what a read met in bytes not enabled",
+        NEIGHBOURS,
+        50,
+    ),
+    numbered(
+        Group::LeftEnables,
+        "serve: 15 enables of writes, bits left, both spaces",
+        30,
+        500,
     ),
     named(Group::Correlation, "serve: the correlation word", CORRELATION, 100),
     named(Group::Captures, "serve and reset: captures", CAPTURES, 100),
@@ -644,6 +675,12 @@ pub const TABLE: [Line; 134] = [
         "circle: 16 enables, four accesses, success",
         64,
         100,
+    ),
+    numbered(
+        Group::CircleReads,
+        "circle: 16 enables of reads, ordinary, at A, trusted",
+        48,
+        10,
     ),
     named(
         Group::Effects,

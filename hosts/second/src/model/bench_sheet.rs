@@ -337,8 +337,10 @@ fn the_word_at_a_shows_the_trusted_bytes_at_b() {
         let stored = bench.ordinary;
         bench.serve(&[0x44, 0, 0, 1, 1, 0, 7, 0x0F, 5, 0x18, high, low, 9, 9, 9, 9]);
         assert_eq!((bench.ordinary, bench.capture), (stored, Some((5, 3))));
-        let served = bench.serve(&[0x04, 0, 0, 1, 1, 0, 7, 0x0D, 5, 0x18, high, low]);
-        assert_eq!(bench.written(served)[12..], [1, 0, 3, 4]);
+        for enables in 0..16 {
+            let served = bench.serve(&[0x04, 0, 0, 1, 1, 0, 7, enables, 5, 0x18, high, low]);
+            assert_eq!(bench.written(served)[12..], [1, 2, 3, 4]);
+        }
     }
 }
 

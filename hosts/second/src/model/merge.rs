@@ -1,4 +1,4 @@
-//! The merge of a write and the mask of a read, on one little-endian word.
+//! The merge of a write, on one little-endian word, and the enables that it is under.
 
 /// For each of the 16 enable patterns, FFh in every enabled byte: "enable bit 0 is the byte at the lowest address".
 const ENABLED: [u32; 16] = [
@@ -49,21 +49,9 @@ fn merged_bit_by_bit(old: u32, rule: u32, data: u32, enables: u8) -> u32 {
     (0..32).map(|place| chosen(place) << place).sum()
 }
 
-/// "A read returns enabled bytes as they are and others as 00h".
-pub(super) fn shown(word: u32, enables: u8) -> u32 {
-    let shown = word & enabled(enables);
-    debug_assert_eq!(shown.to_le_bytes(), shown_byte_by_byte(word.to_le_bytes(), enables));
-    shown
-}
-
-/// The same sentence once more, on four bytes.
-fn shown_byte_by_byte(bytes: [u8; 4], enables: u8) -> [u8; 4] {
-    [0, 1, 2, 3].map(|place| if enables >> place & 1 == 1 { bytes[place] } else { 0x00 })
-}
-
 #[cfg(test)]
 mod tests {
-    use super::{merged, merged_bit_by_bit, shown, shown_byte_by_byte};
+    use super::{merged, merged_bit_by_bit};
 
     /// A word of ones but for one bit, or of zeros but for one bit.
     fn words(place: u32) -> [u32; 4] {
@@ -74,10 +62,6 @@ mod tests {
     fn each_bit_comes_from_where_document_01_says() {
         for place in 0..32 {
             for (enables, word) in (0..16).flat_map(|enables| words(place).map(|word| (enables, word))) {
-                assert_eq!(
-                    shown(word, enables).to_le_bytes(),
-                    shown_byte_by_byte(word.to_le_bytes(), enables)
-                );
                 for (rule, data) in words(place)
                     .iter()
                     .flat_map(|&rule| words(place).map(|data| (rule, data)))

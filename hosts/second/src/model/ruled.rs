@@ -25,9 +25,16 @@ impl<'lent> RuledSpace<'lent> {
         Ok(ruled)
     }
 
-    /// The word at an offset.
-    pub(super) fn word(&self, offset: usize) -> u32 {
+    /// What a read returns of the word at an offset. Document 01: "A read returns enabled bytes as they are and others
+    /// as 00h". Request 7/13 replaces that rule: "From now on every successful read returns all four bytes whatever the
+    /// enables". So a read is not told of any.
+    pub(super) fn read(&self, offset: usize) -> u32 {
         word(self.bytes, offset)
+    }
+
+    /// The byte at an address. Only what is stated rests on it.
+    pub(super) const fn byte(&self, address: usize) -> u8 {
+        self.bytes[address]
     }
 
     /// Does a write to the word at an offset: the data bits are taken where that may be, and marked bits are cleared. As
@@ -35,7 +42,7 @@ impl<'lent> RuledSpace<'lent> {
     pub(super) fn write(&mut self, offset: usize, data: u32, enables: u8) {
         let (rule, mark) = (word(self.rules, offset), word(self.marks, offset));
         debug_assert_eq!(rule & mark, 0, "a bit is marked doubly");
-        let old = self.word(offset);
+        let old = word(self.bytes, offset);
         let new = cleared(merged(old, rule, data, enables), mark, data, enables);
         debug_assert_eq!(new, merged(cleared(old, mark, data, enables), rule, data, enables));
         store_word(self.bytes, offset, new);

@@ -1,8 +1,7 @@
 //! One packet served: tested, done to the spaces, and answered by a completion.
 
-use super::completion::{self, LONGEST_COMPLETION, Outcome};
+use super::completion::{self, LONGEST_COMPLETION, Outcome, SHORT_COMPLETION};
 use super::description::Description;
-use super::merge::shown;
 use super::refusal::Refusal;
 use super::request::{Access, Request, Route};
 use super::ruled::RuledSpace;
@@ -79,6 +78,7 @@ impl<'lent> Board<'lent> {
         let outcome = self.access(&request);
         debug_assert_eq!(self.capture, captured(&request, outcome).or(kept));
         let length = completion::write(reply, &request, self.capture, self.function, outcome);
+        debug_assert!(length == SHORT_COMPLETION || self.has_each_byte(&request, &reply[SHORT_COMPLETION..]));
         Ok(Served {
             number: 0,
             length,
@@ -110,19 +110,18 @@ impl<'lent> Board<'lent> {
         }
     }
 
-    /// "The ordinary word at A reads as the four trusted bytes at B, under the same enables. An ordinary write there
-    /// succeeds, captures, and changes no byte." "A successful Type 0 write captures its bus and device number before
-    /// the reply is written, also with no byte enabled." And request 6/13: "An ordinary write at A still changes
-    /// nothing."
+    /// "An ordinary write there", at A, "succeeds, captures, and changes no byte." "A successful Type 0 write captures
+    /// its bus and device number before the reply is written, also with no byte enabled." And request 6/13: "An ordinary
+    /// write at A still changes nothing."
     fn ordinary_access(&mut self, request: &Request) -> Outcome {
-        let (at_correlation, enables) = (request.offset == self.a, request.first_enables);
+        let at_correlation = request.offset == self.a;
         match request.access {
-            Access::Read if at_correlation => Outcome::Read(shown(self.trusted.word(self.b), enables)),
-            Access::Read => Outcome::Read(shown(self.ordinary.word(request.offset), enables)),
+            Access::Read if at_correlation => Outcome::Read(self.correlation()),
+            Access::Read => Outcome::Read(self.ordinary.read(request.offset)),
             Access::Write(data) => {
                 self.capture = Some((request.bus, request.device));
                 if !at_correlation {
-                    self.ordinary.write(request.offset, data, enables);
+                    self.ordinary.write(request.offset, data, request.first_enables);
                 }
                 Outcome::Written
             }
@@ -131,14 +130,32 @@ impl<'lent> Board<'lent> {
 
     /// "No trusted request captures."
     fn trusted_access(&mut self, request: &Request) -> Outcome {
-        let enables = request.first_enables;
         match request.access {
-            Access::Read => Outcome::Read(shown(self.trusted.word(request.offset), enables)),
+            Access::Read => Outcome::Read(self.trusted.read(request.offset)),
             Access::Write(data) => {
-                self.trusted.write(request.offset, data, enables);
+                self.trusted.write(request.offset, data, request.first_enables);
                 Outcome::Written
             }
         }
+    }
+
+    /// Document 01: "The ordinary word at A reads as the four trusted bytes at B, under the same enables." Request 7/13
+    /// takes the enables away: "every successful read returns all four bytes whatever the enables, also at A."
+    fn correlation(&self) -> u32 {
+        self.trusted.read(self.b)
+    }
+
+    /// Whether the data of a reply are the bytes at the word's four addresses, each as it is and at its own place: at A
+    /// those of B, of a trusted request those of the trusted space, else those of the ordinary one. Only stated: no
+    /// answer rests on it.
+    fn has_each_byte(&self, request: &Request, data: &[u8]) -> bool {
+        let (space, first) = match request.route {
+            Route::Type0 if request.offset == self.a => (&self.trusted, self.b),
+            Route::Trusted => (&self.trusted, request.offset),
+            _ => (&self.ordinary, request.offset),
+        };
+        let due = [0, 1, 2, 3].map(|place| space.byte(first + place));
+        data == due
     }
 }
 

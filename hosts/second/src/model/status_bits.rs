@@ -6,9 +6,9 @@ use super::{Description, Served, serve};
 const WRITE: [u8; 16] = packet(0x44, 0x010, 0x0F, [0xFF; 4]);
 const TRUSTED_WRITE: [u8; 16] = packet(0x5B, 0x010, 0x0F, [0xFF; 4]);
 /// What a reply is filled with before it is lent.
-const LENT: u8 = 0xEE;
+pub(super) const LENT: u8 = 0xEE;
 
-const fn packet(code: u8, offset: usize, enables: u8, data: [u8; 4]) -> [u8; 16] {
+pub(super) const fn packet(code: u8, offset: usize, enables: u8, data: [u8; 4]) -> [u8; 16] {
     let [d0, d1, d2, d3] = data;
     let (high, low) = ((offset >> 8) as u8, offset as u8);
     [code, 0, 0, 1, 1, 0, 7, enables, 5, 0x18, high, low, d0, d1, d2, d3]
@@ -16,14 +16,14 @@ const fn packet(code: u8, offset: usize, enables: u8, data: [u8; 4]) -> [u8; 16]
 
 /// A board that has captured bus 5 and device 3. In both spaces bits 3:0 of each byte may be written and bits 5:4 are
 /// cleared by writing 1; A is 104h and B is 00Ch.
-struct Board {
-    ordinary: [Vec<u8>; 3],
-    trusted: [Vec<u8>; 3],
-    reply: [u8; 16],
+pub(super) struct Board {
+    pub(super) ordinary: [Vec<u8>; 3],
+    pub(super) trusted: [Vec<u8>; 3],
+    pub(super) reply: [u8; 16],
 }
 
 impl Board {
-    fn new() -> Self {
+    pub(super) fn new() -> Self {
         let space = |byte| [vec![byte; 4096], vec![0x0F; 4096], vec![0x30; 4096]];
         Self {
             ordinary: space(0xFA),
@@ -32,7 +32,7 @@ impl Board {
         }
     }
 
-    fn serve(&mut self, packet: &[u8]) -> Served {
+    pub(super) fn serve(&mut self, packet: &[u8]) -> Served {
         let description = Description {
             function: 0,
             a: 0x104,
@@ -109,9 +109,12 @@ fn an_ordinary_write_at_a_still_changes_nothing() {
 fn a_bit_cleared_at_b_is_shown_at_a() {
     let mut board = Board::new();
     assert_eq!(board.serve(&packet(0x5B, 0x00C, 0x0F, [0x10; 4])).number, 0);
-    let read = packet(0x04, 0x104, 0x0F, [0; 4]);
-    assert_eq!(board.serve(&read[..12]).length, 16);
-    assert_eq!(board.reply[12..], [0xE0; 4]);
+    for enables in 0..16 {
+        let read = packet(0x04, 0x104, enables, [0; 4]);
+        assert_eq!(board.serve(&read[..12]).length, 16);
+        assert_eq!(board.reply[12..], [0xE0; 4]);
+        board.reply.fill(LENT);
+    }
     assert_eq!(board.trusted[0][0x00C..0x010], [0xE0; 4]);
 }
 

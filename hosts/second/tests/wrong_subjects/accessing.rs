@@ -4,7 +4,7 @@ use second::compare::{Reference, ServeCall, Subject};
 
 use crate::clearer::expect_caught_leaving;
 use crate::harness::{Wrong, expect_caught, word};
-use crate::serving::{again, code, offset, rehearsed, succeeds, with_accepted_packet, with_packet};
+use crate::serving::{again, code, offset, succeeds, with_accepted_packet};
 
 #[test]
 fn extended_register_bits_dropped() {
@@ -26,9 +26,7 @@ fn stale_bytes_at_a() {
         let served = Reference.serve(again(&mut call));
         let a = call.description.a as usize;
         if served.length == 16 && code(&call) == 0x04 && offset(call.packet) == a {
-            for byte in (0..4).filter(|byte| call.packet[7] >> byte & 1 == 1) {
-                call.reply[12 + byte] = call.ordinary[a + byte];
-            }
+            call.reply[12..16].copy_from_slice(&call.ordinary[a..a + 4]);
         }
         served
     };
@@ -74,19 +72,6 @@ fn a_trusted_write_at_b_also_stores_at_a() {
 }
 
 #[test]
-fn disabled_bytes_of_a_read_shown() {
-    let shown = |mut call: ServeCall<'_>| {
-        let (served, _) = rehearsed(&mut call);
-        if served.length == 16 {
-            with_packet(&mut call, |packet| packet[7] |= 0x0F)
-        } else {
-            Reference.serve(call)
-        }
-    };
-    expect_caught(Wrong::serve(shown), "serve");
-}
-
-#[test]
 fn rule_ignored_in_a_write() {
     expect_caught_leaving(|word| {
         let open = word.enabled & !word.mark;
@@ -103,6 +88,7 @@ fn a_write_takes_whole_bytes_where_the_rule_has_any_bit() {
     });
 }
 
+/// Those of a read do not matter, but those of a write do.
 #[test]
 fn enables_taken_from_the_other_end() {
     let turned =

@@ -73,10 +73,15 @@ impl Word {
     }
 }
 
+/// The bits of the bytes that four enables name.
+pub fn bits_of(enables: u8) -> u32 {
+    let byte = |place: u8| if enables >> place & 1 == 1 { 0xFF } else { 0x00 };
+    u32::from_le_bytes([0, 1, 2, 3].map(byte))
+}
+
 /// The bits of a packet's enabled bytes.
 pub fn enabled(packet: &[u8]) -> u32 {
-    let byte = |place: u8| if packet[7] >> place & 1 == 1 { 0xFF } else { 0x00 };
-    u32::from_le_bytes([0, 1, 2, 3].map(byte))
+    bits_of(packet[7])
 }
 
 /// Whether an ordinary packet asks for the word at A.

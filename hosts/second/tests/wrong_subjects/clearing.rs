@@ -184,7 +184,7 @@ fn the_data_taken_the_other_way_round() {
     expect_caught_leaving(|word| word.without(word.mark & word.data.swap_bytes() & word.enabled));
 }
 
-/// The marked bits that a read shows.
+/// The marked bits that a read shows, in all four bytes.
 fn shown(call: &ServeCall<'_>, trusted: bool, at: usize) -> Bits {
     let marks = if trusted {
         call.trusted_marks
@@ -194,7 +194,7 @@ fn shown(call: &ServeCall<'_>, trusted: bool, at: usize) -> Bits {
     Bits {
         trusted,
         at,
-        bits: word(marks, at) & enabled(call.packet),
+        bits: word(marks, at),
     }
 }
 
@@ -205,6 +205,21 @@ fn cleared_by_a_read() {
             let reads = done && code(call) == read && !is_at_a(call);
             reads.then(|| shown(call, trusted, offset(call.packet)))
         });
+    }
+}
+
+/// Of the bytes that it enables, or of the others.
+#[test]
+fn cleared_by_a_read_in_some_of_the_bytes_that_it_shows() {
+    for (read, trusted) in [(0x04, false), (0x1B, true)] {
+        for others in [0, u32::MAX] {
+            expect_caught_clearing(move |call, _, done| {
+                let reads = done && code(call) == read && !is_at_a(call);
+                let shown = reads.then(|| shown(call, trusted, offset(call.packet)))?;
+                let bits = shown.bits & (enabled(call.packet) ^ others);
+                Some(Bits { bits, ..shown })
+            });
+        }
     }
 }
 

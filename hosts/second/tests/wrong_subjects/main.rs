@@ -27,12 +27,15 @@ mod placing;
 mod reading;
 mod refusing;
 mod repeating;
+mod returner;
+mod returning;
 mod router;
 mod routing;
 mod serving;
 mod telling;
 mod walker;
 mod walking;
+mod widening;
 mod writing;
 
 use harness::{Wrong, expect_caught, expect_not_caught, run_fixed};
