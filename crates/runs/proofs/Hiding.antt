@@ -1,7 +1,7 @@
 -- THEOREM. No server that hides a byte which a read does not enable, or returns no data where none is enabled, meets the promise of `board::serve`, whatever
 -- else it does: in the trusted space, at A and elsewhere, for any board, any read that leaves a byte out, and any other value of that byte. Assumes nothing.
 use Prim.Native.Nat.{ℕ, zero, suc, _+_, _≤_, _<_}
-use mathlib.Core.Bool.{false, cond}
+use mathlib.Core.Bool.{Bool, true, false, cond}
 use mathlib.Core.List.{List, [], _∷_, _++_}
 use mathlib.Core.Path.{_≡_, refl, sym, ap, _∙_}
 use native.Mathlib.Nat.{add-zero}
@@ -29,14 +29,15 @@ use Rattle.board.proofs.Outcomes.{respond-read, served-is}
 use Rattle.board.proofs.Whole.{read-four}
 use Rattle.runs.specs.Bench.{benchAfter, zeros, readAt, changed}
 use Rattle.runs.specs.Servers.{Server, promised, untouched}
-use Rattle.runs.specs.Hiding.{Place, inTrusted, atA, elsewhere, IsAt, Reads, bytesFor, offsetFor, altered, returned, Hides, ReturnsNothing}
+use Rattle.runs.specs.Clearing.{spaceFor}
+use Rattle.runs.specs.Hiding.{Place, inTrusted, atA, elsewhere, IsAt, Reads, readsTrusted, bytesFor, offsetFor, rewritten, altered, returned, Hides, ReturnsNothing}
 
 -- the statement, of any server
 pub record HidingServersCaught : Type 0 where
   -- it is not right both about a board and about the same board with another value in a byte that the read leaves out
   pub hidden : (place : Place) (server : Server) → Hides place server → (d : Board) (p reply : List ℕ) → Reads place d p reply
       → (k x : ℕ) → k < 4 → enabled k (requestOf p .enables) ≡ false
-      → (byte (bytesFor place d) (offsetFor place d (requestOf p) + k) ≡ x → ⊥)
+      → (byte (bytesFor place d) (offsetFor place (d .description) (requestOf p) + k) ≡ x → ⊥)
       → server d p reply ≡ promised d p reply
       → server (altered place d (requestOf p) k x) p reply ≡ promised (altered place d (requestOf p) k x) p reply → ⊥
   pub nothing : (place : Place) (server : Server) → ReturnsNothing place server → (d : Board) (p reply : List ℕ) → Reads place d p reply
@@ -47,8 +48,8 @@ pub record HidingServersCaught : Type 0 where
 
 -- ---- what is promised of such a read
 
-word-there : (place : Place) (d : Board) (q : Request) → IsAt place d q
-    → pickedWord (d .description) (d .ordinary .bytes) (d .trusted .bytes) q ≡ four (bytesFor place d) (offsetFor place d q)
+word-there : (place : Place) (d : Board) (q : Request) → IsAt place (d .description) q
+    → pickedWord (d .description) (d .ordinary .bytes) (d .trusted .bytes) q ≡ four (bytesFor place d) (offsetFor place (d .description) q)
 word-there inTrusted d q t = rw t
 word-there atA d q t = rw (t .0, eq-eqb (q .offset) (d .description .a) (t .1))
 word-there elsewhere d q t = rw (t .0, ne-eqb (q .offset) (d .description .a) (t .1))
@@ -69,88 +70,59 @@ module _ {place : Place} {d : Board} {p reply : List ℕ} (r : Reads place d p r
   shown-four = read-four d (requestOf p)
 
   -- each of the four bytes, enabled or not
-  byte-is : (k : ℕ) → k < 4 → byte (returned (promised d p reply)) k ≡ byte (bytesFor place d) (offsetFor place d (requestOf p) + k)
+  byte-is : (k : ℕ) → k < 4 → byte (returned (promised d p reply)) k ≡ byte (bytesFor place d) (offsetFor place (d .description) (requestOf p) + k)
   byte-is k h =
       ap (λ (x : Seen). byte (returned x) k) as-served
       ∙ ap (λ (l : List ℕ). byte l k) (shown-four ∙ word-there place d (requestOf p) (r .there))
-      ∙ four-at (bytesFor place d) (offsetFor place d (requestOf p)) k h
+      ∙ four-at (bytesFor place d) (offsetFor place (d .description) (requestOf p)) k h
 
 -- ---- the same board with another value in one byte of the word
 
 fits : (place : Place) (d : Board) (p : List ℕ) (k : ℕ) → WellDescribed d → k < 4
-    → (offsetFor place d (requestOf p) + k) + 1 ≤ length (bytesFor place d)
+    → (offsetFor place (d .description) (requestOf p) + k) + 1 ≤ length (bytesFor place d)
 fits inTrusted d p k w h = omega (arith, well-described d w .trusted .bytes, offset-inside p)
 fits atA d p k w h = omega (arith, well-described d w .trusted .bytes, well-described d w .register)
 fits elsewhere d p k w h = omega (arith, well-described d w .ordinary .bytes, offset-inside p)
 
-module _ (place : Place) (d : Board) (p : List ℕ) (k x : ℕ) (w : WellDescribed d) (h : k < 4) where
-  changed-bytes : List ℕ
-  changed-bytes = put (bytesFor place d) (offsetFor place d (requestOf p) + k) (x ∷ [])
+-- as many other bytes in a space leave the board well described, and are the bytes there
+rewritten-well : (trusted : Bool) (d : Board) (bytes : List ℕ) → WellDescribed d → length bytes ≡ length (spaceFor trusted d .bytes)
+    → WellDescribed (rewritten trusted d bytes)
+rewritten-well true d bytes well size =
+    let w = well-described d well in
+    described-well (d .description) (d .capture) (d .ordinary) _ (w .ordinary) (with-bytes (d .trusted) bytes (w .trusted) (size ∙ w .trusted .bytes)) (w .inRange)
+rewritten-well false d bytes well size =
+    let w = well-described d well in
+    described-well (d .description) (d .capture) _ (d .trusted) (with-bytes (d .ordinary) bytes (w .ordinary) (size ∙ w .ordinary .bytes)) (w .trusted) (w .inRange)
 
-  changed-length : length changed-bytes ≡ length (bytesFor place d)
-  unfolding changed-bytes
-  changed-length = put-length (bytesFor place d) (offsetFor place d (requestOf p) + k) (x ∷ []) (fits place d p k w h)
+rewritten-bytes : (trusted : Bool) (d : Board) (bytes : List ℕ) → spaceFor trusted (rewritten trusted d bytes) .bytes ≡ bytes
+rewritten-bytes true d bytes = refl
+rewritten-bytes false d bytes = refl
 
-  changed-byte : byte changed-bytes (offsetFor place d (requestOf p) + k) ≡ x
-  unfolding changed-bytes
-  changed-byte =
-      let at = offsetFor place d (requestOf p) + k in
-      ap (byte (put (bytesFor place d) at (x ∷ []))) (sym (add-zero at))
-      ∙ put-there (bytesFor place d) at (x ∷ []) (fits place d p k w h) 0 (omega arith)
+module _ (place : Place) (d : Board) (p reply : List ℕ) (k x : ℕ) (r : Reads place d p reply) (h : k < 4) where
+  -- such a read of it succeeds too
+  altered-reads : Reads place (altered place d (requestOf p) k x) p reply
+  altered-reads =
+      record {
+        well = rewritten-well (readsTrusted place) d _ (r .well) (put-length (bytesFor place d) _ (x ∷ []) (fits place d p k (r .well) h));
+        room = r .room;
+        sound = r .sound;
+        reads = r .reads;
+        there = r .there;
+        supported = r .supported;
+      }
 
--- such a read of it succeeds too
-altered-reads : (place : Place) (d : Board) (p reply : List ℕ) (k x : ℕ) → Reads place d p reply → k < 4
-    → Reads place (altered place d (requestOf p) k x) p reply
-unfolding changed-bytes
-altered-reads inTrusted d p reply k x r h =
-    let w = well-described d (r .well) in
-    let t = changed-bytes inTrusted d p k x (r .well) h in
-    let size : length t ≡ 4096 = changed-length inTrusted d p k x (r .well) h ∙ w .trusted .bytes in
-    record {
-      well = described-well (d .description) (d .capture) (d .ordinary) _ (w .ordinary) (with-bytes (d .trusted) t (w .trusted) size) (w .inRange);
-      room = r .room;
-      sound = r .sound;
-      reads = r .reads;
-      there = r .there;
-      supported = r .supported;
-    }
-altered-reads atA d p reply k x r h =
-    let w = well-described d (r .well) in
-    let t = changed-bytes atA d p k x (r .well) h in
-    let size : length t ≡ 4096 = changed-length atA d p k x (r .well) h ∙ w .trusted .bytes in
-    record {
-      well = described-well (d .description) (d .capture) (d .ordinary) _ (w .ordinary) (with-bytes (d .trusted) t (w .trusted) size) (w .inRange);
-      room = r .room;
-      sound = r .sound;
-      reads = r .reads;
-      there = r .there;
-      supported = r .supported;
-    }
-altered-reads elsewhere d p reply k x r h =
-    let w = well-described d (r .well) in
-    let o = changed-bytes elsewhere d p k x (r .well) h in
-    let size : length o ≡ 4096 = changed-length elsewhere d p k x (r .well) h ∙ w .ordinary .bytes in
-    record {
-      well = described-well (d .description) (d .capture) _ (d .trusted) (with-bytes (d .ordinary) o (w .ordinary) size) (w .trusted) (w .inRange);
-      room = r .room;
-      sound = r .sound;
-      reads = r .reads;
-      there = r .there;
-      supported = r .supported;
-    }
-
-altered-byte : (place : Place) (d : Board) (p : List ℕ) (k x : ℕ) → WellDescribed d → k < 4
-    → let e = altered place d (requestOf p) k x in byte (bytesFor place e) (offsetFor place e (requestOf p) + k) ≡ x
-unfolding changed-bytes
-altered-byte inTrusted d p k x w h = changed-byte inTrusted d p k x w h
-altered-byte atA d p k x w h = changed-byte atA d p k x w h
-altered-byte elsewhere d p k x w h = changed-byte elsewhere d p k x w h
+  altered-byte : byte (bytesFor place (altered place d (requestOf p) k x)) (offsetFor place (d .description) (requestOf p) + k) ≡ x
+  altered-byte =
+      let at = offsetFor place (d .description) (requestOf p) + k in
+      ap (λ (l : List ℕ). byte l at) (rewritten-bytes (readsTrusted place) d _)
+      ∙ ap (byte (put (bytesFor place d) at (x ∷ []))) (sym (add-zero at))
+      ∙ put-there (bytesFor place d) at (x ∷ []) (fits place d p k (r .well) h) 0 (omega arith)
 
 -- ---- caught
 
 hidden-caught : (place : Place) (server : Server) → Hides place server → (d : Board) (p reply : List ℕ) → Reads place d p reply
     → (k x : ℕ) → k < 4 → enabled k (requestOf p .enables) ≡ false
-    → (byte (bytesFor place d) (offsetFor place d (requestOf p) + k) ≡ x → ⊥)
+    → (byte (bytesFor place d) (offsetFor place (d .description) (requestOf p) + k) ≡ x → ⊥)
     → server d p reply ≡ promised d p reply
     → server (altered place d (requestOf p) k x) p reply ≡ promised (altered place d (requestOf p) k x) p reply → ⊥
 hidden-caught place server hides d p reply r k x h left other one two =
@@ -160,7 +132,7 @@ hidden-caught place server hides d p reply r k x h left other one two =
     ∙ hides d p reply r k x h left
     ∙ ap (λ (s : Seen). byte (returned s) k) two
     ∙ byte-is (altered-reads place d p reply k x r h) k h
-    ∙ altered-byte place d p k x (r .well) h)
+    ∙ altered-byte place d p reply k x r h)
 
 nothing-caught : (place : Place) (server : Server) → ReturnsNothing place server → (d : Board) (p reply : List ℕ) → Reads place d p reply
     → requestOf p .enables ≡ 0 → server d p reply ≡ promised d p reply → ⊥

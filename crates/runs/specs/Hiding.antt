@@ -1,7 +1,7 @@
 -- Document 02, 7/13, "Whole words on reads": faults of a server that looks at the enables of a read, for any server at all, and in each of the three
 -- places that a read can be for. Assumes nothing.
 use Prim.Native.Nat.{ℕ, _+_, _≤_, _<_}
-use mathlib.Core.Bool.{true, false}
+use mathlib.Core.Bool.{Bool, true, false, cond}
 use mathlib.Core.List.{List, [], _∷_}
 use mathlib.Core.Path.{_≡_}
 use lib.ListN.{length, drop}
@@ -9,10 +9,12 @@ use Rattle.words.specs.Bytes.{byte, put}
 use Rattle.registers.specs.Merge.{enabled}
 use Rattle.packet.specs.declared.Request.{Request}
 use Rattle.packet.specs.Request.{isTrusted, packetNumber, requestOf}
+use Rattle.board.specs.declared.Description.{Description}
 use Rattle.board.specs.Description.{Board, WellDescribed}
 use Rattle.board.specs.Access.{unsupported}
 use Rattle.board.specs.Promise.{Seen, afterCall}
 use Rattle.runs.specs.Servers.{Server, completion}
+use Rattle.runs.specs.Clearing.{spaceFor}
 
 -- the trusted space, the word at A, the rest of the ordinary space
 pub data Place : Type 0 where
@@ -21,10 +23,10 @@ pub data Place : Type 0 where
   elsewhere : Place
 
 -- a request is for that place
-abbrev pub IsAt : Place → Board → Request → Type 0
-IsAt inTrusted d q = isTrusted (q .target) ≡ true
-IsAt atA d q = (isTrusted (q .target) ≡ false) × (q .offset ≡ d .description .a)
-IsAt elsewhere d q = (isTrusted (q .target) ≡ false) × (q .offset ≡ d .description .a → ⊥)
+abbrev pub IsAt : Place → Description → Request → Type 0
+IsAt inTrusted description q = isTrusted (q .target) ≡ true
+IsAt atA description q = (isTrusted (q .target) ≡ false) × (q .offset ≡ description .a)
+IsAt elsewhere description q = (isTrusted (q .target) ≡ false) × (q .offset ≡ description .a → ⊥)
 
 -- a read there that succeeds
 pub record Reads (place : Place) (d : Board) (p reply : List ℕ) : Type 0 where
@@ -32,29 +34,31 @@ pub record Reads (place : Place) (d : Board) (p reply : List ℕ) : Type 0 where
   pub room : 16 ≤ length reply
   pub sound : packetNumber p ≡ 0
   pub reads : requestOf p .writes ≡ false
-  pub there : IsAt place d (requestOf p)
+  pub there : IsAt place (d .description) (requestOf p)
   pub supported : unsupported (d .description) (d .capture) (requestOf p) ≡ false
 
--- the bytes in which the word lies that it reads, and where; at A that is the trusted word at B
+-- where the word lies that it reads: in the trusted space or in the ordinary one, and at which offset; at A that is the trusted word at B
+abbrev pub readsTrusted : Place → Bool
+readsTrusted inTrusted = true
+readsTrusted atA = true
+readsTrusted elsewhere = false
+
+abbrev pub offsetFor : Place → Description → Request → ℕ
+offsetFor inTrusted description q = q .offset
+offsetFor atA description q = description .b
+offsetFor elsewhere description q = q .offset
+
 abbrev pub bytesFor : Place → Board → List ℕ
-bytesFor inTrusted d = d .trusted .bytes
-bytesFor atA d = d .trusted .bytes
-bytesFor elsewhere d = d .ordinary .bytes
+bytesFor place d = spaceFor (readsTrusted place) d .bytes
 
-abbrev pub offsetFor : Place → Board → Request → ℕ
-offsetFor inTrusted d q = q .offset
-offsetFor atA d q = d .description .b
-offsetFor elsewhere d q = q .offset
-
--- the board with other bytes there
-abbrev pub withBytesFor : Place → Board → List ℕ → Board
-withBytesFor inTrusted d bytes = afterCall d (d .capture) (d .ordinary .bytes) bytes
-withBytesFor atA d bytes = afterCall d (d .capture) (d .ordinary .bytes) bytes
-withBytesFor elsewhere d bytes = afterCall d (d .capture) bytes (d .trusted .bytes)
+-- the board with other bytes in the trusted space, or in the ordinary one
+abbrev pub rewritten : Bool → Board → List ℕ → Board
+rewritten trusted d bytes =
+    afterCall d (d .capture) (cond trusted (d .ordinary .bytes) bytes) (cond trusted bytes (d .trusted .bytes))
 
 -- the board with another value in byte k of that word
 abbrev pub altered : Place → Board → Request → ℕ → ℕ → Board
-altered place d q k x = withBytesFor place d (put (bytesFor place d) (offsetFor place d q + k) (x ∷ []))
+altered place d q k x = rewritten (readsTrusted place) d (put (bytesFor place d) (offsetFor place (d .description) q + k) (x ∷ []))
 
 -- the data that a server returns
 abbrev pub returned : Seen → List ℕ
