@@ -9,7 +9,8 @@ use lib.Dec.{eqb, ltb}
 use lib.ListN.{drop}
 use borrow.Author.Tests.{eq-eqb, ne-eqb}
 use Rattle.words.specs.Bytes.{byte, four}
-use Rattle.registers.proofs.Laws.{shown-whole}
+use Rattle.registers.specs.Shown.{shown}
+use Rattle.registers.proofs.Laws.{shown-four, shown-whole}
 use Rattle.packet.specs.declared.Request.{Request}
 use Rattle.packet.specs.Fields.{dataOf}
 use Rattle.packet.specs.Request.{isTrusted, requestOf}
@@ -40,42 +41,6 @@ ReadsWhole =
 -- and any packet that does not write, whatever becomes of it
 abbrev pub EnablesNotRead : Type 0
 EnablesNotRead = (d : Board) (p q : List ℕ) (size : ℕ) → EnablesAside p q → requestOf p .writes ≡ false → serve d p size ≡ serve d q size
-
--- ---- all four
-
--- what is read is what is picked, in four bytes
-module _ (d : Board) (q : Request) where
-  pub read-whole : readWord d q ≡ pickedWord (d .description) (d .ordinary .bytes) (d .trusted .bytes) q
-  unfolding shownWord
-  read-whole = shown-whole (pickedWord (d .description) (d .ordinary .bytes) (d .trusted .bytes) q)
-
-  four-of : (t at : Bool)
-      → let w = cond t (four (d .trusted .bytes) (q .offset)) (cond at (correlation d) (four (d .ordinary .bytes) (q .offset))) in
-      (byte w 0 ∷ byte w 1 ∷ byte w 2 ∷ byte w 3 ∷ []) ≡ w
-  four-of true at = refl
-  four-of false true = refl
-  four-of false false = refl
-
-  pub read-four : let w = readWord d q in
-      (byte w 0 ∷ byte w 1 ∷ byte w 2 ∷ byte w 3 ∷ []) ≡ pickedWord (d .description) (d .ordinary .bytes) (d .trusted .bytes) q
-  read-four = ap (λ (w : List ℕ). byte w 0 ∷ byte w 1 ∷ byte w 2 ∷ byte w 3 ∷ []) read-whole ∙ four-of (isTrusted (q .target)) (eqb (q .offset) (d .description .a))
-
-  picked-whole : WholeWord d q (pickedWord (d .description) (d .ordinary .bytes) (d .trusted .bytes) q)
-  picked-whole =
-      record {
-        trusted = λ t. rw t;
-        atA = λ t e. rw (t, eq-eqb (q .offset) (d .description .a) e);
-        ordinary = λ t h. rw (t, ne-eqb (q .offset) (d .description .a) h);
-      }
-
-  returned : (new : List ℕ) → unsupported (d .description) (d .capture) q ≡ false → q .writes ≡ false
-      → drop 12 (respond d q new .written) ≡ pickedWord (d .description) (d .ordinary .bytes) (d .trusted .bytes) q
-  unfolding withData
-  returned new u w = ap (λ (o : Outcome). drop 12 (o .written)) (respond-read d q new u w) ∙ read-four
-
-pub reads-whole : ReadsWhole
-reads-whole d p size n s w =
-    rw (served d p size n, returned d (requestOf p) (dataOf p) (supported d p size _ refl n s) w) (picked-whole d (requestOf p))
 
 -- ---- whatever the enables
 
@@ -109,3 +74,43 @@ unfolding serve
 enables-not-read d p q size aside w =
     let same = enables-aside p q aside in
     by-same d p q same w (serveNumber d p size) ∙ ap (λ (n : ℕ). byNumber n d q) (number-same d p q same w size)
+
+-- ---- all four
+
+-- what is read is four bytes, and is what is picked
+module _ (d : Board) (q : Request) where
+  four-of : (t at : Bool)
+      → let w = shown (cond t (four (d .trusted .bytes) (q .offset)) (cond at (correlation d) (four (d .ordinary .bytes) (q .offset)))) in
+      (byte w 0 ∷ byte w 1 ∷ byte w 2 ∷ byte w 3 ∷ []) ≡ w
+  four-of true at = shown-four _ _ _ _
+  four-of false true = shown-four _ _ _ _
+  four-of false false = shown-four _ _ _ _
+
+  pub read-is-four : let w = readWord d q in (byte w 0 ∷ byte w 1 ∷ byte w 2 ∷ byte w 3 ∷ []) ≡ w
+  unfolding shownWord
+  read-is-four = four-of (isTrusted (q .target)) (eqb (q .offset) (d .description .a))
+
+  pub read-whole : readWord d q ≡ pickedWord (d .description) (d .ordinary .bytes) (d .trusted .bytes) q
+  unfolding shownWord
+  read-whole = shown-whole (pickedWord (d .description) (d .ordinary .bytes) (d .trusted .bytes) q)
+
+  pub read-four : let w = readWord d q in
+      (byte w 0 ∷ byte w 1 ∷ byte w 2 ∷ byte w 3 ∷ []) ≡ pickedWord (d .description) (d .ordinary .bytes) (d .trusted .bytes) q
+  read-four = read-is-four ∙ read-whole
+
+  picked-whole : WholeWord d q (pickedWord (d .description) (d .ordinary .bytes) (d .trusted .bytes) q)
+  picked-whole =
+      record {
+        trusted = λ t. rw t;
+        atA = λ t e. rw (t, eq-eqb (q .offset) (d .description .a) e);
+        ordinary = λ t h. rw (t, ne-eqb (q .offset) (d .description .a) h);
+      }
+
+  returned : (new : List ℕ) → unsupported (d .description) (d .capture) q ≡ false → q .writes ≡ false
+      → drop 12 (respond d q new .written) ≡ pickedWord (d .description) (d .ordinary .bytes) (d .trusted .bytes) q
+  unfolding withData
+  returned new u w = ap (λ (o : Outcome). drop 12 (o .written)) (respond-read d q new u w) ∙ read-four
+
+pub reads-whole : ReadsWhole
+reads-whole d p size n s w =
+    rw (served d p size n, returned d (requestOf p) (dataOf p) (supported d p size _ refl n s) w) (picked-whole d (requestOf p))

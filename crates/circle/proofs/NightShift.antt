@@ -40,7 +40,7 @@ use Rattle.asking.proofs.Numbers.{served-packet}
 use Rattle.circle.proofs.Asked.{asked, packet-number, request-is, data-is}
 use Rattle.board.specs.declared.Served.{Served}
 use Rattle.board.specs.Description.{Space, doublyMarked, Board, WellDescribed}
-use Rattle.board.specs.Access.{unsupported, readWord}
+use Rattle.board.specs.Access.{unsupported, readWord, shownWord}
 use Rattle.board.specs.Serving.{Outcome, completerOf, respond, serveNumber, refused, serve}
 use Rattle.board.specs.Promise.{Seen, afterCall, shows, Serves}
 use Rattle.board.proofs.Outcomes.{respond-unsupported, respond-write}
@@ -50,7 +50,7 @@ use Rattle.board.proofs.MarkedTwice.{unmarked, unwritable}
 use Rattle.board.proofs.Keeps.{serve-keeps, call-holds}
 use Rattle.board.proofs.Lands as lands
 use Rattle.board.proofs.Lands.{served, write-lands, others-keep}
-use Rattle.board.proofs.Whole.{read-four}
+use Rattle.board.proofs.Whole.{read-is-four}
 use Rattle.circle.specs.Replies.{shownFour, meant}
 use Rattle.circle.specs.Sentence.{BitsLanded, Landed, shownThere, Means}
 use Rattle.circle.proofs.Heard.{replies-read-back}
@@ -162,8 +162,8 @@ landed d e a new well w description =
 
 -- what a read shows, in four bytes
 shown-is : (d : Board) (a : Parts) → let w = readWord d (asked a) in (byte w 0 ∷ byte w 1 ∷ byte w 2 ∷ byte w 3 ∷ []) ≡ shownThere d a
-unfolding asked
-shown-is d a = read-four d (asked a)
+unfolding asked shownWord
+shown-is d a = read-is-four d (asked a)
 
 -- ---- the three ways
 

@@ -12,6 +12,7 @@ use lib.ListN.{length}
 use Rattle.words.specs.Bytes.{byte, four}
 use Rattle.words.specs.Fields.{bit}
 use Rattle.registers.specs.Merge.{enabled}
+use Rattle.registers.specs.Shown.{shown}
 use Rattle.packet.specs.Fields.{typeOf}
 use Rattle.packet.specs.Request.{isTrusted, targetOf}
 use Rattle.capture.specs.declared.Capture.the-variants.{Number}
@@ -54,12 +55,13 @@ pub record Landed (d e : Board) (a : Parts) (new : List ℕ) : Type 0 where
       → BitsLanded (d .ordinary) (e .ordinary) (a .offset) (a .enables) new × (e .trusted ≡ d .trusted) × (e .capture ≡ Number (a .bus) (a .device))
   pub description : e .description ≡ d .description
 
--- "what the space shows there": all four bytes; at A, the correlation register
+-- "what the space shows there": the four bytes, as a read shows them; at A, the correlation register
 abbrev pub shownThere : Board → Parts → List ℕ
 shownThere d a =
-    cond (asksTrusted a)
+    shown
+    (cond (asksTrusted a)
     (four (d .trusted .bytes) (a .offset))
-    (cond (eqb (a .offset) (d .description .a)) (correlation d) (four (d .ordinary .bytes) (a .offset)))
+    (cond (eqb (a .offset) (d .description .a)) (correlation d) (four (d .ordinary .bytes) (a .offset))))
 
 -- what it means that a completion says something: the board before and after, the request's parts and data
 abbrev pub Means : Board → Board → Parts → List ℕ → Said → Type 0

@@ -1,7 +1,7 @@
 -- Laws of the merge and the read, for the proofs above: callers use these and not the definitions' text. Assumes nothing.
 use Prim.Native.Nat.{ℕ, suc, zero, _+_, _*_, _/_, _^_, _<_}
 use mathlib.Core.Bool.{Bool, true, false}
-use mathlib.Core.List.{List}
+use mathlib.Core.List.{List, [], _∷_}
 use mathlib.Core.Logic.{_⊎_, inl, inr}
 use mathlib.Core.Path.{_≡_, refl, ap, _∙_}
 use native.Mathlib.Nat.{mod-lt, zero-lt-suc, le-of-suc-le-suc, not-suc-le-zero, pow-suc}
@@ -13,7 +13,12 @@ use Rattle.registers.specs.Merge.{enabled, writtenByte, merged, mergedBy
 use Rattle.registers.specs.Shown.{shown}
 use Rattle.registers.proofs.Masks.{from-low, bit-suc, bit-zero}
 
--- a read shows four bytes as they are
+-- a read shows four bytes as four
+pub shown-four : (w x y z : ℕ) → let s = shown (w ∷ x ∷ y ∷ z ∷ []) in (byte s 0 ∷ byte s 1 ∷ byte s 2 ∷ byte s 3 ∷ []) ≡ s
+unfolding shown
+shown-four w x y z = refl
+
+-- and as they are
 pub shown-whole : (bytes : List ℕ) → shown bytes ≡ bytes
 unfolding shown
 shown-whole bytes = refl

@@ -1,5 +1,6 @@
--- THEOREM. No server that hides a byte which a read does not enable, or returns no data where none is enabled, meets the promise of `board::serve`, whatever
--- else it does: in the trusted space, at A and elsewhere, for any board, any read that leaves a byte out, and any other value of that byte. Assumes nothing.
+-- THEOREM. No server that hides a byte of a word from a read, or returns no data where no byte is enabled, meets the promise of `board::serve`, whatever else it
+-- does: in the trusted space, at A and elsewhere, for any board and any read that succeeds, whatever it enables, it is not right both about that board and about the
+-- same board with any other value of that byte. Assumes nothing.
 use Prim.Native.Nat.{ℕ, zero, suc, _+_, _≤_, _<_}
 use mathlib.Core.Bool.{Bool, true, false, cond}
 use mathlib.Core.List.{List, [], _∷_, _++_}
@@ -8,10 +9,9 @@ use native.Mathlib.Nat.{add-zero}
 use native.Mathlib.Omega.{arith}
 use lib.Dec.{eqb}
 use lib.ListN.{length, take, drop}
-use borrow.Author.Tests.{eq-eqb, ne-eqb}
+use borrow.Author.Tests.{eq-eqb, ne-eqb, eqb-true}
 use Rattle.words.specs.Bytes.{byte, four, put}
 use Rattle.words.proofs.Laws.{put-length, put-there, four-at}
-use Rattle.registers.specs.Merge.{enabled}
 use Rattle.packet.specs.declared.Request.{Request}
 use Rattle.packet.specs.Fields.{dataOf}
 use Rattle.packet.specs.Request.{packetNumber, requestOf}
@@ -30,18 +30,26 @@ use Rattle.board.proofs.Whole.{read-four}
 use Rattle.runs.specs.Bench.{benchAfter, zeros, readAt, changed}
 use Rattle.runs.specs.Servers.{Server, promised, untouched}
 use Rattle.runs.specs.Clearing.{spaceFor}
-use Rattle.runs.specs.Hiding.{Place, inTrusted, atA, elsewhere, IsAt, Reads, readsTrusted, bytesFor, offsetFor, rewritten, altered, returned, Hides, ReturnsNothing}
+use Rattle.runs.specs.Hiding.{Place, inTrusted, atA, elsewhere, IsAt, Reads, readsTrusted, bytesFor, offsetFor, rewritten, altered, returned, HidesAt, Hides, ReturnsNothing}
+
+-- a server is right about a packet, with any reply
+abbrev pub Right : Server → Board → List ℕ → List ℕ → Type 0
+Right server d p reply = server d p reply ≡ promised d p reply
 
 -- the statement, of any server
 pub record HidingServersCaught : Type 0 where
-  -- it is not right both about a board and about the same board with another value in a byte that the read leaves out
-  pub hidden : (place : Place) (server : Server) → Hides place server → (d : Board) (p reply : List ℕ) → Reads place d p reply
-      → (k x : ℕ) → k < 4 → enabled k (requestOf p .enables) ≡ false
+  -- one that hides a byte at a read is not right both about the board and about the one with another value there
+  pub atOne : (place : Place) (server : Server) (d : Board) (p reply : List ℕ) → Reads place d p reply → (k x : ℕ) → k < 4
+      → (byte (bytesFor place d) (offsetFor place (d .description) (requestOf p) + k) ≡ x → ⊥) → HidesAt place server d p reply k x
+      → Right server d p reply → Right server (altered place d (requestOf p) k x) p reply → ⊥
+  -- so one that hides bytes by any rule is not right at any read where the rule hides one; document 01's is such a rule
+  pub byRule : (rule : List ℕ → ℕ → Bool) (place : Place) (server : Server) → Hides rule place server
+      → (d : Board) (p reply : List ℕ) → Reads place d p reply → (k x : ℕ) → k < 4 → rule p k ≡ true
       → (byte (bytesFor place d) (offsetFor place (d .description) (requestOf p) + k) ≡ x → ⊥)
-      → server d p reply ≡ promised d p reply
-      → server (altered place d (requestOf p) k x) p reply ≡ promised (altered place d (requestOf p) k x) p reply → ⊥
-  pub nothing : (place : Place) (server : Server) → ReturnsNothing place server → (d : Board) (p reply : List ℕ) → Reads place d p reply
-      → requestOf p .enables ≡ 0 → server d p reply ≡ promised d p reply → ⊥
+      → Right server d p reply → Right server (altered place d (requestOf p) k x) p reply → ⊥
+  -- one that returns no data at a read is not right about it
+  pub nothing : (place : Place) (server : Server) (d : Board) (p reply : List ℕ) → Reads place d p reply
+      → (server d p reply .count ≡ 16 → ⊥) → Right server d p reply → ⊥
   -- there are such reads, in each place and with any enables
   pub occurs : (place : Place) (enables : ℕ) → enables < 16
       → (d : Board) × (p : List ℕ) × (reply : List ℕ) × Reads place d p reply × (requestOf p .enables ≡ enables)
@@ -120,24 +128,21 @@ module _ (place : Place) (d : Board) (p reply : List ℕ) (k x : ℕ) (r : Reads
 
 -- ---- caught
 
-hidden-caught : (place : Place) (server : Server) → Hides place server → (d : Board) (p reply : List ℕ) → Reads place d p reply
-    → (k x : ℕ) → k < 4 → enabled k (requestOf p .enables) ≡ false
-    → (byte (bytesFor place d) (offsetFor place (d .description) (requestOf p) + k) ≡ x → ⊥)
-    → server d p reply ≡ promised d p reply
-    → server (altered place d (requestOf p) k x) p reply ≡ promised (altered place d (requestOf p) k x) p reply → ⊥
-hidden-caught place server hides d p reply r k x h left other one two =
+hidden-caught : (place : Place) (server : Server) (d : Board) (p reply : List ℕ) → Reads place d p reply → (k x : ℕ) → k < 4
+    → (byte (bytesFor place d) (offsetFor place (d .description) (requestOf p) + k) ≡ x → ⊥) → HidesAt place server d p reply k x
+    → Right server d p reply → Right server (altered place d (requestOf p) k x) p reply → ⊥
+hidden-caught place server d p reply r k x h other hides one two =
     other
     (sym (byte-is r k h)
     ∙ sym (ap (λ (s : Seen). byte (returned s) k) one)
-    ∙ hides d p reply r k x h left
+    ∙ hides
     ∙ ap (λ (s : Seen). byte (returned s) k) two
     ∙ byte-is (altered-reads place d p reply k x r h) k h
     ∙ altered-byte place d p reply k x r h)
 
-nothing-caught : (place : Place) (server : Server) → ReturnsNothing place server → (d : Board) (p reply : List ℕ) → Reads place d p reply
-    → requestOf p .enables ≡ 0 → server d p reply ≡ promised d p reply → ⊥
-nothing-caught place server returns d p reply r none right =
-    omega (arith, sym (returns d p reply r none) ∙ ap (λ (x : Seen). x .count) right ∙ count-is r)
+nothing-caught : (place : Place) (server : Server) (d : Board) (p reply : List ℕ) → Reads place d p reply → (server d p reply .count ≡ 16 → ⊥)
+    → Right server d p reply → ⊥
+nothing-caught place server d p reply r short right = short (ap (λ (x : Seen). x .count) right ∙ count-is r)
 
 -- ---- such reads: the bench sheet's board after P2, and a read with any enables
 
@@ -192,65 +197,118 @@ read-occurs place enables h = (
 )
 
 pub hiding-servers-caught : HidingServersCaught
-hiding-servers-caught = record { hidden = hidden-caught; nothing = nothing-caught; occurs = read-occurs }
+hiding-servers-caught =
+    record {
+      atOne = hidden-caught;
+      byRule = λ rule place server hides d p reply r k x h hidden other one two.
+          hidden-caught place server d p reply r k x h other (hides d p reply r k x h hidden) one two;
+      nothing = nothing-caught;
+      occurs = read-occurs;
+    }
 
--- ---- there are such servers, so that the statement says something: right in all but the data of a read, of which they return the bytes that are enabled,
--- and by any rule of their own the others (00h is document 01's); and right in all but the count of a read that enables none
+-- ---- there are such servers, so that the statement says something
 
-abbrev refilled : (List ℕ → List ℕ → ℕ → ℕ) → List ℕ → List ℕ → Seen → Seen
-refilled others p reply x =
-    let at : ℕ → ℕ = λ k. cond (enabled k (requestOf p .enables)) (byte (returned x) k) (others p reply k) in
+-- what is seen of a read, with other data; and with another count
+abbrev pub refilled : (ℕ → ℕ) → List ℕ → Seen → Seen
+refilled at reply x =
     record {
       number = x .number;
       count = x .count;
       capture = x .capture;
       ordinary = x .ordinary;
       trusted = x .trusted;
-      reply = cond (eqb (x .count) 16) (over (take 12 (x .reply) ++ (at 0 ∷ at 1 ∷ at 2 ∷ at 3 ∷ [])) reply) (x .reply);
+      reply = over (take 12 (x .reply) ++ (at 0 ∷ at 1 ∷ at 2 ∷ at 3 ∷ [])) reply;
     }
 
-abbrev hiding : (List ℕ → List ℕ → ℕ → ℕ) → Server
-hiding others d p reply = refilled others p reply (promised d p reply)
+abbrev pub counted : ℕ → Seen → Seen
+counted n x =
+    record { number = x .number; count = n; capture = x .capture; ordinary = x .ordinary; trusted = x .trusted; reply = x .reply }
+
+-- the data of a read as a rule hides it: in the place of a hidden byte others, by the packet, the reply as lent and the place
+abbrev pub hidden : (List ℕ → ℕ → Bool) → (List ℕ → List ℕ → ℕ → ℕ) → List ℕ → List ℕ → Seen → ℕ → ℕ
+hidden rule others p reply x k = cond (rule p k) (others p reply k) (byte (returned x) k)
+
+-- right in all but the bytes that a rule hides
+pub record RightButHidden (rule : List ℕ → ℕ → Bool) (others : List ℕ → List ℕ → ℕ → ℕ) (server : Server) : Type 0 where
+  pub reads : (place : Place) (d : Board) (p reply : List ℕ) → Reads place d p reply
+      → let x = promised d p reply in server d p reply ≡ refilled (hidden rule others p reply x) reply x
+  pub besides : (d : Board) (p reply : List ℕ) → (promised d p reply .count ≡ 16 → ⊥) → Right server d p reply
+
+-- right in all but the count of a read that enables no byte
+pub record RightButCount (server : Server) : Type 0 where
+  pub reads : (place : Place) (d : Board) (p reply : List ℕ) → Reads place d p reply → requestOf p .enables ≡ 0
+      → server d p reply ≡ counted 12 (promised d p reply)
+  pub besides : (d : Board) (p reply : List ℕ) → (promised d p reply .count ≡ 16 → requestOf p .enables ≡ 0 → ⊥) → Right server d p reply
+
+-- the statement: one that hides what any rule hides, in all three places, and returns anything in its place (with `notEnabled` and 00h it is a board by document
+-- 01's rule, and with `noneEnabled` one that shows nothing where nothing is asked for); and one that returns no data where no byte is enabled
+pub record SuchHidingServersExist : Type 0 where
+  pub hides : (rule : List ℕ → ℕ → Bool) (others : List ℕ → List ℕ → ℕ → ℕ)
+      → (server : Server) × ((place : Place) → Hides rule place server) × RightButHidden rule others server
+  pub returnsNothing : (server : Server) × ((place : Place) → ReturnsNothing place server) × RightButCount server
+
+-- a read's data, refilled
+refilled-at : (at : ℕ → ℕ) (d : Board) (p reply : List ℕ) (k : ℕ) → k < 4
+    → byte (returned (refilled at reply (shows (repliesData d (requestOf p)) reply))) k ≡ at k
+unfolding shows withData
+refilled-at at d p reply zero h = refl
+refilled-at at d p reply (suc zero) h = refl
+refilled-at at d p reply (suc (suc zero)) h = refl
+refilled-at at d p reply (suc (suc (suc zero))) h = refl
+refilled-at at d p reply (suc (suc (suc (suc k)))) h = absurd (omega arith)
+
+module _ (rule : List ℕ → ℕ → Bool) (others : List ℕ → List ℕ → ℕ → ℕ) where
+  abbrev hiding : Server
+  hiding d p reply =
+      let x = promised d p reply in
+      cond (eqb (x .count) 16) (refilled (hidden rule others p reply x) reply x) x
+
+  hiding-reads : (place : Place) (d : Board) (p reply : List ℕ) → Reads place d p reply
+      → let x = promised d p reply in hiding d p reply ≡ refilled (hidden rule others p reply x) reply x
+  hiding-reads place d p reply r = rw (eq-eqb (promised d p reply .count) 16 (count-is r))
+
+  hiding-at : (place : Place) (d : Board) (p reply : List ℕ) → Reads place d p reply → (k : ℕ) → k < 4 → rule p k ≡ true
+      → byte (returned (hiding d p reply)) k ≡ others p reply k
+  hiding-at place d p reply r k h hides =
+      let at = hidden rule others p reply (promised d p reply) in
+      let chosen : at k ≡ others p reply k = rw hides in
+      ap (λ (x : Seen). byte (returned x) k) (hiding-reads place d p reply r)
+      ∙ ap (λ (x : Seen). byte (returned (refilled at reply x)) k) (as-served r)
+      ∙ refilled-at at d p reply k h
+      ∙ chosen
+
+  hiding-hides : (place : Place) → Hides rule place hiding
+  hiding-hides place d p reply r k x h hides =
+      hiding-at place d p reply r k h hides
+      ∙ sym (hiding-at place (altered place d (requestOf p) k x) p reply (altered-reads place d p reply k x r h) k h hides)
+
+  hiding-right : RightButHidden rule others hiding
+  hiding-right =
+      record { reads = hiding-reads; besides = λ d p reply short. rw (ne-eqb (promised d p reply .count) 16 short) }
 
 abbrev silent : Server
 silent d p reply =
     let x = promised d p reply in
-    record {
-      number = x .number;
-      count = cond (eqb (requestOf p .enables) 0) 12 (x .count);
-      capture = x .capture;
-      ordinary = x .ordinary;
-      trusted = x .trusted;
-      reply = x .reply;
-    }
+    cond (eqb (x .count) 16) (cond (eqb (requestOf p .enables) 0) (counted 12 x) x) x
 
-pub record SuchHidingServersExist : Type 0 where
-  pub hides : (others : List ℕ → List ℕ → ℕ → ℕ) → (server : Server) × ((place : Place) → Hides place server)
-  pub returnsNothing : (server : Server) × ((place : Place) → ReturnsNothing place server)
+silent-reads : (place : Place) (d : Board) (p reply : List ℕ) → Reads place d p reply → requestOf p .enables ≡ 0
+    → silent d p reply ≡ counted 12 (promised d p reply)
+silent-reads place d p reply r none =
+    rw (eq-eqb (promised d p reply .count) 16 (count-is r), eq-eqb (requestOf p .enables) 0 none)
 
--- the data of a read, refilled
-refilled-at : (others : List ℕ → List ℕ → ℕ → ℕ) (d : Board) (p reply : List ℕ) (k : ℕ) → k < 4 → enabled k (requestOf p .enables) ≡ false
-    → byte (returned (refilled others p reply (shows (repliesData d (requestOf p)) reply))) k ≡ others p reply k
-unfolding shows withData
-refilled-at others d p reply zero h e = rw e
-refilled-at others d p reply (suc zero) h e = rw e
-refilled-at others d p reply (suc (suc zero)) h e = rw e
-refilled-at others d p reply (suc (suc (suc zero))) h e = rw e
-refilled-at others d p reply (suc (suc (suc (suc k)))) h e = absurd (omega arith)
-
-hiding-at : (others : List ℕ → List ℕ → ℕ → ℕ) (place : Place) (d : Board) (p reply : List ℕ) → Reads place d p reply → (k : ℕ) → k < 4
-    → enabled k (requestOf p .enables) ≡ false → byte (returned (hiding others d p reply)) k ≡ others p reply k
-hiding-at others place d p reply r k h e =
-    ap (λ (x : Seen). byte (returned (refilled others p reply x)) k) (as-served r) ∙ refilled-at others d p reply k h e
-
-hiding-hides : (others : List ℕ → List ℕ → ℕ → ℕ) (place : Place) → Hides place (hiding others)
-hiding-hides others place d p reply r k x h e =
-    hiding-at others place d p reply r k h e
-    ∙ sym (hiding-at others place (altered place d (requestOf p) k x) p reply (altered-reads place d p reply k x r h) k h e)
+silent-besides : (d : Board) (p reply : List ℕ) (long none : Bool) → eqb (promised d p reply .count) 16 ≡ long → eqb (requestOf p .enables) 0 ≡ none
+    → (promised d p reply .count ≡ 16 → requestOf p .enables ≡ 0 → ⊥) → Right silent d p reply
+silent-besides d p reply true true e f h = absurd (h (eqb-true _ _ e) (eqb-true _ _ f))
+silent-besides d p reply true false e f h = rw (e, f)
+silent-besides d p reply false none e f h = rw e
 
 pub such-hiding-servers-exist : SuchHidingServersExist
 such-hiding-servers-exist =
     record {
-      hides = λ others. (hiding others, hiding-hides others);
-      returnsNothing = (silent, λ place d p reply r e. rw (eq-eqb (requestOf p .enables) 0 e));
+      hides = λ rule others. (hiding rule others, hiding-hides rule others, hiding-right rule others);
+      returnsNothing = (
+        silent,
+        (λ place d p reply r none. ap (λ (x : Seen). x .count) (silent-reads place d p reply r none)),
+        record { reads = silent-reads; besides = λ d p reply. silent-besides d p reply _ _ refl refl },
+      );
     }

@@ -9,6 +9,7 @@ use lib.Dec.{eqb}
 use lib.ListN.{drop, getD}
 use borrow.Author.Tests.{eq-eqb}
 use Rattle.words.specs.Bytes.{byte, four}
+use Rattle.registers.specs.Shown.{shown}
 use Rattle.packet.specs.declared.Id.{Id}
 use Rattle.packet.specs.declared.Request.{Request}
 use Rattle.packet.specs.declared.Status.the-variants.{Unsupported}
@@ -171,7 +172,7 @@ candid d p reply =
     let x = promised d p reply in
     let q = requestOf p in
     let at = isReadAtA d q && eqb (x .number) 0 in
-    let word = four (d .ordinary .bytes) (d .description .a) in
+    let word = shown (four (d .ordinary .bytes) (d .description .a)) in
     record {
       number = x .number;
       count = cond at 16 (x .count);
@@ -189,7 +190,7 @@ pub record SuchServersExist : Type 1 where
   pub showsStale : (server : Server) × ShowsStale server
 
 candid-shows : ShowsStale candid
-unfolding withData
+unfolding shown withData
 candid-shows d p reply at n =
     rw (at .ordinary, at .reads, eq-eqb (requestOf p .function) (d .description .function) (at .own), eq-eqb (requestOf p .offset) (d .description .a) (at .atA), n)
 

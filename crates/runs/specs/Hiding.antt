@@ -1,9 +1,10 @@
 -- Document 02, 7/13, "Whole words on reads": faults of a server that looks at the enables of a read, for any server at all, and in each of the three
 -- places that a read can be for. Assumes nothing.
 use Prim.Native.Nat.{ℕ, _+_, _≤_, _<_}
-use mathlib.Core.Bool.{Bool, true, false, cond}
+use mathlib.Core.Bool.{Bool, true, false, not, cond}
 use mathlib.Core.List.{List, [], _∷_}
 use mathlib.Core.Path.{_≡_}
+use lib.Dec.{eqb}
 use lib.ListN.{length, drop}
 use Rattle.words.specs.Bytes.{byte, put}
 use Rattle.registers.specs.Merge.{enabled}
@@ -64,12 +65,23 @@ altered place d q k x = rewritten (readsTrusted place) d (put (bytesFor place d)
 abbrev pub returned : Seen → List ℕ
 returned x = drop 12 (completion x)
 
--- what it returns in the place of a byte that is not enabled does not hang on that byte. It may be 00h, as document 01 had it, or FFh, what the lent reply
--- held, another byte of the word, or at A what is stored there
-abbrev pub Hides : Place → Server → Type 0
-Hides place server =
-    (d : Board) (p reply : List ℕ) → Reads place d p reply → (k x : ℕ) → k < 4 → enabled k (requestOf p .enables) ≡ false
-    → byte (returned (server d p reply)) k ≡ byte (returned (server (altered place d (requestOf p) k x) p reply)) k
+-- it hides byte k of the word at a read: what it returns there is the same where the byte has the value x
+abbrev pub HidesAt : Place → Server → Board → List ℕ → List ℕ → ℕ → ℕ → Type 0
+HidesAt place server d p reply k x =
+    byte (returned (server d p reply)) k ≡ byte (returned (server (altered place d (requestOf p) k x) p reply)) k
+
+-- it hides bytes by a rule, by the packet and the byte's place. It may return 00h for them, as document 01 had it, or FFh, what the lent reply held, another
+-- byte of the word, or at A what is stored there
+abbrev pub Hides : (List ℕ → ℕ → Bool) → Place → Server → Type 0
+Hides rule place server =
+    (d : Board) (p reply : List ℕ) → Reads place d p reply → (k x : ℕ) → k < 4 → rule p k ≡ true → HidesAt place server d p reply k x
+
+-- rules: document 01's, "others" than the enabled bytes; all four where none is enabled
+abbrev pub notEnabled : List ℕ → ℕ → Bool
+notEnabled p k = not (enabled k (requestOf p .enables))
+
+abbrev pub noneEnabled : List ℕ → ℕ → Bool
+noneEnabled p k = eqb (requestOf p .enables) 0
 
 -- where no byte is enabled it returns no data, as success or as UR
 abbrev pub ReturnsNothing : Place → Server → Type 0

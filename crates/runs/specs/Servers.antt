@@ -6,6 +6,7 @@ use mathlib.Core.List.{List, [], _∷_}
 use mathlib.Core.Path.{_≡_}
 use lib.ListN.{length, take, drop, replicate}
 use Rattle.words.specs.Bytes.{byte, four}
+use Rattle.registers.specs.Shown.{shown}
 use Rattle.packet.specs.declared.Target.{Target}
 use Rattle.packet.specs.declared.Target.the-variants.{Type0, Trusted}
 use Rattle.packet.specs.declared.Status.the-variants.{Unsupported}
@@ -116,4 +117,4 @@ pub record ReadAtA (d : Board) (p : List ℕ) : Type 0 where
 abbrev pub ShowsStale : Server → Type 0
 ShowsStale server =
     (d : Board) (p reply : List ℕ) → ReadAtA d p → server d p reply .number ≡ 0
-    → drop 12 (completion (server d p reply)) ≡ four (d .ordinary .bytes) (d .description .a)
+    → drop 12 (completion (server d p reply)) ≡ shown (four (d .ordinary .bytes) (d .description .a))

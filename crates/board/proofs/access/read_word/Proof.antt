@@ -1,6 +1,5 @@
 -- `board::read_word` meets its contract: the four bytes that are picked, as a read shows them. Assumes nothing.
-use mathlib.Core.Path.{ap, _∙_}
-use Rattle.registers.specs.Shown.{shown}
+use mathlib.Core.Path.{_∙_}
 use Rattle.board.specs.Access.{shownWord}
 use borrow.Author.Needs.{needs}
 use Rattle.board.proofs.access.read_word.Statement.{statement}
@@ -14,7 +13,7 @@ show-requires c κs = search needs
 
 returns : tie.Need-returns
 unfolding shownWord
-returns c = c .show .ensures ∙ ap shown (c .before .pick-word .ensures)
+returns c = c .show .ensures ∙ rw (c .before .pick-word .ensures)
 
 pub read-word-spec : {M : Type 1} → statement M
 read-word-spec = tie.close (tie.spec pick-word-requires show-requires returns)
