@@ -97,7 +97,8 @@ impl<'a> Board<'a> {
     /// Answers a packet: does the access, and gives the completion.
     ///
     /// `Ok` means that the access was done, and `?` stops at a write that was not. Done is not landed: a write has
-    /// changed what its enables, the rules and the marks let it change, which may be nothing. A read tells.
+    /// changed what its enables, the rules and the marks let it change, which may be nothing. A read tells: it gives all four
+    /// bytes of its word, whatever it enables, and at A the four trusted bytes at B.
     ///
     /// ```
     /// use thawribbon::{Board, Capture, Description, Id, NO_MARKS, NotDone, Refusal, SPACE, Space, Status};

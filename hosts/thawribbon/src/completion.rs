@@ -157,7 +157,8 @@ impl Completion {
         }
     }
 
-    /// The four bytes that a read gave, all of them whatever it enabled. A write and an Unsupported Request have none.
+    /// The four bytes that a read gave: all of them, whatever it enabled, of a board from version 0.8.0 on; one before gave 00h
+    /// for those not enabled, and a completion does not tell which. A write and an Unsupported Request have none.
     #[must_use]
     #[inline]
     pub fn data(&self) -> Option<[u8; 4]> {
