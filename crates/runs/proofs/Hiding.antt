@@ -30,7 +30,7 @@ use Rattle.board.proofs.Whole.{read-four}
 use Rattle.runs.specs.Bench.{benchAfter, zeros, readAt, changed}
 use Rattle.runs.specs.Servers.{Server, promised, untouched}
 use Rattle.runs.specs.Clearing.{spaceFor}
-use Rattle.runs.specs.Hiding.{Place, inTrusted, atA, elsewhere, IsAt, Reads, readsTrusted, bytesFor, offsetFor, rewritten, altered, returned, HidesAt, Hides, ReturnsNothing}
+use Rattle.runs.specs.Hiding.{Place, inTrusted, atA, elsewhere, IsAt, Reads, readsTrusted, bytesFor, offsetFor, rewritten, altered, returned, HidesAt, Hides, notEnabled, noneEnabled, ReturnsNothing}
 
 -- a server is right about a packet, with any reply
 abbrev pub Right : Server → Board → List ℕ → List ℕ → Type 0
@@ -42,9 +42,9 @@ pub record HidingServersCaught : Type 0 where
   pub atOne : (place : Place) (server : Server) (d : Board) (p reply : List ℕ) → Reads place d p reply → (k x : ℕ) → k < 4
       → (byte (bytesFor place d) (offsetFor place (d .description) (requestOf p) + k) ≡ x → ⊥) → HidesAt place server d p reply k x
       → Right server d p reply → Right server (altered place d (requestOf p) k x) p reply → ⊥
-  -- so one that hides bytes by any rule is not right at any read where the rule hides one; document 01's is such a rule
-  pub byRule : (rule : List ℕ → ℕ → Bool) (place : Place) (server : Server) → Hides rule place server
-      → (d : Board) (p reply : List ℕ) → Reads place d p reply → (k x : ℕ) → k < 4 → rule p k ≡ true
+  -- so one that hides certain bytes, whichever they are, is not right at any read of which it hides one
+  pub certain : (which : List ℕ → ℕ → Bool) (place : Place) (server : Server) → Hides which place server
+      → (d : Board) (p reply : List ℕ) → Reads place d p reply → (k x : ℕ) → k < 4 → which p k ≡ true
       → (byte (bytesFor place d) (offsetFor place (d .description) (requestOf p) + k) ≡ x → ⊥)
       → Right server d p reply → Right server (altered place d (requestOf p) k x) p reply → ⊥
   -- one that returns no data at a read is not right about it
@@ -200,7 +200,7 @@ pub hiding-servers-caught : HidingServersCaught
 hiding-servers-caught =
     record {
       atOne = hidden-caught;
-      byRule = λ rule place server hides d p reply r k x h hidden other one two.
+      certain = λ which place server hides d p reply r k x h hidden other one two.
           hidden-caught place server d p reply r k x h other (hides d p reply r k x h hidden) one two;
       nothing = nothing-caught;
       occurs = read-occurs;
@@ -224,14 +224,14 @@ abbrev pub counted : ℕ → Seen → Seen
 counted n x =
     record { number = x .number; count = n; capture = x .capture; ordinary = x .ordinary; trusted = x .trusted; reply = x .reply }
 
--- the data of a read as a rule hides it: in the place of a hidden byte others, by the packet, the reply as lent and the place
+-- the data of a read with certain bytes hidden: others in their place, by the packet, the reply as lent and the place
 abbrev pub hidden : (List ℕ → ℕ → Bool) → (List ℕ → List ℕ → ℕ → ℕ) → List ℕ → List ℕ → Seen → ℕ → ℕ
-hidden rule others p reply x k = cond (rule p k) (others p reply k) (byte (returned x) k)
+hidden which others p reply x k = cond (which p k) (others p reply k) (byte (returned x) k)
 
--- right in all but the bytes that a rule hides
-pub record RightButHidden (rule : List ℕ → ℕ → Bool) (others : List ℕ → List ℕ → ℕ → ℕ) (server : Server) : Type 0 where
+-- right in all but the bytes that it hides
+pub record RightButHidden (which : List ℕ → ℕ → Bool) (others : List ℕ → List ℕ → ℕ → ℕ) (server : Server) : Type 0 where
   pub reads : (place : Place) (d : Board) (p reply : List ℕ) → Reads place d p reply
-      → let x = promised d p reply in server d p reply ≡ refilled (hidden rule others p reply x) reply x
+      → let x = promised d p reply in server d p reply ≡ refilled (hidden which others p reply x) reply x
   pub besides : (d : Board) (p reply : List ℕ) → (promised d p reply .count ≡ 16 → ⊥) → Right server d p reply
 
 -- right in all but the count of a read that enables no byte
@@ -240,11 +240,16 @@ pub record RightButCount (server : Server) : Type 0 where
       → server d p reply ≡ counted 12 (promised d p reply)
   pub besides : (d : Board) (p reply : List ℕ) → (promised d p reply .count ≡ 16 → requestOf p .enables ≡ 0 → ⊥) → Right server d p reply
 
--- the statement: one that hides what any rule hides, in all three places, and returns anything in its place (with `notEnabled` and 00h it is a board by document
--- 01's rule, and with `noneEnabled` one that shows nothing where nothing is asked for); and one that returns no data where no byte is enabled
+-- one that hides certain bytes, in all three places, and is right in all else
+abbrev pub HidingServer : (List ℕ → ℕ → Bool) → (List ℕ → List ℕ → ℕ → ℕ) → Type 0
+HidingServer which others = (server : Server) × ((place : Place) → Hides which place server) × RightButHidden which others server
+
+-- the statement: whichever bytes are hidden, and whatever stands in their place; so a board by document 01's rule, with 00h for the bytes that are not enabled, and
+-- one that has 00h where none is enabled; and one that returns no data there
 pub record SuchHidingServersExist : Type 0 where
-  pub hides : (rule : List ℕ → ℕ → Bool) (others : List ℕ → List ℕ → ℕ → ℕ)
-      → (server : Server) × ((place : Place) → Hides rule place server) × RightButHidden rule others server
+  pub hides : (which : List ℕ → ℕ → Bool) (others : List ℕ → List ℕ → ℕ → ℕ) → HidingServer which others
+  pub oldRule : HidingServer notEnabled (λ p reply k. 0)
+  pub blank : HidingServer noneEnabled (λ p reply k. 0)
   pub returnsNothing : (server : Server) × ((place : Place) → ReturnsNothing place server) × RightButCount server
 
 -- a read's data, refilled
@@ -257,32 +262,32 @@ refilled-at at d p reply (suc (suc zero)) h = refl
 refilled-at at d p reply (suc (suc (suc zero))) h = refl
 refilled-at at d p reply (suc (suc (suc (suc k)))) h = absurd (omega arith)
 
-module _ (rule : List ℕ → ℕ → Bool) (others : List ℕ → List ℕ → ℕ → ℕ) where
+module _ (which : List ℕ → ℕ → Bool) (others : List ℕ → List ℕ → ℕ → ℕ) where
   abbrev hiding : Server
   hiding d p reply =
       let x = promised d p reply in
-      cond (eqb (x .count) 16) (refilled (hidden rule others p reply x) reply x) x
+      cond (eqb (x .count) 16) (refilled (hidden which others p reply x) reply x) x
 
   hiding-reads : (place : Place) (d : Board) (p reply : List ℕ) → Reads place d p reply
-      → let x = promised d p reply in hiding d p reply ≡ refilled (hidden rule others p reply x) reply x
+      → let x = promised d p reply in hiding d p reply ≡ refilled (hidden which others p reply x) reply x
   hiding-reads place d p reply r = rw (eq-eqb (promised d p reply .count) 16 (count-is r))
 
-  hiding-at : (place : Place) (d : Board) (p reply : List ℕ) → Reads place d p reply → (k : ℕ) → k < 4 → rule p k ≡ true
+  hiding-at : (place : Place) (d : Board) (p reply : List ℕ) → Reads place d p reply → (k : ℕ) → k < 4 → which p k ≡ true
       → byte (returned (hiding d p reply)) k ≡ others p reply k
   hiding-at place d p reply r k h hides =
-      let at = hidden rule others p reply (promised d p reply) in
+      let at = hidden which others p reply (promised d p reply) in
       let chosen : at k ≡ others p reply k = rw hides in
       ap (λ (x : Seen). byte (returned x) k) (hiding-reads place d p reply r)
       ∙ ap (λ (x : Seen). byte (returned (refilled at reply x)) k) (as-served r)
       ∙ refilled-at at d p reply k h
       ∙ chosen
 
-  hiding-hides : (place : Place) → Hides rule place hiding
+  hiding-hides : (place : Place) → Hides which place hiding
   hiding-hides place d p reply r k x h hides =
       hiding-at place d p reply r k h hides
       ∙ sym (hiding-at place (altered place d (requestOf p) k x) p reply (altered-reads place d p reply k x r h) k h hides)
 
-  hiding-right : RightButHidden rule others hiding
+  hiding-right : RightButHidden which others hiding
   hiding-right =
       record { reads = hiding-reads; besides = λ d p reply short. rw (ne-eqb (promised d p reply .count) 16 short) }
 
@@ -302,10 +307,15 @@ silent-besides d p reply true true e f h = absurd (h (eqb-true _ _ e) (eqb-true 
 silent-besides d p reply true false e f h = rw (e, f)
 silent-besides d p reply false none e f h = rw e
 
+such-hiding : (which : List ℕ → ℕ → Bool) (others : List ℕ → List ℕ → ℕ → ℕ) → HidingServer which others
+such-hiding which others = (hiding which others, hiding-hides which others, hiding-right which others)
+
 pub such-hiding-servers-exist : SuchHidingServersExist
 such-hiding-servers-exist =
     record {
-      hides = λ rule others. (hiding rule others, hiding-hides rule others, hiding-right rule others);
+      hides = such-hiding;
+      oldRule = such-hiding notEnabled (λ p reply k. 0);
+      blank = such-hiding noneEnabled (λ p reply k. 0);
       returnsNothing = (
         silent,
         (λ place d p reply r none. ap (λ (x : Seen). x .count) (silent-reads place d p reply r none)),

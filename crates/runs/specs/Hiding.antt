@@ -70,13 +70,13 @@ abbrev pub HidesAt : Place → Server → Board → List ℕ → List ℕ → �
 HidesAt place server d p reply k x =
     byte (returned (server d p reply)) k ≡ byte (returned (server (altered place d (requestOf p) k x) p reply)) k
 
--- it hides bytes by a rule, by the packet and the byte's place. It may return 00h for them, as document 01 had it, or FFh, what the lent reply held, another
+-- it hides certain bytes, by the packet and the byte's place. It may return 00h for them, as document 01 had it, or FFh, what the lent reply held, another
 -- byte of the word, or at A what is stored there
 abbrev pub Hides : (List ℕ → ℕ → Bool) → Place → Server → Type 0
-Hides rule place server =
-    (d : Board) (p reply : List ℕ) → Reads place d p reply → (k x : ℕ) → k < 4 → rule p k ≡ true → HidesAt place server d p reply k x
+Hides which place server =
+    (d : Board) (p reply : List ℕ) → Reads place d p reply → (k x : ℕ) → k < 4 → which p k ≡ true → HidesAt place server d p reply k x
 
--- rules: document 01's, "others" than the enabled bytes; all four where none is enabled
+-- which ones: by document 01 the "others" than the enabled bytes; all four where none is enabled
 abbrev pub notEnabled : List ℕ → ℕ → Bool
 notEnabled p k = not (enabled k (requestOf p .enables))
 
