@@ -235,9 +235,9 @@ typedef struct thawribbon_parts {
     uint8_t bus;          /* whom it is for */
     uint8_t device;       /* 0 to 31 */
     uint8_t function;     /* 0 to 7 */
-    uint8_t enables;      /* the bytes that a write may change, 0 to 15: bit 0 is the byte at the lowest address; 0x0F for all four, and not
-                             named it is 0. Of a read they say nothing: a board gives all four bytes from version 0.8.0 on. Where one
-                             before may answer, which gave 00h for those not enabled, enable all four */
+    uint8_t enables;      /* the first enables, 0 to 15, the bytes that a write may change: bit 0 is the byte at the lowest address; 0x0F for
+                             all four, and not named it is 0. A read is given all four bytes whatever they are, by a board from version
+                             0.8.0 on; one before gave 00h for those not enabled, so where one may answer, enable all four */
     uint8_t data[4];      /* what a write writes; for a read it is ignored */
 } thawribbon_parts;
 
@@ -251,7 +251,7 @@ typedef struct thawribbon_written {
 enum thawribbon_said {
     /* nothing, since it is refused */
     THAWRIBBON_SAID_NOTHING = 0,
-    /* success with data: a read was done, and these are its four bytes; of a board before version 0.8.0, those that it enabled */
+    /* success with data: a read was done, and these are its four bytes; of a board before version 0.8.0, 00h in those not enabled */
     THAWRIBBON_SAID_DATA = 1,
     /* success without data: a write was done */
     THAWRIBBON_SAID_DONE = 2,

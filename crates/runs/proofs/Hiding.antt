@@ -15,12 +15,13 @@ use Rattle.words.proofs.Laws.{put-length, put-there, four-at}
 use Rattle.packet.specs.declared.Request.{Request}
 use Rattle.packet.specs.Fields.{dataOf}
 use Rattle.packet.specs.Request.{packetNumber, requestOf}
-use Rattle.packet.specs.Completion.{withData}
+use Rattle.packet.specs.declared.Status.the-variants.{Success}
+use Rattle.packet.specs.Completion.{withData, withoutData}
 use Rattle.packet.proofs.Laws.{offset-inside}
 use Rattle.packet.proofs.EnablesAside.{EnablesAside, enables-aside}
 use Rattle.board.specs.Description.{Board, WellDescribed}
 use Rattle.board.specs.Access.{pickedWord}
-use Rattle.board.specs.Serving.{Outcome, repliesData}
+use Rattle.board.specs.Serving.{Outcome, replies, repliesData}
 use Rattle.board.specs.Promise.{Seen, over, shows}
 use Rattle.board.proofs.Laws.{well-described, described-well}
 use Rattle.board.proofs.Keeps.{with-bytes}
@@ -42,7 +43,7 @@ pub record HidingServersCaught : Type 0 where
   pub atOne : (place : Place) (server : Server) (d : Board) (p reply : List ℕ) → Reads place d p reply → (k x : ℕ) → k < 4
       → (byte (bytesFor place d) (offsetFor place (d .description) (requestOf p) + k) ≡ x → ⊥) → HidesAt place server d p reply k x
       → Right server d p reply → Right server (altered place d (requestOf p) k x) p reply → ⊥
-  -- so one that hides certain bytes, whichever they are, is not right at any read of which it hides one
+  -- so, of one that hides certain bytes, whichever they are: at any read of which it hides one it is not right both about the board and about that other
   pub certain : (which : List ℕ → ℕ → Bool) (place : Place) (server : Server) → Hides which place server
       → (d : Board) (p reply : List ℕ) → Reads place d p reply → (k x : ℕ) → k < 4 → which p k ≡ true
       → (byte (bytesFor place d) (offsetFor place (d .description) (requestOf p) + k) ≡ x → ⊥)
@@ -208,7 +209,7 @@ hiding-servers-caught =
 
 -- ---- there are such servers, so that the statement says something
 
--- what is seen of a read, with other data; and with another count
+-- what is seen of a read, with other data
 abbrev pub refilled : (ℕ → ℕ) → List ℕ → Seen → Seen
 refilled at reply x =
     record {
@@ -220,10 +221,6 @@ refilled at reply x =
       reply = over (take 12 (x .reply) ++ (at 0 ∷ at 1 ∷ at 2 ∷ at 3 ∷ [])) reply;
     }
 
-abbrev pub counted : ℕ → Seen → Seen
-counted n x =
-    record { number = x .number; count = n; capture = x .capture; ordinary = x .ordinary; trusted = x .trusted; reply = x .reply }
-
 -- the data of a read with certain bytes hidden: others in their place, by the packet, the reply as lent and the place
 abbrev pub hidden : (List ℕ → ℕ → Bool) → (List ℕ → List ℕ → ℕ → ℕ) → List ℕ → List ℕ → Seen → ℕ → ℕ
 hidden which others p reply x k = cond (which p k) (others p reply k) (byte (returned x) k)
@@ -234,23 +231,23 @@ pub record RightButHidden (which : List ℕ → ℕ → Bool) (others : List ℕ
       → let x = promised d p reply in server d p reply ≡ refilled (hidden which others p reply x) reply x
   pub besides : (d : Board) (p reply : List ℕ) → (promised d p reply .count ≡ 16 → ⊥) → Right server d p reply
 
--- right in all but the count of a read that enables no byte
-pub record RightButCount (server : Server) : Type 0 where
+-- right in all but a read that enables no byte, which it answers with success and no data
+pub record RightButNone (server : Server) : Type 0 where
   pub reads : (place : Place) (d : Board) (p reply : List ℕ) → Reads place d p reply → requestOf p .enables ≡ 0
-      → server d p reply ≡ counted 12 (promised d p reply)
+      → server d p reply ≡ shows (replies d Success (requestOf p)) reply
   pub besides : (d : Board) (p reply : List ℕ) → (promised d p reply .count ≡ 16 → requestOf p .enables ≡ 0 → ⊥) → Right server d p reply
 
 -- one that hides certain bytes, in all three places, and is right in all else
 abbrev pub HidingServer : (List ℕ → ℕ → Bool) → (List ℕ → List ℕ → ℕ → ℕ) → Type 0
 HidingServer which others = (server : Server) × ((place : Place) → Hides which place server) × RightButHidden which others server
 
--- the statement: whichever bytes are hidden, and whatever stands in their place; so a board by document 01's rule, with 00h for the bytes that are not enabled, and
--- one that has 00h where none is enabled; and one that returns no data there
+-- the statement: whichever bytes are hidden, and whatever stands in their place by the packet, the reply as lent and the place; so a board by document 01's rule,
+-- with 00h for the bytes that are not enabled, and one that has 00h where none is enabled; and one that returns no data there
 pub record SuchHidingServersExist : Type 0 where
   pub hides : (which : List ℕ → ℕ → Bool) (others : List ℕ → List ℕ → ℕ → ℕ) → HidingServer which others
   pub oldRule : HidingServer notEnabled (λ p reply k. 0)
   pub blank : HidingServer noneEnabled (λ p reply k. 0)
-  pub returnsNothing : (server : Server) × ((place : Place) → ReturnsNothing place server) × RightButCount server
+  pub returnsNothing : (server : Server) × ((place : Place) → ReturnsNothing place server) × RightButNone server
 
 -- a read's data, refilled
 refilled-at : (at : ℕ → ℕ) (d : Board) (p reply : List ℕ) (k : ℕ) → k < 4
@@ -294,10 +291,10 @@ module _ (which : List ℕ → ℕ → Bool) (others : List ℕ → List ℕ →
 abbrev silent : Server
 silent d p reply =
     let x = promised d p reply in
-    cond (eqb (x .count) 16) (cond (eqb (requestOf p .enables) 0) (counted 12 x) x) x
+    cond (eqb (x .count) 16) (cond (eqb (requestOf p .enables) 0) (shows (replies d Success (requestOf p)) reply) x) x
 
 silent-reads : (place : Place) (d : Board) (p reply : List ℕ) → Reads place d p reply → requestOf p .enables ≡ 0
-    → silent d p reply ≡ counted 12 (promised d p reply)
+    → silent d p reply ≡ shows (replies d Success (requestOf p)) reply
 silent-reads place d p reply r none =
     rw (eq-eqb (promised d p reply .count) 16 (count-is r), eq-eqb (requestOf p .enables) 0 none)
 
@@ -306,6 +303,10 @@ silent-besides : (d : Board) (p reply : List ℕ) (long none : Bool) → eqb (pr
 silent-besides d p reply true true e f h = absurd (h (eqb-true _ _ e) (eqb-true _ _ f))
 silent-besides d p reply true false e f h = rw (e, f)
 silent-besides d p reply false none e f h = rw e
+
+silent-nothing : (place : Place) → ReturnsNothing place silent
+unfolding shows withoutData
+silent-nothing place d p reply r none = ap (λ (x : Seen). x .count) (silent-reads place d p reply r none)
 
 such-hiding : (which : List ℕ → ℕ → Bool) (others : List ℕ → List ℕ → ℕ → ℕ) → HidingServer which others
 such-hiding which others = (hiding which others, hiding-hides which others, hiding-right which others)
@@ -318,7 +319,7 @@ such-hiding-servers-exist =
       blank = such-hiding noneEnabled (λ p reply k. 0);
       returnsNothing = (
         silent,
-        (λ place d p reply r none. ap (λ (x : Seen). x .count) (silent-reads place d p reply r none)),
+        silent-nothing,
         record { reads = silent-reads; besides = λ d p reply. silent-besides d p reply _ _ refl refl },
       );
     }

@@ -19,7 +19,8 @@ pub enum Status {
 /// What a completion says: the status, and the data in it.
 #[derive(Clone, Copy, Debug, PartialEq, Eq, Hash)]
 pub enum Said {
-    /// Success with data: a read was done, and gave these four bytes.
+    /// Success with data: a read was done, and gave these four bytes; a board before version 0.8.0 gave 00h for those not
+    /// enabled.
     Data([u8; 4]),
     /// Success without data: a write was done.
     Done,

@@ -179,7 +179,7 @@ pub struct Heard {
     pub requester: [u8; 2],
     /// The tag of the request.
     pub tag: u8,
-    /// The four data bytes, where `said` is 1; else 0.
+    /// The four data bytes, where `said` is 1; else 0. A board before version 0.8.0 gave 00h for those not enabled.
     pub data: [u8; 4],
 }
 

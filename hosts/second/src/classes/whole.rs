@@ -99,7 +99,7 @@ fn count_read(view: &ServeView<'_>, parts: &Parts, history: &History, tally: &mu
     count_neighbours(view, parts, &read, history, tally);
 }
 
-/// Counts a read by what became before of the bytes that it does not enable.
+/// Counts a read by what became before of the bytes that tell.
 fn count_neighbours(view: &ServeView<'_>, parts: &Parts, read: &Read, history: &History, tally: &mut Tally) {
     let b = view.case.description.b as usize;
     let (changed, mark) = if read.stored_at_a.is_some() {
@@ -111,11 +111,11 @@ fn count_neighbours(view: &ServeView<'_>, parts: &Parts, read: &Read, history: &
             word(marks, parts.offset),
         )
     };
-    let others = !enabled(parts.enables);
+    let telling = u32::from_le_bytes([0, 1, 2, 3].map(|byte| if read.tells(byte) { 0xFF } else { 0x00 }));
     let due = u32::from_le_bytes(read.due);
     let mut add_if = |bits: u32, met: Neighbour| {
         let class = Neighbour::COUNT * read.place() + met as usize;
-        tally.add_if(bits & others != 0, Group::Neighbours, class);
+        tally.add_if(bits & telling != 0, Group::Neighbours, class);
     };
     add_if(changed, Neighbour::Changed);
     add_if(changed & mark & !due, Neighbour::Cleared);

@@ -150,10 +150,10 @@ fn bytes_not_enabled_left_as_the_reply_was_lent() {
 
 #[test]
 fn bytes_not_enabled_of_the_last_read() {
-    let mut last = [0x00; 4];
+    let mut last = None;
     expect_caught_returning(move |read| {
-        let data = read.with_others(last);
-        last = read.due;
+        let data = read.with_others(last.unwrap_or(read.due));
+        last = Some(read.due);
         data
     });
 }
