@@ -183,8 +183,47 @@ pub struct Heard {
     pub data: [u8; 4],
 }
 
+/// The Multicast capability of a port, seven numbers of 64 bits each. They are 0 where the reading is refused.
+///
+/// Any values may be given; [`judge`] refuses those that [`multicast`] gives for no space and offset.
+#[repr(C)]
+#[derive(Clone, Copy, Debug, Default, PartialEq, Eq, Hash)]
+pub struct Groups {
+    /// Max Group, 0 to 63.
+    pub max_group: u64,
+    /// Num Group, 0 to 63: the highest group, and not how many there are. At most Max Group.
+    pub num_group: u64,
+    /// Enable, 0 or 1.
+    pub enable: u64,
+    /// Index Position, 0 to 63, and 12 or more where Enable is 1: a group's window has two to the power of it addresses.
+    pub index: u64,
+    /// The base address, bits 63:12 in their place: the bits below are 0.
+    pub base: u64,
+    /// Receive: bit `g` is 1 where group `g` leaves by this port.
+    pub receive: u64,
+    /// Block All: bit `g` is 1 where group `g` is dropped if it enters by this port.
+    pub block_all: u64,
+}
+
+/// The answer about an address: the number, what becomes of the packet, its group, and the ports that it leaves by. Every
+/// field but the number is 0 where refused.
+#[repr(C)]
+#[derive(Clone, Copy, Debug, Default, PartialEq, Eq)]
+pub struct Judged {
+    /// Bit `k` is 1 where it leaves by port `k` of the list; 0 with every verdict but 3, and with that one it may be 0 too.
+    pub ports: u32,
+    /// 0 or 1.
+    pub number: u8,
+    /// 0: nothing, since it is refused. 1: no hit. 2: dropped where it enters. 3: it leaves.
+    pub verdict: u8,
+    /// With verdict 2 and 3 the group that is hit, 0 to 63; else 0.
+    pub group: u8,
+}
+
 mod linked {
-    use super::{Alternate, Capture, Description, Dvsec, Heard, Part, Parts, Port, Routed, Served, Walked, Written};
+    use super::{
+        Alternate, Capture, Description, Dvsec, Groups, Heard, Judged, Part, Parts, Port, Routed, Served, Walked, Written,
+    };
 
     unsafe extern "C" {
         pub(super) fn thawribbon_serve(
@@ -239,6 +278,18 @@ mod linked {
         ) -> Routed;
         pub(super) fn thawribbon_write_request(parts: Parts, buffer: *mut u8, buffer_length: usize) -> Written;
         pub(super) fn thawribbon_read_completion(completion: *const u8, completion_length: usize) -> Heard;
+        pub(super) fn thawribbon_multicast(
+            space: *const u8,
+            space_length: usize,
+            at: usize,
+            groups: *mut Groups,
+        ) -> u8;
+        pub(super) fn thawribbon_judge(
+            ports: *const Groups,
+            ports_length: usize,
+            entering: usize,
+            address: u64,
+        ) -> Judged;
     }
 }
 
@@ -475,6 +526,45 @@ pub fn read_completion(completion: &[u8]) -> Heard {
     unsafe { linked::thawribbon_read_completion(completion.as_ptr(), completion.len()) }
 }
 
+/// Reads the Multicast capability at an offset: the number, which is 0, 1, 8, 9 or 13. Every field of `groups` is written,
+/// and is 0 where refused.
+///
+/// ```
+/// use thawribbon::raw::{Groups, multicast};
+///
+/// let mut space = [0; 4096]; // four groups of 4 KiB each from 8_0000_0000h on, of which group 2 is received
+/// space[0x100..0x10C].copy_from_slice(&[0x12, 0x00, 0x01, 0x00, 0x3F, 0x00, 0x03, 0x80, 0x0C, 0x00, 0x00, 0x00]);
+/// (space[0x10C], space[0x110]) = (0x08, 0x04);
+/// let mut groups = Groups::default();
+/// assert_eq!(multicast(&space, 0x100, &mut groups), 0);
+/// let base = 0x8_0000_0000;
+/// assert_eq!(groups, Groups { max_group: 63, num_group: 3, enable: 1, index: 12, base, receive: 0b100, block_all: 0 });
+/// ```
+#[must_use = "it says whether the capability was read: the fields are 0 where it was not"]
+#[inline]
+pub fn multicast(space: &[u8], at: usize, groups: &mut Groups) -> u8 {
+    // SAFETY: the pointer goes with its slice's length, and the fields, seven numbers of 64 bits, are lent once.
+    unsafe { linked::thawribbon_multicast(space.as_ptr(), space.len(), at, groups) }
+}
+
+/// Judges an address, given the Multicast capability of each port and the place in the list of the one it enters by.
+///
+/// ```
+/// use thawribbon::raw::{Groups, Judged, judge};
+///
+/// let (base, enters) = (0x8_0000_0000, Groups { max_group: 63, num_group: 3, enable: 1, index: 12, ..Groups::default() });
+/// let ports = [Groups { base, ..enters }, Groups { receive: 0b100, ..enters }];
+/// assert_eq!(judge(&ports, 0, base + 0x2FFF), Judged { number: 0, verdict: 3, group: 2, ports: 0b10 });
+/// assert_eq!(judge(&ports, 0, base + 0x4000), Judged { number: 0, verdict: 1, group: 0, ports: 0 });
+/// assert_eq!(judge(&ports, 2, base), Judged { number: 1, verdict: 0, group: 0, ports: 0 });
+/// ```
+#[must_use = "it says what becomes of the packet, and by which ports it leaves"]
+#[inline]
+pub fn judge(ports: &[Groups], entering: usize, address: u64) -> Judged {
+    // SAFETY: the pointer goes with its slice's length, and nothing is written.
+    unsafe { linked::thawribbon_judge(ports.as_ptr(), ports.len(), entering, address) }
+}
+
 // What crosses to the linked functions: the same sizes and offsets as in hosts/c/layout.c. A wrong one ends the
 // build here.
 const _: () = {
@@ -496,4 +586,9 @@ const _: () = {
     assert!(size_of::<Written>() == 16 && offset_of!(Written, number) == 8);
     assert!(size_of::<Heard>() == 11 && offset_of!(Heard, said) == 1 && offset_of!(Heard, completer) == 2);
     assert!(offset_of!(Heard, requester) == 4 && offset_of!(Heard, tag) == 6 && offset_of!(Heard, data) == 7);
+    assert!(size_of::<Groups>() == 56 && offset_of!(Groups, num_group) == 8 && offset_of!(Groups, enable) == 16);
+    assert!(offset_of!(Groups, index) == 24 && offset_of!(Groups, base) == 32);
+    assert!(offset_of!(Groups, receive) == 40 && offset_of!(Groups, block_all) == 48);
+    assert!(size_of::<Judged>() == 8 && offset_of!(Judged, number) == 4);
+    assert!(offset_of!(Judged, verdict) == 5 && offset_of!(Judged, group) == 6);
 };
