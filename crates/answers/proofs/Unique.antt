@@ -5,7 +5,7 @@ use mathlib.Core.Path.{_≡_, refl, sym, ap, _∙_}
 use native.Mathlib.Omega.{arith}
 use lib.ListN.{getD}
 use Rattle.answers.specs.declared.Refusal.{Refusal}
-use Rattle.answers.specs.declared.Refusal.the-variants.{BadDescription, NoRoom, ShortPacket, UnknownType, WrongLength, WrongField, OtherStructure, WrongExtent, NotOneFunction, BelowFloor, ComesBack}
+use Rattle.answers.specs.declared.Refusal.the-variants.{BadDescription, NoRoom, ShortPacket, UnknownType, WrongLength, WrongField, OtherStructure, WrongExtent, NotOneFunction, BelowFloor, ComesBack, WrongGroups}
 use Rattle.answers.specs.declared.Answer.{Answer}
 use Rattle.answers.specs.declared.Answer.the-variants.{Done, Refused}
 use Rattle.answers.specs.Numbers.{numberOf, answerOf}
@@ -24,7 +24,7 @@ NoSeven = (answer : Answer) → answerOf answer ≡ 7 → ⊥
 -- the refusal that a number stands for (the first, where it stands for none)
 refusalOf : ℕ → Refusal
 refusalOf n =
-    getD (BadDescription ∷ BadDescription ∷ NoRoom ∷ ShortPacket ∷ UnknownType ∷ WrongLength ∷ WrongField ∷ BadDescription ∷ OtherStructure ∷ WrongExtent ∷ NotOneFunction ∷ BelowFloor ∷ ComesBack ∷ []) n BadDescription
+    getD (BadDescription ∷ BadDescription ∷ NoRoom ∷ ShortPacket ∷ UnknownType ∷ WrongLength ∷ WrongField ∷ BadDescription ∷ OtherStructure ∷ WrongExtent ∷ NotOneFunction ∷ BelowFloor ∷ ComesBack ∷ WrongGroups ∷ []) n BadDescription
 
 back : (r : Refusal) → refusalOf (numberOf r) ≡ r
 unfolding refusalOf
@@ -39,6 +39,7 @@ back WrongExtent = refl
 back NotOneFunction = refl
 back BelowFloor = refl
 back ComesBack = refl
+back WrongGroups = refl
 
 pub number-tells : NumberTells
 number-tells r q e = sym (back r) ∙ ap refusalOf e ∙ back q
@@ -56,6 +57,7 @@ number-positive WrongExtent e = omega arith
 number-positive NotOneFunction e = omega arith
 number-positive BelowFloor e = omega arith
 number-positive ComesBack e = omega arith
+number-positive WrongGroups e = omega arith
 
 -- "7 is no longer given": no answer has that number
 pub no-seven : NoSeven
@@ -74,6 +76,7 @@ no-seven (Refused r) e = none r e
     none NotOneFunction e = omega arith
     none BelowFloor e = omega arith
     none ComesBack e = omega arith
+    none WrongGroups e = omega arith
 
 pub answer-tells : AnswerTells
 answer-tells Done Done e = refl

@@ -16,6 +16,7 @@ pub enum Refusal {
     NotOneFunction, // 10
     BelowFloor, // 11
     ComesBack, // 12
+    WrongGroups, // 13
 }
 
 pub enum Answer {
@@ -39,6 +40,7 @@ impl Refusal {
             Refusal::NotOneFunction => 10,
             Refusal::BelowFloor => 11,
             Refusal::ComesBack => 12,
+            Refusal::WrongGroups => 13,
         }
     }
 }

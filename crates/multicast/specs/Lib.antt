@@ -1,0 +1,4 @@
+pub mod Capability
+pub mod Records
+pub mod Judging
+pub mod Inner

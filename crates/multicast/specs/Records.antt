@@ -1,0 +1,35 @@
+-- Document 02, 8/13: "the records of up to 32 ports", and "a record the reading can't give". Assumes nothing.
+use Prim.Native.Nat.{ℕ, _%_, _<_, _^_}
+use mathlib.Core.Bool.{Bool, true, not, _&&_}
+use mathlib.Core.List.{List, [], _∷_}
+use mathlib.Core.Path.{_≡_}
+use lib.Dec.{eqb, leb}
+use lib.ListN.{length}
+use Rattle.records.specs.Required.{all}
+use Rattle.multicast.specs.Capability.{maxGroup, enable, index, base, clashes, CapabilityTold, capabilitySays}
+
+-- each number is below a bound
+abbrev pub AllBelow : ℕ → List ℕ → Type 0
+AllBelow bound [] = Unit {0}
+AllBelow bound (n ∷ ns) = (n < bound) × AllBelow bound ns
+
+-- what the form of a list's records allows: seven numbers of 64 bits
+pub record Row (r : List ℕ) : Type 0 where
+  pub seven : length r ≡ 7
+  pub wide : AllBelow (2 ^ 64) r
+
+-- a record that the reading gives: for some space of bytes, and some offset
+pub record Given (r : List ℕ) : Type 0 where
+  pub space : List ℕ
+  pub bytes : AllBelow 256 space
+  pub at : ℕ
+  pub says : capabilitySays space at ≡ record { number = 0; fields = r }
+
+-- the same as a test, of a row: proofs/Given shows that it is
+unfoldable pub isRecord : List ℕ → Bool
+isRecord r =
+    all (leb (maxGroup r) 63 ∷ leb (enable r) 1 ∷ leb (index r) 63 ∷ eqb (base r % 2 ^ 12) 0 ∷ not (clashes r) ∷ [])
+
+abbrev pub areRecords : List (List ℕ) → Bool
+areRecords [] = true
+areRecords (r ∷ rs) = isRecord r && areRecords rs
