@@ -21,7 +21,11 @@ abbrev pub Hits : List ℕ → ℕ → Hit → Type 0
 Hits r address Nothing = isHit r address ≡ false
 Hits r address (Group g) = (isHit r address ≡ true) × (g ≡ groupOf r address) × (g ≤ 63)
 
+-- 1 where a group leaves by port k, else 0
+abbrev pub memberBit : List (List ℕ) → ℕ → ℕ → ℕ → ℕ
+memberBit ports entering group k = cond (isMember ports entering group k) 1 0
+
 -- the set of the ports that a group leaves by
 pub record SetOf (ports : List (List ℕ)) (entering group r : ℕ) : Type 0 where
-  pub each : (k : ℕ) → k < 32 → bit k r ≡ cond (isMember ports entering group k) 1 0
+  pub each : (k : ℕ) → k < 32 → bit k r ≡ memberBit ports entering group k
   pub most : r < 2 ^ 32

@@ -1,9 +1,9 @@
 // The walks over the lent list: whether each is a record that the reading gives, and which ports a group leaves by.
 ghost use mathlib.Core.Path.{_≡_};
-ghost use Prim.Native.Nat.{_≤_};
+ghost use Prim.Native.Nat.{_≤_, _<_};
 ghost use lib.ListN.{length};
 ghost use Rattle.multicast.specs.Records.{areRecords};
-ghost use Rattle.multicast.specs.Inner.{SetOf};
+ghost use Rattle.multicast.specs.Inner.{memberBit, SetOf};
 use super::RECEIVE;
 use super::Record;
 use super::fields;
@@ -22,7 +22,19 @@ pub(crate) fn are_records(ports: &[Record]) -> bool
     true
 }
 
-// Bit `place` is 1 where that port has the group's Receive bit and is not the one it enters by.
+// 1 where a port is another than the one that the group enters by, and has its Receive bit; else 0.
+fn member(ports: &[Record], entering: usize, group: u8, place: usize) -> u32
+    requires { ⌜ (place < length (now ports)) × (group ≤ 63) ⌝ }
+    ensures { λ r. ⌜ r ≡ memberBit (now (ports .entry)) entering group place ⌝ }
+{
+    if place == entering {
+        return 0;
+    }
+    let port = ports[place];
+    groups::bit_of(port[RECEIVE], group)
+}
+
+// The set of the ports that a group leaves by.
 pub(crate) fn leaving(ports: &[Record], entering: usize, group: u8) -> u32
     requires { ⌜ (length (now ports) ≤ 32) × (group ≤ 63) ⌝ }
     ensures { λ r. ⌜ SetOf (now (ports .entry)) entering group r ⌝ }
@@ -30,10 +42,7 @@ pub(crate) fn leaving(ports: &[Record], entering: usize, group: u8) -> u32
     let mut set = 0;
     let mut place = 0;
     while place < ports.len() {
-        if place != entering {
-            let port = ports[place];
-            set = set | groups::bit_of(port[RECEIVE], group) << place;
-        }
+        set = member(ports, entering, group, place) << place | set;
         place += 1;
     }
     set

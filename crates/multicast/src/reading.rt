@@ -2,9 +2,10 @@
 ghost use mathlib.Core.Path.{_≡_};
 ghost use Prim.Native.Nat.{_+_, _≤_};
 ghost use lib.ListN.{length};
-ghost use Rattle.multicast.specs.Capability.{long, tellsCapability, capabilitySays};
+ghost use Rattle.multicast.specs.Capability.{long, recordAt, tellsCapability, capabilitySays};
 ghost use Rattle.multicast.specs.Inner.{refusedWith};
 use super::Capability;
+use super::Record;
 use super::fields;
 use answers::Answer;
 use answers::Refusal;
@@ -42,14 +43,7 @@ pub fn read(space: &[u8], at: usize) -> Capability
     if LAST < at {
         return refused(Refusal::WrongExtent);
     }
-    let counts = words::four(space, at + 0x04);
-    let fields = fields::record_of(
-        fields::half(counts[0], counts[1]),
-        fields::half(counts[2], counts[3]),
-        long_at(space, at + 0x08),
-        long_at(space, at + 0x10),
-        long_at(space, at + 0x18),
-    );
+    let fields = record_at(space, at);
     if fields::clashes(fields) {
         return refused(Refusal::WrongGroups);
     }
@@ -57,6 +51,21 @@ pub fn read(space: &[u8], at: usize) -> Capability
         answer: Answer::Done,
         fields,
     }
+}
+
+// The record that stands at an offset.
+fn record_at(space: &[u8], at: usize) -> Record
+    requires { ⌜ at + 0x28 ≤ length (now space) ⌝ }
+    ensures { λ r. ⌜ r ≡ recordAt (now (space .entry)) at ⌝ }
+{
+    let counts = words::four(space, at + 0x04);
+    fields::record_of(
+        fields::half(counts[0], counts[1]),
+        fields::half(counts[2], counts[3]),
+        long_at(space, at + 0x08),
+        long_at(space, at + 0x10),
+        long_at(space, at + 0x18),
+    )
 }
 
 fn long_at(space: &[u8], at: usize) -> u64

@@ -1,49 +1,58 @@
+-- `multicast::fields::is_record` meets its contract: the facts are tested in order. Assumes nothing.
 use borrow.Author.Needs.{needs}
+use Prim.Native.Nat.{_%_}
+use mathlib.Core.Bool.{not}
+use mathlib.Core.Path.{sym, _∙_}
+use borrow.Author.Tests.{eq-eqb, ne-eqb, le-leb, lt-leb}
+use lib.Bits.{and-mask}
+use Rattle.records.proofs.Masks.{and-true}
+use Rattle.multicast.specs.Capability.{maxGroup, enable, index, base, clashes}
+use Rattle.multicast.specs.Records.{isRecord}
 use Rattle.multicast.proofs.fields.is_record.Statement.{statement}
 use Rattle.multicast.proofs.fields.is_record.Tie as tie
-use Rattle.multicast.proofs.fields.is_record.Reads as reads
-use Rattle.multicast.proofs.fields.is_record.Lts as lts
-use Rattle.multicast.proofs.fields.clashes.Reads as clashes-reads
 
--- src/fields.rt:82:19
 array-read-if1 : tie.Need-array-read-if1
 array-read-if1 c = search needs
 
--- src/fields.rt:83:9
 returns : tie.Need-returns
-returns c = ?
+unfolding isRecord
+returns c = rw (lt-leb (maxGroup (c .before .args .t1)) 63 (c .if1 .taken))
 
--- src/fields.rt:85:12
 array-read-if2 : tie.Need-array-read-if2
 array-read-if2 c = search needs
 
--- src/fields.rt:86:9
 returns-2 : tie.Need-returns-2
-returns-2 c = ?
+unfolding isRecord
+returns-2 c =
+    let r = c .before .before .args .t1 in rw (le-leb (maxGroup r) 63 (c .before .if1 .left), lt-leb (enable r) 1 (c .if2 .taken))
 
--- src/fields.rt:88:19
 array-read-if3 : tie.Need-array-read-if3
 array-read-if3 c = search needs
 
--- src/fields.rt:89:9
 returns-3 : tie.Need-returns-3
-returns-3 c = ?
+unfolding isRecord
+returns-3 c =
+    let r = c .before .before .before .args .t1 in
+    rw (le-leb (maxGroup r) 63 (c .before .before .if1 .left), le-leb (enable r) 1 (c .before .if2 .left), lt-leb (index r) 63 (c .if3 .taken))
 
--- src/fields.rt:91:8
 array-read-if4 : tie.Need-array-read-if4
 array-read-if4 c = search needs
 
--- src/fields.rt:92:9
 returns-4 : tie.Need-returns-4
-returns-4 c = ?
+unfolding isRecord
+returns-4 c =
+    let r = c .before .before .before .before .args .t1 in
+    rw (le-leb (maxGroup r) 63 (c .before .before .before .if1 .left), le-leb (enable r) 1 (c .before .before .if2 .left), le-leb (index r) 63 (c .before .if3 .left), ne-eqb (base r % 4096) 0 (λ e. c .if4 .taken (and-mask (base r) 12 ∙ e)))
 
--- src/fields.rt:94:6
 clashes-requires : tie.Need-clashes-requires
 clashes-requires c κs = search needs
 
--- src/fields.rt:79:1
 returns-5 : tie.Need-returns-5
-returns-5 c = ?
+unfolding isRecord
+returns-5 c =
+    let r = c .before .before .before .before .before .args .t1 in
+    rw (le-leb (maxGroup r) 63 (c .before .before .before .before .if1 .left), le-leb (enable r) 1 (c .before .before .before .if2 .left), le-leb (index r) 63 (c .before .before .if3 .left), eq-eqb (base r % 4096) 0 (sym (and-mask (base r) 12) ∙ c .before .if4 .left), c .clashes .ensures)
+    (and-true (not (clashes r)))
 
 pub is-record-spec : {M : Type 1} → statement M
 is-record-spec =

@@ -1,24 +1,23 @@
+-- `multicast::fields::record_of` meets its contract: each field by a mask or a shift. Assumes nothing.
 use borrow.Author.Needs.{needs}
+use native.Mathlib.Omega.{arith}
+use lib.Bits.{mask-lt}
+use Rattle.multicast.proofs.Joins.{six-bits, base-bits, top-bit}
 use Rattle.multicast.proofs.fields.record_of.Statement.{statement}
 use Rattle.multicast.proofs.fields.record_of.Tie as tie
-use Rattle.multicast.proofs.fields.record_of.Reads as reads
-use Rattle.multicast.proofs.fields.record_of.Lts as lts
 
--- src/fields.rt:55:9
 cast-t7 : tie.Need-cast-t7
-cast-t7 c = ?
+cast-t7 c = omega (arith, mask-lt (c .args .maximum) 6)
 
--- src/fields.rt:56:9
 cast-t9 : tie.Need-cast-t9
-cast-t9 c = ?
+cast-t9 c = omega (arith, mask-lt (c .args .control) 6)
 
--- src/fields.rt:57:9
 cast-t11 : tie.Need-cast-t11
 cast-t11 c = search needs
 
--- src/fields.rt:51:1
 returns : tie.Need-returns
-returns c = ?
+returns c =
+    rw (six-bits (c .args .maximum), six-bits (c .args .control), top-bit (c .args .control) (omega arith), six-bits (c .args .window), base-bits (c .args .window))
 
 pub record-of-spec : {M : Type 1} → statement M
 record-of-spec = tie.close (tie.spec cast-t7 cast-t9 cast-t11 returns)

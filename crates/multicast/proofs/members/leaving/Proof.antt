@@ -1,58 +1,47 @@
+-- `multicast::members::leaving` meets its contract. The loop's invariant: the set holds the members among the ports that were looked at. Assumes nothing.
+use borrow.Author.Needs.{needs}
+use Prim.Native.Nat.{_-_, _≤_}
+use mathlib.Core.Path.{subst, sym}
+use native.Mathlib.Omega.{arith}
+use lib.ListN.{length}
+use Rattle.multicast.proofs.Held.{Holds, holds-none, holds-more, holds-all}
 use Rattle.multicast.proofs.members.leaving.Statement.{statement}
 use Rattle.multicast.proofs.members.leaving.Tie as tie
-use Rattle.multicast.proofs.members.leaving.Reads as reads
-use Rattle.multicast.proofs.members.leaving.Lts as lts
-use Rattle.multicast.proofs.groups.bit_of.Reads as bit-of-reads
 
 abbrev Inv-loop : tie.InvT-loop
-Inv-loop ports entering group set₀ place₀ set place = ?
+Inv-loop ports entering group set₀ place₀ set place = (place ≤ length ports) × Holds ports entering group place set
 
 abbrev μ-loop : tie.MeasureT-loop
-μ-loop ports entering group set₀ place₀ set place = ?
+μ-loop ports entering group set₀ place₀ set place = length ports - place
 
--- src/members.rt:32:5
 loop-holds : tie.Need-loop-holds Inv-loop μ-loop
-loop-holds c = ?
+loop-holds c = (omega arith, holds-none _ _ _)
 
--- src/members.rt:34:24
-mul-port : tie.Need-mul-port Inv-loop μ-loop
-mul-port c = ?
+member-requires : tie.Need-member-requires Inv-loop μ-loop
+member-requires c κs = (c .loop-test .taken, c .before .before .pre .1)
 
--- src/members.rt:34:24
-shared-slice-copy-out-port : tie.Need-shared-slice-copy-out-port Inv-loop μ-loop
-shared-slice-copy-out-port c = ?
-
--- src/members.rt:35:40
-array-read-bit-of : tie.Need-array-read-bit-of Inv-loop μ-loop
-array-read-bit-of c = ?
-
--- src/members.rt:35:25
-bit-of-requires : tie.Need-bit-of-requires Inv-loop μ-loop
-bit-of-requires c κs = ?
-
--- src/members.rt:35:65
 cast-set : tie.Need-cast-set Inv-loop μ-loop
-cast-set c = ?
+cast-set c = let l = c .before .before .loop in omega (arith, l .inv .0, c .before .before .before .pre .0)
 
--- src/members.rt:35:25
 shl-set : tie.Need-shl-set Inv-loop μ-loop
-shl-set c = ?
+shl-set c = let l = c .before .before .loop in omega (arith, l .inv .0, c .before .loop-test .taken, c .before .before .before .pre .0)
 
--- src/members.rt:37:9
 add-place : tie.Need-add-place Inv-loop μ-loop
-add-place c = ?
+add-place c = search needs
 
--- src/members.rt:32:5
 loop-less : tie.Need-loop-less Inv-loop μ-loop
-loop-less c = ?
+loop-less c = search needs
 
--- src/members.rt:32:5
 loop-again : tie.Need-loop-again Inv-loop μ-loop
-loop-again c = ?
+loop-again c =
+    let l = c .before .before .loop in
+    let less = c .before .loop-test .taken in
+    (omega arith, rw (c .member .ensures) (holds-more _ _ _ (l .place) (l .set) (omega (arith, less, c .before .before .before .pre .0)) (l .inv .1)))
 
--- src/members.rt:26:1
 returns : tie.Need-returns Inv-loop μ-loop
-returns c = ?
+returns c =
+    let l = c .before .loop in
+    holds-all _ _ _ (l .place) (l .set) (c .before .before .pre .0) (omega (arith, l .inv .0)) (l .inv .1)
 
 pub leaving-spec : {M : Type 1} → statement M
 leaving-spec =
@@ -61,10 +50,7 @@ leaving-spec =
     Inv-loop
     μ-loop
     loop-holds
-    mul-port
-    shared-slice-copy-out-port
-    array-read-bit-of
-    bit-of-requires
+    member-requires
     cast-set
     shl-set
     add-place

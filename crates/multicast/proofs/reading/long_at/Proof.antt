@@ -1,30 +1,28 @@
+-- `multicast::reading::long_at` meets its contract: two words that lie in the space are joined. Assumes nothing.
 use borrow.Author.Needs.{needs}
+use mathlib.Core.Path.{ap₂, _∙_}
+use native.Mathlib.Omega.{arith}
+use Rattle.words.proofs.Laws.{word-inside}
+use Rattle.multicast.specs.Capability.{longOf}
 use Rattle.multicast.proofs.reading.long_at.Statement.{statement}
 use Rattle.multicast.proofs.reading.long_at.Tie as tie
-use Rattle.multicast.proofs.reading.long_at.Reads as reads
-use Rattle.multicast.proofs.reading.long_at.Lts as lts
-use Rattle.multicast.proofs.fields.long.Reads as long-reads
-use Rattle.words.proofs.word.Reads as word-reads
 
--- src/reading.rt:66:18
 word-requires : tie.Need-word-requires
 word-requires c κs = search needs
 
--- src/reading.rt:66:61
 add-word : tie.Need-add-word
 add-word c = search needs
 
--- src/reading.rt:66:42
 word-requires-2 : tie.Need-word-requires-2
 word-requires-2 c κs = search needs
 
--- src/reading.rt:66:5
 long-requires : tie.Need-long-requires
 long-requires c κs = search needs
 
--- src/reading.rt:62:1
 returns : tie.Need-returns
-returns c = ?
+returns c =
+    c .long .ensures
+    ∙ ap₂ longOf (c .before .before .word .ensures ∙ word-inside _ _ (omega arith)) (c .before .word2 .ensures ∙ word-inside _ _ (omega arith))
 
 pub long-at-spec : {M : Type 1} → statement M
 long-at-spec = tie.close (tie.spec word-requires add-word word-requires-2 long-requires returns)

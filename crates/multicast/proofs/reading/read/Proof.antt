@@ -1,137 +1,130 @@
+-- `multicast::read` meets its contract: each way out gives the number of the first fact that is missing. Assumes nothing.
 use borrow.Author.Needs.{needs}
+use Prim.Native.Nat.{ℕ, _+_}
+use mathlib.Core.Bool.{true, false}
+use mathlib.Core.List.{List}
+use mathlib.Core.Path.{_≡_, refl, sym, ap, _∙_}
+use native.Mathlib.Omega.{arith}
+use borrow.Author.Tests.{not-true, not-false, lt-leb, le-leb}
+use lib.Dec.{leb}
+use Rattle.words.specs.Fields.{word}
+use Rattle.words.specs.Places.{placed}
+use Rattle.words.proofs.Laws.{Place, placed-true}
+use Rattle.records.proofs.Masks.{word-read}
+use Rattle.records.proofs.Told.{sized-true, sized-false}
+use Rattle.multicast.specs.declared.Capability.{Capability}
+use Rattle.multicast.specs.Capability.{isMulticast, clashes, recordAt, tellsCapability}
+use Rattle.multicast.proofs.Told.{capability-refused, capability-found, capability-number}
 use Rattle.multicast.proofs.reading.read.Statement.{statement}
 use Rattle.multicast.proofs.reading.read.Tie as tie
-use Rattle.multicast.proofs.reading.read.Reads as reads
-use Rattle.multicast.proofs.reading.read.Lts as lts
-use Rattle.multicast.proofs.fields.clashes.Reads as clashes-reads
-use Rattle.multicast.proofs.fields.half.Reads as half-reads
-use Rattle.multicast.proofs.fields.is_multicast.Reads as is-multicast-reads
-use Rattle.multicast.proofs.fields.record_of.Reads as record-of-reads
-use Rattle.multicast.proofs.reading.long_at.Reads as long-at-reads
-use Rattle.multicast.proofs.reading.refused.Reads as refused-reads
-use Rattle.words.proofs.four.Reads as four-reads
-use Rattle.words.proofs.placed.Reads as placed-reads
-use Rattle.words.proofs.word.Reads as word-reads
 
--- src/reading.rt:34:9
+-- the space and the offset, past the test of the place
+abbrev space : tie.Else2 → List ℕ
+space c = c .before .before .before .before .args .space .now
+
+abbrev at : tie.Else2 → ℕ
+at c = c .before .before .before .before .args .at
+
+-- what is known past the test of the place
+is-placed : (c : tie.Else2) → placed (at c) 0x100 0xffc ≡ true
+is-placed c = sym (c .before .placed .ensures) ∙ not-false _ (c .if2 .left)
+
+place : (c : tie.Else2) → Place (at c) 0x100 0xffc
+place c = placed-true _ 0x100 0xffc (is-placed c)
+
+-- what the code tests is the word that stands there
+tested : (c : tie.After-is-multicast) → c .is-multicast .result ≡ isMulticast (word (space (c .before .before)) (at (c .before .before)))
+tested c = c .is-multicast .ensures ∙ ap isMulticast (word-read _ _ (c .before .before .before .before .if1 .left) (place (c .before .before) .aligned) (c .before .word .ensures))
+
+-- what is known past the test of the structure
+is-one : (c : tie.Else3) → isMulticast (word (space (c .before .before .before)) (at (c .before .before .before))) ≡ true
+is-one c = sym (tested (c .before)) ∙ not-false _ (c .if3 .left)
+
+-- and past that of what is left
+has-room : (c : tie.Else4) → leb (at (c .before .before .before .before) + 0x28) 0x1000 ≡ true
+has-room c = le-leb (at (c .before .before .before .before) + 0x28) 0x1000 (omega arith)
+
+-- what the code tests is the record that stands there
+clash : (c : tie.After-clashes)
+    → c .clashes .result ≡ clashes (recordAt (space (c .before .before .before .before .before .before)) (at (c .before .before .before .before .before .before)))
+clash c = c .clashes .ensures ∙ ap clashes (c .before .record-at .ensures)
+
+told : {r : Capability} (q : Capability) → r ≡ q → tellsCapability r ≡ tellsCapability q
+told q e = ap tellsCapability e
+
 refused-requires : tie.Need-refused-requires
 refused-requires c κs = search needs
 
--- src/reading.rt:34:9
 returns : tie.Need-returns
-returns c = ?
+returns c =
+    told _ (c .refused .ensures) ∙ capability-refused _ _ 1 refl (capability-number _ _ (sized-false _ (c .before .if1 .taken)) refl refl refl refl)
 
--- src/reading.rt:36:9
 placed-requires : tie.Need-placed-requires
 placed-requires c κs = search needs
 
--- src/reading.rt:37:9
 refused-requires-2 : tie.Need-refused-requires-2
 refused-requires-2 c κs = search needs
 
--- src/reading.rt:37:9
 returns-2 : tie.Need-returns-2
-returns-2 c = ?
+returns-2 c =
+    let t = c .before in
+    told _ (c .refused2 .ensures)
+    ∙ capability-refused _ _ 1 refl (capability-number _ _ (sized-true _ (t .before .before .if1 .left)) (sym (t .before .placed .ensures) ∙ not-true _ (t .if2 .taken)) refl refl refl)
 
--- src/reading.rt:39:30
 word-requires : tie.Need-word-requires
 word-requires c κs = search needs
 
--- src/reading.rt:39:9
 is-multicast-requires : tie.Need-is-multicast-requires
 is-multicast-requires c κs = search needs
 
--- src/reading.rt:40:9
 refused-requires-3 : tie.Need-refused-requires-3
 refused-requires-3 c κs = search needs
 
--- src/reading.rt:40:9
 returns-3 : tie.Need-returns-3
-returns-3 c = ?
+returns-3 c =
+    let t = c .before in
+    let p = t .before .before .before in
+    told _ (c .refused3 .ensures)
+    ∙ capability-refused _ _ 8 refl
+    (capability-number _ _ (sized-true _ (p .before .before .if1 .left)) (is-placed p) (sym (tested (t .before)) ∙ not-true _ (t .if3 .taken)) refl refl)
 
--- src/reading.rt:43:9
 refused-requires-4 : tie.Need-refused-requires-4
 refused-requires-4 c κs = search needs
 
--- src/reading.rt:43:9
 returns-4 : tie.Need-returns-4
-returns-4 c = ?
+returns-4 c =
+    let q = c .before .before in
+    let p = q .before .before .before in
+    told _ (c .refused4 .ensures)
+    ∙ capability-refused _ _ 9 refl
+    (capability-number _ _ (sized-true _ (p .before .before .if1 .left)) (is-placed p) (is-one q) (lt-leb (at p + 0x28) 0x1000 (omega (arith, place p .aligned))) refl)
 
--- src/reading.rt:45:37
-add-four : tie.Need-add-four
-add-four c = search needs
+record-at-requires : tie.Need-record-at-requires
+record-at-requires c κs = omega arith
 
--- src/reading.rt:45:18
-four-requires : tie.Need-four-requires
-four-requires c κs = search needs
-
--- src/reading.rt:47:22
-array-read-half : tie.Need-array-read-half
-array-read-half c = search needs
-
--- src/reading.rt:47:33
-array-read-half-2 : tie.Need-array-read-half-2
-array-read-half-2 c = search needs
-
--- src/reading.rt:47:9
-half-requires : tie.Need-half-requires
-half-requires c κs = search needs
-
--- src/reading.rt:48:22
-array-read-half-3 : tie.Need-array-read-half-3
-array-read-half-3 c = search needs
-
--- src/reading.rt:48:33
-array-read-half-4 : tie.Need-array-read-half-4
-array-read-half-4 c = search needs
-
--- src/reading.rt:48:9
-half-requires-2 : tie.Need-half-requires-2
-half-requires-2 c κs = search needs
-
--- src/reading.rt:49:24
-add-long-at : tie.Need-add-long-at
-add-long-at c = search needs
-
--- src/reading.rt:49:9
-long-at-requires : tie.Need-long-at-requires
-long-at-requires c κs = search needs
-
--- src/reading.rt:50:24
-add-long-at-2 : tie.Need-add-long-at-2
-add-long-at-2 c = search needs
-
--- src/reading.rt:50:9
-long-at-requires-2 : tie.Need-long-at-requires-2
-long-at-requires-2 c κs = search needs
-
--- src/reading.rt:51:24
-add-long-at-3 : tie.Need-add-long-at-3
-add-long-at-3 c = search needs
-
--- src/reading.rt:51:9
-long-at-requires-3 : tie.Need-long-at-requires-3
-long-at-requires-3 c κs = search needs
-
--- src/reading.rt:46:9
-record-of-requires : tie.Need-record-of-requires
-record-of-requires c κs = search needs
-
--- src/reading.rt:53:8
 clashes-requires : tie.Need-clashes-requires
 clashes-requires c κs = search needs
 
--- src/reading.rt:54:9
 refused-requires-5 : tie.Need-refused-requires-5
 refused-requires-5 c κs = search needs
 
--- src/reading.rt:54:9
 returns-5 : tie.Need-returns-5
-returns-5 c = ?
+returns-5 c =
+    let t = c .before in
+    let l = t .before .before .before in
+    let q = l .before in
+    let p = q .before .before .before in
+    told _ (c .refused5 .ensures)
+    ∙ capability-refused _ _ 13 refl
+    (capability-number _ _ (sized-true _ (p .before .before .if1 .left)) (is-placed p) (is-one q) (has-room l) (sym (clash (t .before)) ∙ t .if5 .taken))
 
--- src/reading.rt:30:1
 returns-6 : tie.Need-returns-6
-returns-6 c = ?
+returns-6 c =
+    let l = c .before .before .before in
+    let q = l .before in
+    let p = q .before .before .before in
+    rw (c .before .before .record-at .ensures)
+    (capability-found _ _ (capability-number _ _ (sized-true _ (p .before .before .if1 .left)) (is-placed p) (is-one q) (has-room l) (sym (clash (c .before)) ∙ c .if5 .left)))
 
 pub read-spec : {M : Type 1} → statement M
 read-spec =
@@ -148,21 +141,7 @@ read-spec =
     returns-3
     refused-requires-4
     returns-4
-    add-four
-    four-requires
-    array-read-half
-    array-read-half-2
-    half-requires
-    array-read-half-3
-    array-read-half-4
-    half-requires-2
-    add-long-at
-    long-at-requires
-    add-long-at-2
-    long-at-requires-2
-    add-long-at-3
-    long-at-requires-3
-    record-of-requires
+    record-at-requires
     clashes-requires
     refused-requires-5
     returns-5
