@@ -46,3 +46,13 @@ record-fields r e =
       most = leb-true (index r) 63 (c .0);
       aligned = eqb-true (base r % 4096) 0 (d .0);
     }
+
+-- and it has no numbers that do not go together
+pub record-clear : (r : List ℕ) → isRecord r ≡ true → clashes r ≡ false
+unfolding isRecord
+record-clear r e =
+    let a = both (leb (maxGroup r) 63) _ e in
+    let b = both (leb (enable r) 1) _ (a .1) in
+    let c = both (leb (index r) 63) _ (b .1) in
+    let d = both (eqb (base r % 4096) 0) _ (c .1) in
+    not-true _ (both (not (clashes r)) true (d .1) .0)

@@ -1,8 +1,13 @@
 pub mod Facts
+pub mod Given
 pub mod Held
 pub mod Joins
 pub mod Judgments
+pub mod Numbers
 pub mod Sets
 pub mod Stands
 pub mod Told
+pub mod Unique
 pub mod Walks
+pub mod Windows
+pub mod Written
