@@ -1,9 +1,12 @@
+pub mod Alike
+pub mod Besides
 pub mod Facts
 pub mod Given
 pub mod Held
 pub mod Joins
 pub mod Judgments
 pub mod Numbers
+pub mod Refusals
 pub mod Sets
 pub mod Stands
 pub mod Told
