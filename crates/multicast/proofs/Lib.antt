@@ -1,5 +1,6 @@
 pub mod Alike
 pub mod Besides
+pub mod Edges
 pub mod Facts
 pub mod Given
 pub mod Held

@@ -28,7 +28,7 @@ one-of n (List·Memᴰ·tail (List·Memᴰ·tail m)) = List·Memᴰ·tail m
 positive : (s : List ℕ) (at : ℕ) → Positive (capabilityChecks s at)
 positive s at = omega arith
 
-number-says : (s : List ℕ) (at : ℕ)
+pub number-says : (s : List ℕ) (at : ℕ)
     → First (capabilityChecks s at) (capabilitySays s at .number) × List·Memᴰ (capabilitySays s at .number) (0 ∷ 1 ∷ 8 ∷ 9 ∷ 13 ∷ [])
 unfolding capabilitySays capabilityNumber
 number-says s at = (gives-first (capabilityChecks s at) (positive s at), one-of _ (gives-one-of (capabilityChecks s at)))
