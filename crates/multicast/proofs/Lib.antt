@@ -15,3 +15,4 @@ pub mod Unique
 pub mod Walks
 pub mod Windows
 pub mod Written
+pub mod Wrong
