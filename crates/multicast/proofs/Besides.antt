@@ -3,10 +3,10 @@
 -- All counts only where the packet enters. Of another port's record nothing but Receive counts, where both lists are good ones. With Enable clear at the
 -- port that it enters by, there is no hit, whatever the rest holds. Assumes nothing.
 use Prim.Native.Nat.{ℕ, _<_}
-use mathlib.Core.Bool.{Bool, true, false, cond}
+use mathlib.Core.Bool.{Bool, false}
 use mathlib.Core.List.{List}
 use mathlib.Core.Logic.{⊎-elim}
-use mathlib.Core.Path.{_≡_, refl, sym, ap, ap₂, subst, _∙_}
+use mathlib.Core.Path.{_≡_, refl, sym, ap, ap₂, _∙_}
 use native.Mathlib.Omega.{arith}
 use borrow.Author.Tests.{eq-eqb}
 use lib.ListN.{length, getD}
@@ -14,8 +14,7 @@ use Rattle.words.specs.Fields.{bit}
 use Rattle.multicast.specs.declared.Judged.{Judged}
 use Rattle.multicast.specs.declared.Judged.the-variants.{NoHit, Leaves}
 use Rattle.multicast.specs.Capability.{enable, receive}
-use Rattle.multicast.specs.Judging.{portAt, isBad, isHit, Verdict, unsaid, noHit, dropped, leaves, JudgedTold, enteringBy, judged, isMember, leavesBit, leavesBy, tellsJudged, portsOf, Judges}
-use Rattle.multicast.specs.Inner.{memberBit}
+use Rattle.multicast.specs.Judging.{portAt, isBad, isHit, Verdict, unsaid, noHit, dropped, leaves, JudgedTold, judged, isMember, leavesBit, leavesBy, tellsJudged, portsOf, Judges}
 use Rattle.multicast.proofs.Alike.{Sound, bad-alike, entering-alike, judged-alike, member-alike, member-itself}
 use Rattle.multicast.proofs.Held.{member-other}
 use Rattle.multicast.proofs.Judgments.{judges-no-hit, leaves-good, good-length}

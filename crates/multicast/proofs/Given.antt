@@ -9,14 +9,13 @@ use mathlib.Core.Path.{_≡_, refl, sym, ap, subst, _∙_}
 use native.Mathlib.Nat.{mod-lt}
 use native.Mathlib.Omega.{arith}
 use borrow.Author.Tests.{le-leb, eq-eqb}
-use lib.ListN.{length, getD}
 use Rattle.answers.specs.Checks.{check}
 use Rattle.answers.proofs.Checks.{none-applies}
 use Rattle.words.specs.Bytes.{byte}
 use Rattle.words.specs.Fields.{bits, word}
-use Rattle.multicast.specs.Capability.{maxGroup, numGroup, enable, index, base, clashes, long, longOf, recordOf, recordAt, CapabilityTold, capabilityChecks, capabilityNumber, capabilitySays}
+use Rattle.multicast.specs.Capability.{maxGroup, enable, index, base, clashes, long, longOf, recordAt, CapabilityTold, capabilityChecks, capabilityNumber, capabilitySays}
 use Rattle.multicast.specs.Records.{AllBelow, Row, Given, isRecord}
-use Rattle.multicast.proofs.Facts.{Fields, record-fields, record-clear}
+use Rattle.multicast.proofs.Facts.{record-fields, record-clear}
 use Rattle.multicast.proofs.Written.{spaceWith, below-space, written-found}
 
 -- the statement

@@ -3,7 +3,6 @@ use Prim.Native.Nat.{ℕ}
 use mathlib.Core.List.{List}
 use mathlib.Core.Path.{_≡_, refl, sym, ap, ap₂, _∙_}
 use native.Mathlib.Omega.{arith}
-use Rattle.answers.specs.Numbers.{numberOf}
 use Rattle.answers.proofs.Unique.{answer-tells, number-tells}
 use Rattle.multicast.specs.declared.Capability.{Capability}
 use Rattle.multicast.specs.declared.Judged.{Judged}

@@ -10,7 +10,7 @@ use lib.Pow.{high, low}
 use Rattle.words.specs.Fields.{bits, bit, joined, word}
 use Rattle.words.specs.Places.{placed}
 use Rattle.records.specs.Required.{sized}
-use Rattle.multicast.specs.Capability.{maxGroup, numGroup, enable, index, base, receive, blockAll, isMulticast, halfOf, longOf, recordOf, recordAt, clashes, CapabilityTold, capabilitySays}
+use Rattle.multicast.specs.Capability.{maxGroup, numGroup, enable, index, base, receive, blockAll, isMulticast, halfOf, longOf, recordOf, recordAt, clashes, capabilitySays}
 use Rattle.multicast.specs.Records.{AllBelow, Row}
 use Rattle.multicast.proofs.Facts.{Fields}
 use Rattle.multicast.proofs.Stands.{record-stands}

@@ -6,7 +6,7 @@ use mathlib.Core.Path.{_≡_}
 use lib.Dec.{eqb, leb}
 use lib.ListN.{length}
 use Rattle.records.specs.Required.{all}
-use Rattle.multicast.specs.Capability.{maxGroup, enable, index, base, clashes, CapabilityTold, capabilitySays}
+use Rattle.multicast.specs.Capability.{maxGroup, enable, index, base, clashes, capabilitySays}
 
 -- each number is below a bound
 abbrev pub AllBelow : ℕ → List ℕ → Type 0

@@ -6,8 +6,8 @@ use mathlib.Core.List.{List, [], _∷_, List·Memᴰ}
 use mathlib.Core.Path.{_≡_, refl, sym, ap, subst, _∙_}
 use Rattle.answers.proofs.Checks.{First}
 use Rattle.words.specs.Fields.{bit}
-use Rattle.multicast.specs.Capability.{CapabilityTold, capabilityChecks, capabilitySays}
-use Rattle.multicast.specs.Judging.{Verdict, unsaid, noHit, dropped, leaves, JudgedTold, judged, leavesBy, tellsJudged, portsOf, Judges}
+use Rattle.multicast.specs.Capability.{CapabilityTold, capabilityChecks}
+use Rattle.multicast.specs.Judging.{Verdict, unsaid, noHit, dropped, leaves, JudgedTold, judged, leavesBy, tellsJudged, portsOf}
 use Rattle.multicast.specs.declared.Judged.{Judged}
 use Rattle.multicast.specs.declared.Judged.the-variants.{Refused, NoHit, Dropped, Leaves}
 use Rattle.multicast.proofs.Numbers.{number-says}

@@ -2,7 +2,7 @@
 use borrow.Author.Needs.{needs}
 use native.Mathlib.Omega.{arith}
 use lib.Bits.{mask-lt}
-use Rattle.multicast.proofs.Joins.{six-bits, base-bits, top-bit}
+use Rattle.multicast.proofs.Joins.{record-made}
 use Rattle.multicast.proofs.fields.record_of.Statement.{statement}
 use Rattle.multicast.proofs.fields.record_of.Tie as tie
 
@@ -16,8 +16,7 @@ cast-t11 : tie.Need-cast-t11
 cast-t11 c = search needs
 
 returns : tie.Need-returns
-returns c =
-    rw (six-bits (c .args .maximum), six-bits (c .args .control), top-bit (c .args .control) (omega arith), six-bits (c .args .window), base-bits (c .args .window))
+returns c = let a = c .args in record-made (a .maximum) (a .control) (a .window) (a .receive) (a .block-all) (omega arith)
 
 pub record-of-spec : {M : Type 1} → statement M
 record-of-spec = tie.close (tie.spec cast-t7 cast-t9 cast-t11 returns)

@@ -1,7 +1,6 @@
 -- `multicast::members::leaving` meets its contract. The loop's invariant: the set holds the members among the ports that were looked at. Assumes nothing.
 use borrow.Author.Needs.{needs}
 use Prim.Native.Nat.{_-_, _≤_}
-use mathlib.Core.Path.{subst, sym}
 use native.Mathlib.Omega.{arith}
 use lib.ListN.{length}
 use Rattle.multicast.proofs.Held.{Holds, holds-none, holds-more, holds-all}
