@@ -14,25 +14,25 @@ use Rattle.multicast.specs.declared.Capability.{Capability}
 
 -- a record is seven numbers, in the order in which the request names its fields
 abbrev pub maxGroup : List ℕ → ℕ
-maxGroup r = getD r 0 0
+maxGroup fields = getD fields 0 0
 
 abbrev pub numGroup : List ℕ → ℕ
-numGroup r = getD r 1 0
+numGroup fields = getD fields 1 0
 
 abbrev pub enable : List ℕ → ℕ
-enable r = getD r 2 0
+enable fields = getD fields 2 0
 
 abbrev pub index : List ℕ → ℕ
-index r = getD r 3 0
+index fields = getD fields 3 0
 
 abbrev pub base : List ℕ → ℕ
-base r = getD r 4 0
+base fields = getD fields 4 0
 
 abbrev pub receive : List ℕ → ℕ
-receive r = getD r 5 0
+receive fields = getD fields 5 0
 
 abbrev pub blockAll : List ℕ → ℕ
-blockAll r = getD r 6 0
+blockAll fields = getD fields 6 0
 
 -- "ID 0012h, version 1", of the header there: document 01, "ID 15:0, version 19:16"
 unfoldable pub isMulticast : ℕ → Bool
@@ -69,11 +69,11 @@ recordAt s at = recordOf (half s (at + 4)) (half s (at + 6)) (long s (at + 8)) (
 
 -- "while enabled"
 abbrev pub isEnabled : List ℕ → Bool
-isEnabled r = not (eqb (enable r) 0)
+isEnabled fields = not (eqb (enable fields) 0)
 
 -- "Num Group over Max Group, or index under 12 while enabled"
 unfoldable pub clashes : List ℕ → Bool
-clashes r = any (ltb (maxGroup r) (numGroup r) ∷ (isEnabled r && ltb (index r) 12) ∷ [])
+clashes fields = any (ltb (maxGroup fields) (numGroup fields) ∷ (isEnabled fields && ltb (index fields) 12) ∷ [])
 
 -- "asked for at the same offsets as a DVSEC", which document 01 has: a multiple of 4 from 100h to FFCh, else 1. "Not this structure: 8; fewer than 28h
 -- bytes left: 9; [these two]: 13." What is required, in that order, and the number
@@ -100,7 +100,7 @@ noFields = 0 ∷ 0 ∷ 0 ∷ 0 ∷ 0 ∷ 0 ∷ 0 ∷ []
 
 -- what an answer tells
 abbrev pub tellsCapability : Capability → CapabilityTold
-tellsCapability c = record { number = answerOf (c .answer); fields = c .fields }
+tellsCapability read = record { number = answerOf (read .answer); fields = read .fields }
 
 -- what the request says of the capability asked for
 unfoldable pub capabilitySays : List ℕ → ℕ → CapabilityTold

@@ -24,11 +24,11 @@ isBad ports entering = any (ltb 32 (length ports) ∷ leb (length ports) enterin
 
 -- "group floor((address − base) / 2^index)"
 abbrev pub groupOf : List ℕ → ℕ → ℕ
-groupOf r address = (address - base r) / 2 ^ index r
+groupOf port address = (address - base port) / 2 ^ index port
 
 -- "With the entering port's Enable set, an address at or above the base hits [this] group [..] if that is at most Num Group."
 unfoldable pub isHit : List ℕ → ℕ → Bool
-isHit r address = all (isEnabled r ∷ leb (base r) address ∷ leb (groupOf r address) (numGroup r) ∷ [])
+isHit port address = all (isEnabled port ∷ leb (base port) address ∷ leb (groupOf port address) (numGroup port) ∷ [])
 
 -- a register's bit for a group is set
 abbrev pub isSet : ℕ → ℕ → Bool
@@ -48,15 +48,15 @@ pub record JudgedTold : Type 0 where
   pub group : ℕ
 
 abbrev pub told : ℕ → Verdict → ℕ → JudgedTold
-told n v g = record { number = n; verdict = v; group = g }
+told number verdict group = record { number = number; verdict = verdict; group = group }
 
 -- "A packet is dropped where it enters if that port's Block All bit for the group is set; else it leaves [..]": of a packet that hits this group
 abbrev pub ofGroup : List ℕ → ℕ → JudgedTold
-ofGroup r group = cond (isSet group (blockAll r)) (told 0 dropped group) (told 0 leaves group)
+ofGroup port group = cond (isSet group (blockAll port)) (told 0 dropped group) (told 0 leaves group)
 
 -- "No hit is an answer of its own." What is said of a packet that enters by a port with this record
 unfoldable pub enteringBy : List ℕ → ℕ → JudgedTold
-enteringBy r address = cond (isHit r address) (ofGroup r (groupOf r address)) (told 0 noHit 0)
+enteringBy port address = cond (isHit port address) (ofGroup port (groupOf port address)) (told 0 noHit 0)
 
 unfoldable pub judged : List (List ℕ) → ℕ → ℕ → JudgedTold
 judged ports entering address = cond (isBad ports entering) (told 1 unsaid 0) (enteringBy (portAt ports entering) address)

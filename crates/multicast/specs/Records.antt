@@ -11,25 +11,25 @@ use Rattle.multicast.specs.Capability.{maxGroup, enable, index, base, cl
 -- each number is below a bound
 abbrev pub AllBelow : ℕ → List ℕ → Type 0
 AllBelow bound [] = Unit {0}
-AllBelow bound (n ∷ ns) = (n < bound) × AllBelow bound ns
+AllBelow bound (n ∷ numbers) = (n < bound) × AllBelow bound numbers
 
 -- what the form of a list's records allows: seven numbers of 64 bits
-pub record Row (r : List ℕ) : Type 0 where
-  pub seven : length r ≡ 7
-  pub wide : AllBelow (2 ^ 64) r
+pub record Row (numbers : List ℕ) : Type 0 where
+  pub seven : length numbers ≡ 7
+  pub wide : AllBelow (2 ^ 64) numbers
 
 -- a record that the reading gives: for some space of bytes, and some offset
-pub record Given (r : List ℕ) : Type 0 where
+pub record Given (numbers : List ℕ) : Type 0 where
   pub space : List ℕ
   pub bytes : AllBelow 256 space
   pub at : ℕ
-  pub says : capabilitySays space at ≡ record { number = 0; fields = r }
+  pub says : capabilitySays space at ≡ record { number = 0; fields = numbers }
 
 -- the same as a test, of a row: proofs/Given shows that it is
 unfoldable pub isRecord : List ℕ → Bool
-isRecord r =
-    all (leb (maxGroup r) 63 ∷ leb (enable r) 1 ∷ leb (index r) 63 ∷ eqb (base r % 2 ^ 12) 0 ∷ not (clashes r) ∷ [])
+isRecord fields =
+    all (leb (maxGroup fields) 63 ∷ leb (enable fields) 1 ∷ leb (index fields) 63 ∷ eqb (base fields % 2 ^ 12) 0 ∷ not (clashes fields) ∷ [])
 
 abbrev pub areRecords : List (List ℕ) → Bool
 areRecords [] = true
-areRecords (r ∷ rs) = isRecord r && areRecords rs
+areRecords (port ∷ ports) = isRecord port && areRecords ports
