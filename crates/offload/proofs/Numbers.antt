@@ -25,7 +25,7 @@ code leaves = 3
 -- the statements
 abbrev pub HostMulticastNumber : Type 0
 HostMulticastNumber =
-    (s : List ℕ) (at r : ℕ) (after : List ℕ) → HostReads s at r after
+    (s : List ℕ) (at r : ℕ) (lent after : List ℕ) → HostReads s at lent r after
     → First (capabilityChecks s at) r × List·Memᴰ r (0 ∷ 1 ∷ 8 ∷ 9 ∷ 13 ∷ [])
 
 pub record HostTold (ports : List (List ℕ)) (entering address : ℕ) (r : HostJudged) : Type 0 where
@@ -43,7 +43,7 @@ HostRefusedNothing =
     → r ≡ record { ports = 0; number = 1; verdict = 0; group = 0 }
 
 pub host-multicast-number : HostMulticastNumber
-host-multicast-number s at r after e =
+host-multicast-number s at r lent after e =
     subst (λ (n : ℕ). First (capabilityChecks s at) n × List·Memᴰ n (0 ∷ 1 ∷ 8 ∷ 9 ∷ 13 ∷ [])) (sym (ap (λ (t : CapabilityTold). t .number) e)) (number-says s at)
 
 -- ---- an answer, as a host is told it

@@ -9,14 +9,15 @@ use Rattle.offload.specs.Judges.{HostReads, toldJudged, HostJudges}
 
 -- the statements
 abbrev pub HostMulticastUnique : Type 0
-HostMulticastUnique = (s : List ℕ) (at r q : ℕ) (l m : List ℕ) → HostReads s at r l → HostReads s at q m → (r ≡ q) × (l ≡ m)
+HostMulticastUnique =
+    (s : List ℕ) (at r q : ℕ) (lent l m : List ℕ) → HostReads s at lent r l → HostReads s at lent q m → (r ≡ q) × (l ≡ m)
 
 abbrev pub HostJudgeUnique : Type 0
 HostJudgeUnique =
     (ports : List (List ℕ)) (entering address : ℕ) (r q : HostJudged) → HostJudges ports entering address r → HostJudges ports entering address q → r ≡ q
 
 pub host-multicast-unique : HostMulticastUnique
-host-multicast-unique s at r q l m e f =
+host-multicast-unique s at r q lent l m e f =
     let same : _≡_ {A = CapabilityTold} (record { number = r; fields = l }) (record { number = q; fields = m }) = e ∙ sym f in
     (ap (λ (t : CapabilityTold). t .number) same, ap (λ (t : CapabilityTold). t .fields) same)
 

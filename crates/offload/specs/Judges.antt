@@ -9,9 +9,9 @@ use Rattle.multicast.specs.declared.Judged.{Judged}
 use Rattle.multicast.specs.declared.Judged.the-variants.{Refused, NoHit, Dropped, Leaves}
 use Rattle.offload.specs.declared.HostJudged.{HostJudged}
 
--- the space, the offset, the number that comes back, and the seven numbers afterwards, whatever they were
-abbrev pub HostReads : List ℕ → ℕ → ℕ → List ℕ → Type 0
-HostReads s at r after = _≡_ {A = CapabilityTold} (record { number = r; fields = after }) (capabilitySays s at)
+-- the space, the offset, the seven numbers as lent, which do not count, the number that comes back, and the seven afterwards
+abbrev pub HostReads : List ℕ → ℕ → List ℕ → ℕ → List ℕ → Type 0
+HostReads s at lent r after = _≡_ {A = CapabilityTold} (record { number = r; fields = after }) (capabilitySays s at)
 
 -- the answer of `judge`, as a host is told it: the verdict is 0 where it is refused, 1 no hit, 2 dropped, 3 leaves
 abbrev pub toldJudged : Judged → HostJudged

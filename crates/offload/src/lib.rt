@@ -18,7 +18,7 @@ pub struct HostJudged {
 // The seven numbers are written, with 0 for each where refused; the number comes back.
 #[no_mangle]
 pub extern "C" fn thawribbon_multicast(space: &[u8], at: usize, groups: &mut Record) -> u8
-    ensures { λ r. ⌜ HostReads (now (space .entry)) at r (now (groups .exit)) ⌝ }
+    ensures { λ r. ⌜ HostReads (now (space .entry)) at (now (groups .entry)) r (now (groups .exit)) ⌝ }
 {
     let capability = multicast::read(space, at);
     let answer = capability.answer;
