@@ -3,7 +3,7 @@
 # the archive that the kit itself writes. Where a tool is missing, what needs it is skipped, or failed where CI is set.
 . tests/common/host_tools.bash
 page=docs/LIBRARY.md
-least=110
+least=145
 here=$(uname -m)-unknown-linux-gnu
 
 # needs ARCHIVE: what the page says the archive needs of the C library
@@ -86,6 +86,7 @@ in_cpp() {
     cpp_runs board.cpp hosts/c/board.cpp "$work/expected"
     cpp_runs switch.cpp hosts/c/switch.cpp "$work/expected"
     cpp_runs ask.cpp hosts/c/ask.cpp "$work/expected"
+    cpp_runs offload.cpp hosts/c/offload.cpp "$work/expected"
     for ((n = 1; n <= $(blocks $page cpp); n++)); do
         fenced $page cpp $n >"$work/page.cpp"
         printed $page cpp $n >"$work/page.text"
@@ -115,6 +116,10 @@ mistakes_are_seen() {
         cc "${c[@]}" -I "$built" -c hosts/c/wrong/short_space.c -o "$work/short_space.o"
     ends "the kit's clang sees a board over a buffer of 256 bytes" 1 'incompatible' \
         kit_clang c "$here" "${c[@]}" -I "$built" -c hosts/c/wrong/short_space.c -o "$work/short_space.o"
+    ends "cc sees what is judged taken for a router's verdict" 1 'enum-compare' \
+        cc "${c[@]}" -I "$built" -c hosts/c/wrong/other_verdict.c -o "$work/other_verdict.o"
+    ends "the kit's clang sees what is judged taken for a router's verdict" 1 'enum-compare' \
+        kit_clang c "$here" "${c[@]}" -I "$built" -c hosts/c/wrong/other_verdict.c -o "$work/other_verdict.o"
 }
 
 # The C programs of the page, and what it says that they print.
@@ -272,10 +277,11 @@ on_x86_64() {
     try 'rt staticlib thawribbon' rt staticlib thawribbon &&
         try 'rt staticlib backplane' rt staticlib backplane &&
         try 'rt staticlib tester' rt staticlib tester &&
+        try 'rt staticlib offload' rt staticlib offload &&
         needs target/staticlib/libthawribbon.a &&
         try 'first_day compiles for x86-64' objects "$work/x86-64" $target &&
         try 'first_day links for x86-64' "$kit/bin/rattle-link" --target $target --toolchain "$tools" -o "$work/first_day.x86-64" \
-            "$work"/x86-64/*.o target/staticlib/libthawribbon.a target/staticlib/libbackplane.a target/staticlib/libtester.a &&
+            "$work"/x86-64/*.o target/staticlib/lib{thawribbon,backplane,tester,offload}.a &&
         first_day 'first_day on x86-64' "$tools/bin/qemu-x86_64" "$tools/lib/ld-linux-x86-64.so.2" --library-path "$tools/lib" \
             "$work/first_day.x86-64"
 }
