@@ -5,8 +5,8 @@
 page=docs/LIBRARY.md
 sources=hosts/thawribbon/src
 # The tests and examples that there are at least.
-least_tests=132
-least_examples=37
+least_tests=167
+least_examples=43
 export CARGO_TERM_COLOR=never
 
 # passed PART: how many tests, or examples, the last run of cargo test passed; it runs the examples last
@@ -105,14 +105,14 @@ page_without_board() {
     fi
 }
 
-# Every function of the crate that gives something is one whose answer may not be dropped. A struct that says so of itself may not be dropped
+# Every function of the crate that gives something is one whose answer may not be dropped. A type that says so of itself may not be dropped
 # behind a question mark either.
 answers_are_not_dropped() {
-    local functions structs wanted found
+    local functions types wanted found
     package dropped <hosts/thawribbon/tests/wrong/dropped.rs
     functions=$(cat $sources/*.rs | grep -E '^ *pub (const )?fn ' | grep -cvE '\) \{$')
-    structs=$(cat $sources/*.rs | grep -A 1 '^#\[must_use' | grep -c '^pub struct ')
-    wanted=$((functions + structs))
+    types=$(cat $sources/*.rs | grep -A 1 '^#\[must_use' | grep -cE '^pub (struct|enum) ')
+    wanted=$((functions + types))
     found=$(within "$work/dropped" cargo check --offline 2>&1 | grep -c '^warning: unused .* that must be used$')
     if [ "$wanted" -gt 10 ] && [ "$found" -eq "$wanted" ]; then
         echo "ok rustc warns of all $wanted answers that are dropped"
