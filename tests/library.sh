@@ -134,13 +134,13 @@ page_in_c() {
     all_run $page c $ran
 }
 
-# The page's N-th C program has no board: of the archive, only the asking side is linked.
+# page_without_board N NAMES: the page's N-th C program has no board: of the archive, only these functions are linked
 page_without_board() {
     local linked
     fenced $page c "$1" >"$work/page.c"
     try "C program $1 of $page compiles by itself" cc "${c[@]}" -I "$built" "$work/page.c" "$archive" -o "$work/page" || return
     linked=$(nm "$work/page" | awk '$2 == "T" && $3 ~ /^thawribbon_/ { print $3 }' | sort | tr '\n' ' ')
-    if [ "$linked" = 'thawribbon_read_completion thawribbon_write_request ' ]; then
+    if [ "$linked" = "$2 " ]; then
         echo "ok C program $1 of $page is linked without a board"
     else
         echo "FAILED C program $1 of $page is linked with $linked"
@@ -188,6 +188,20 @@ page_notices() {
         'not done: a space, rules or marks of 4,096 bytes are not lent, a bit is in both the rules and the marks of a space'
     other_page_c "C program 6 of $page notices that a space has no marks" 6 's/\.marks = &thawribbon_no_marks/.marks = NULL/' \
         'not done: a space, rules or marks of 4,096 bytes are not lent'
+    other_page_c "C program 7 of $page notices that a port has no Multicast capability" 7 's/{0x12, 0x00/{0x24, 0x00/' \
+        'port 0 cannot be read: this is not the structure asked for'
+    other_page_c "C program 7 of $page notices that the second port has none at its place" 7 's/\[port\]\.at + 0x100, capability/[port].at + 0x100 - port, capability/' \
+        'port 1 cannot be read: this is not the structure asked for'
+    other_page_c "C program 7 of $page notices that there are more groups than there may be" 7 's/0x3F, 0x00, 0x03/0x02, 0x00, 0x03/' \
+        'port 0 cannot be read: the Multicast capability has a Num Group over its Max Group'
+    other_page_c "C program 7 of $page notices that an address hits nothing" 7 's/0x800002FFF/0x800004000/' '800004000: no hit: '
+    other_page_c "C program 7 of $page notices that a port is not enabled" 7 's/0x03, 0x80/0x03, 0x00/' '800001000: no hit: '
+    other_page_c "C program 7 of $page notices that nobody receives a group" 7 's/{0x00, 0x06, 0x04}/{0x06, 0x04, 0x04}/' \
+        '800001000: the packet leaves by no port'
+    other_page_c "C program 7 of $page notices that a group is blocked" 7 's/spaces\[port\]\.at\[0x110\]/spaces[port].at[0x118] = 0x07, &/' \
+        '800001000: the packet is dropped where it enters'
+    other_page_c "C program 7 of $page notices that there is no such port" 7 's/&offload, 0, address/\&offload, 3, address/' \
+        'a packet enters by no port of the list'
 }
 
 # The example at the top of the header.
@@ -300,7 +314,8 @@ nothing_used
 in_cpp
 mistakes_are_seen
 page_in_c
-page_without_board 5
+page_without_board 5 'thawribbon_read_completion thawribbon_write_request'
+page_without_board 7 'thawribbon_judge thawribbon_multicast'
 page_languages
 page_notices
 header_example

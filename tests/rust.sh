@@ -90,6 +90,9 @@ page_notices() {
     other_page_rust "Rust program 5 of $page stops at parts that are no request" 5 's/0x010/0x012/' 'Error: Refused(BadDescription)'
     other_page_rust "Rust program 6 of $page stops at a completion of another request" 6 's/by(host, 8)/by(host, 9)/' 'Error: Other(Completion'
     other_page_rust "Rust program 7 of $page stops at a bit in both rules and marks" 7 's/\[0; SPACE\], \[0; SPACE\]);/[0x01; SPACE], [0; SPACE]);/' 'Error: Refused(BadDescription)'
+    other_page_rust "Rust program 8 of $page stops at a port without a Multicast capability" 8 's/\[0x12, 0x00/[0x24, 0x00/' 'Error: OtherStructure'
+    other_page_rust "Rust program 8 of $page stops at more groups than there may be" 8 's/0x3F, 0x00, 0x03/0x02, 0x00, 0x03/' 'Error: WrongGroups'
+    other_page_rust "Rust program 8 of $page stops where there is no such port" 8 's/judge(&ports, 0,/judge(\&ports, 3,/' 'Error: BadDescription'
 }
 
 # The page's N-th Rust program has no board: of the archive, only the asking side is linked.
