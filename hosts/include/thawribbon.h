@@ -493,13 +493,13 @@ THAWRIBBON_MUST_USE uint8_t thawribbon_multicast(const uint8_t *space, size_t sp
  * Judges an address: what becomes of a packet for it that enters a switch by one of its ports, given each port's Multicast capability.
  *
  * Takes the list of ports, the place in it of the one that the packet enters by, and the address; both may be any number. ports_length
- * counts ports, not bytes. The lowest number that applies is given:
- *   0  it is judged. Where the entering port is enabled, an address at or above its base hits the group that is the whole part of
- *      (address - base) / 2 to the power of its Index Position, if that is at most its Num Group; all else is THAWRIBBON_JUDGED_NO_HIT.
- *      Where its Block All bit for the group is set, it is THAWRIBBON_JUDGED_DROPPED. Else it is THAWRIBBON_JUDGED_LEAVES, with a bit in
- *      `ports` for every other port whose own Receive bit for the group is set: of those ports nothing else counts.
+ * counts ports, not bytes. The first of these that applies is given:
  *   1  the list has over 32 ports, `entering` is no place in it, or the fields of any port are such as thawribbon_multicast gives for no
  *      space: Max Group or Index Position over 63, Enable over 1, a bit of the base below bit 12, or what is refused there with 13.
+ *   0  otherwise: it is judged. Where the entering port is enabled, an address at or above its base hits the group that is the whole part
+ *      of (address - base) / 2 to the power of its Index Position, if that is at most its Num Group; all else is THAWRIBBON_JUDGED_NO_HIT.
+ *      Where its Block All bit for the group is set, it is THAWRIBBON_JUDGED_DROPPED. Else it is THAWRIBBON_JUDGED_LEAVES, with a bit in
+ *      `ports` for every other port whose own Receive bit for the group is set: of those ports nothing else counts.
  * No address is an exception: a group that would end past the largest address ends with it. With number 1, all else is 0. The list is only
  * read.
  */
@@ -696,9 +696,8 @@ THAWRIBBON_MUST_USE static inline const char *thawribbon_text(unsigned number)
                "a captured device is over 31, a function number or A or B is outside its range, a record is asked for where none may stand, "
                "a list has over 32 ports, a secondary bus over its subordinate bus, or two ranges that meet, "
                "a packet enters by no port of the list, a port's Multicast fields are such as no reading gives, "
-               "what leaves overlaps the ports or the packet, what is heard overlaps the board, "
-               "or a request has a kind outside the six, a device over 31, a function over 7, "
-               "an offset over FFCh or not a multiple of 4, or enables over 15";
+               "what leaves overlaps the ports or the packet, what is heard overlaps the board, or a request has a kind outside the six, "
+               "a device over 31, a function over 7, an offset over FFCh or not a multiple of 4, or enables over 15";
     case THAWRIBBON_NO_ROOM:
         return "the reply is under 16 bytes, the list room is under the list's maximum, "
                "the buffer for what leaves is under 20 bytes, or the buffer for a request is shorter than its bytes";
@@ -709,11 +708,9 @@ THAWRIBBON_MUST_USE static inline const char *thawribbon_text(unsigned number)
                "it is Type 0, or it is trusted and its port does not support TCS routing; "
                "or the completion's first byte is neither 4Ah nor 0Ah";
     case THAWRIBBON_WRONG_LENGTH:
-        return "the packet's length does not fit its type and digest bit, "
-               "or the completion's length does not fit its first byte";
+        return "the packet's length does not fit its type and digest bit, or the completion's length does not fit its first byte";
     case THAWRIBBON_WRONG_FIELD:
-        return "a fixed field of the packet's header has another value, "
-               "or the completion has a byte that no reply has at its place";
+        return "a fixed field of the packet's header has another value, or the completion has a byte that no reply has at its place";
     case THAWRIBBON_OTHER_STRUCTURE:
         return "this is not the structure asked for";
     case THAWRIBBON_WRONG_EXTENT:
