@@ -3,7 +3,7 @@
 # the archive that the kit itself writes. Where a tool is missing, what needs it is skipped, or failed where CI is set.
 . tests/common/host_tools.bash
 page=docs/LIBRARY.md
-least=110
+least=145
 here=$(uname -m)-unknown-linux-gnu
 
 # needs ARCHIVE: what the page says the archive needs of the C library
@@ -86,6 +86,7 @@ in_cpp() {
     cpp_runs board.cpp hosts/c/board.cpp "$work/expected"
     cpp_runs switch.cpp hosts/c/switch.cpp "$work/expected"
     cpp_runs ask.cpp hosts/c/ask.cpp "$work/expected"
+    cpp_runs offload.cpp hosts/c/offload.cpp "$work/expected"
     for ((n = 1; n <= $(blocks $page cpp); n++)); do
         fenced $page cpp $n >"$work/page.cpp"
         printed $page cpp $n >"$work/page.text"
@@ -115,6 +116,10 @@ mistakes_are_seen() {
         cc "${c[@]}" -I "$built" -c hosts/c/wrong/short_space.c -o "$work/short_space.o"
     ends "the kit's clang sees a board over a buffer of 256 bytes" 1 'incompatible' \
         kit_clang c "$here" "${c[@]}" -I "$built" -c hosts/c/wrong/short_space.c -o "$work/short_space.o"
+    ends "cc sees what is judged taken for a router's verdict" 1 'enum-compare' \
+        cc "${c[@]}" -I "$built" -c hosts/c/wrong/other_verdict.c -o "$work/other_verdict.o"
+    ends "the kit's clang sees what is judged taken for a router's verdict" 1 'enum-compare' \
+        kit_clang c "$here" "${c[@]}" -I "$built" -c hosts/c/wrong/other_verdict.c -o "$work/other_verdict.o"
 }
 
 # The C programs of the page, and what it says that they print.
@@ -129,13 +134,13 @@ page_in_c() {
     all_run $page c $ran
 }
 
-# The page's N-th C program has no board: of the archive, only the asking side is linked.
+# page_without_board N NAMES: the page's N-th C program has no board: of the archive, only these functions are linked
 page_without_board() {
     local linked
     fenced $page c "$1" >"$work/page.c"
     try "C program $1 of $page compiles by itself" cc "${c[@]}" -I "$built" "$work/page.c" "$archive" -o "$work/page" || return
     linked=$(nm "$work/page" | awk '$2 == "T" && $3 ~ /^thawribbon_/ { print $3 }' | sort | tr '\n' ' ')
-    if [ "$linked" = 'thawribbon_read_completion thawribbon_write_request ' ]; then
+    if [ "$linked" = "$2 " ]; then
         echo "ok C program $1 of $page is linked without a board"
     else
         echo "FAILED C program $1 of $page is linked with $linked"
@@ -183,6 +188,20 @@ page_notices() {
         'not done: a space, rules or marks of 4,096 bytes are not lent, a bit is in both the rules and the marks of a space'
     other_page_c "C program 6 of $page notices that a space has no marks" 6 's/\.marks = &thawribbon_no_marks/.marks = NULL/' \
         'not done: a space, rules or marks of 4,096 bytes are not lent'
+    other_page_c "C program 7 of $page notices that a port has no Multicast capability" 7 's/{0x12, 0x00/{0x24, 0x00/' \
+        'port 0 cannot be read: this is not the structure asked for'
+    other_page_c "C program 7 of $page notices that the second port has none at its place" 7 's/\[port\]\.at + 0x100, capability/[port].at + 0x100 - port, capability/' \
+        'port 1 cannot be read: this is not the structure asked for'
+    other_page_c "C program 7 of $page notices that there are more groups than there may be" 7 's/0x3F, 0x00, 0x03/0x02, 0x00, 0x03/' \
+        'port 0 cannot be read: the Multicast capability has a Num Group over its Max Group'
+    other_page_c "C program 7 of $page notices that an address hits nothing" 7 's/0x800002FFF/0x800004000/' '800004000: no hit: '
+    other_page_c "C program 7 of $page notices that a port is not enabled" 7 's/0x03, 0x80/0x03, 0x00/' '800001000: no hit: '
+    other_page_c "C program 7 of $page notices that nobody receives a group" 7 's/{0x00, 0x06, 0x04}/{0x06, 0x04, 0x04}/' \
+        '800001000: the packet leaves by no port'
+    other_page_c "C program 7 of $page notices that a group is blocked" 7 's/spaces\[port\]\.at\[0x110\]/spaces[port].at[0x118] = 0x07, &/' \
+        '800001000: the packet is dropped where it enters'
+    other_page_c "C program 7 of $page notices that there is no such port" 7 's/&offload, 0, address/\&offload, 3, address/' \
+        'a packet enters by no port of the list'
 }
 
 # The example at the top of the header.
@@ -272,10 +291,11 @@ on_x86_64() {
     try 'rt staticlib thawribbon' rt staticlib thawribbon &&
         try 'rt staticlib backplane' rt staticlib backplane &&
         try 'rt staticlib tester' rt staticlib tester &&
+        try 'rt staticlib offload' rt staticlib offload &&
         needs target/staticlib/libthawribbon.a &&
         try 'first_day compiles for x86-64' objects "$work/x86-64" $target &&
         try 'first_day links for x86-64' "$kit/bin/rattle-link" --target $target --toolchain "$tools" -o "$work/first_day.x86-64" \
-            "$work"/x86-64/*.o target/staticlib/libthawribbon.a target/staticlib/libbackplane.a target/staticlib/libtester.a &&
+            "$work"/x86-64/*.o target/staticlib/lib{thawribbon,backplane,tester,offload}.a &&
         first_day 'first_day on x86-64' "$tools/bin/qemu-x86_64" "$tools/lib/ld-linux-x86-64.so.2" --library-path "$tools/lib" \
             "$work/first_day.x86-64"
 }
@@ -294,7 +314,8 @@ nothing_used
 in_cpp
 mistakes_are_seen
 page_in_c
-page_without_board 5
+page_without_board 5 'thawribbon_read_completion thawribbon_write_request'
+page_without_board 7 'thawribbon_judge thawribbon_multicast'
 page_languages
 page_notices
 header_example

@@ -5,8 +5,8 @@
 page=docs/LIBRARY.md
 sources=hosts/thawribbon/src
 # The tests and examples that there are at least.
-least_tests=132
-least_examples=37
+least_tests=167
+least_examples=43
 export CARGO_TERM_COLOR=never
 
 # passed PART: how many tests, or examples, the last run of cargo test passed; it runs the examples last
@@ -90,6 +90,9 @@ page_notices() {
     other_page_rust "Rust program 5 of $page stops at parts that are no request" 5 's/0x010/0x012/' 'Error: Refused(BadDescription)'
     other_page_rust "Rust program 6 of $page stops at a completion of another request" 6 's/by(host, 8)/by(host, 9)/' 'Error: Other(Completion'
     other_page_rust "Rust program 7 of $page stops at a bit in both rules and marks" 7 's/\[0; SPACE\], \[0; SPACE\]);/[0x01; SPACE], [0; SPACE]);/' 'Error: Refused(BadDescription)'
+    other_page_rust "Rust program 8 of $page stops at a port without a Multicast capability" 8 's/\[0x12, 0x00/[0x24, 0x00/' 'Error: OtherStructure'
+    other_page_rust "Rust program 8 of $page stops at more groups than there may be" 8 's/0x3F, 0x00, 0x03/0x02, 0x00, 0x03/' 'Error: WrongGroups'
+    other_page_rust "Rust program 8 of $page stops where there is no such port" 8 's/judge(&ports, 0,/judge(\&ports, 3,/' 'Error: BadDescription'
 }
 
 # The page's N-th Rust program has no board: of the archive, only the asking side is linked.
@@ -105,14 +108,14 @@ page_without_board() {
     fi
 }
 
-# Every function of the crate that gives something is one whose answer may not be dropped. A struct that says so of itself may not be dropped
+# Every function of the crate that gives something is one whose answer may not be dropped. A type that says so of itself may not be dropped
 # behind a question mark either.
 answers_are_not_dropped() {
-    local functions structs wanted found
+    local functions types wanted found
     package dropped <hosts/thawribbon/tests/wrong/dropped.rs
     functions=$(cat $sources/*.rs | grep -E '^ *pub (const )?fn ' | grep -cvE '\) \{$')
-    structs=$(cat $sources/*.rs | grep -A 1 '^#\[must_use' | grep -c '^pub struct ')
-    wanted=$((functions + structs))
+    types=$(cat $sources/*.rs | grep -A 1 '^#\[must_use' | grep -cE '^pub (struct|enum) ')
+    wanted=$((functions + types))
     found=$(within "$work/dropped" cargo check --offline 2>&1 | grep -c '^warning: unused .* that must be used$')
     if [ "$wanted" -gt 10 ] && [ "$found" -eq "$wanted" ]; then
         echo "ok rustc warns of all $wanted answers that are dropped"

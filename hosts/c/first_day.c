@@ -27,5 +27,9 @@ int main(void)
     completions();
     asks();
     heard_overlaps();
+    capabilities();
+    addresses();
+    capability_lists();
+    offloads();
     return failed_groups() == 0 ? 0 : 1;
 }

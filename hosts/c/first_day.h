@@ -18,5 +18,9 @@ void requests(void);
 void completions(void);
 void asks(void);
 void heard_overlaps(void);
+void capabilities(void);
+void addresses(void);
+void capability_lists(void);
+void offloads(void);
 
 #endif

@@ -1,10 +1,10 @@
 /*
- * thawribbon.h: a board's answers to configuration packets, the three capability lists, two records, a switch's router, and the asking
- * side: requests written, and completions read back.
+ * thawribbon.h: a board's answers to configuration packets, the three capability lists, two records, a switch's router, the asking side:
+ * requests written, and completions read back; and a switch's multicast: capabilities read, and addresses judged.
  *
- * Document 01 of the project fixes what every function answers, with what document 02 corrects, and for the router and the asking side
- * document 02; their words are used here. The rules that hold stand in docs/RULES.md of the project, each with its number: "rule 4.1" is
- * one of them. Numbers ending in h are hexadecimal.
+ * Document 01 of the project fixes what every function answers, with what document 02 corrects, and for the router, the asking side and
+ * multicast document 02; their words are used here. The rules that hold stand in docs/RULES.md of the project, each with its number: "rule
+ * 4.1" is one of them. Numbers ending in h are hexadecimal.
  *
  * The packet that has to land is a trusted write. A board takes it only when a Type 0 write has told it its bus and device number. Done is
  * not landed: a write that is done has changed only the bits that the space's rules and marks let it change. So read it back, and compare:
@@ -26,22 +26,23 @@
  *
  * There are two parts. The first declares the functions of libthawribbon.a, which are compiled from proved code. The second, from
  * "Helpers" on, is inline C over them, tried and not proved: a board in one struct, what became of a packet, what leaves a switch, what
- * is heard of a request, texts, and a list's headers. A program that answers packets begins with thawribbon_board_serve, in the second
- * part; one that passes them on begins with thawribbon_ports_route; one that asks begins with thawribbon_board_ask, where it has the board,
- * and with thawribbon_write_request and thawribbon_hear, where a bus is between.
+ * is heard of a request, the multicast of a switch in one struct, texts, and a list's headers. A program that answers packets begins with
+ * thawribbon_board_serve, in the second part; one that passes them on begins with thawribbon_ports_route; one that asks begins with
+ * thawribbon_board_ask, where it has the board, and with thawribbon_write_request and thawribbon_hear, where a bus is between; one that
+ * wants to know which hosts get a radar's group begins with thawribbon_offload_read.
  *
  * Any bytes, of any length, get an answer: every function tests what it is given, and returns. A number in an answer says how it went;
  * the numbers are named below. Each but 0 is a refusal, and a refusal changes no byte of a space, a reply, a room, the buffer for what
- * leaves or that for a request, and no capture. What the helpers write instead, an answer's completion or the bytes of what leaves, is FFh
- * throughout after it; what is heard is 0 but for the number.
+ * leaves or that for a request, and no capture. What is written instead tells nothing: an answer's completion and the bytes of what leaves
+ * are FFh throughout after it, what is heard and what is judged are 0 but for the number, and a Multicast capability's fields are 0.
  *
  * What the caller owes:
  * - A buffer is a pointer and a length, and that many bytes (for a list room, that many numbers; for a list of ports, that many ports) are
  *   really there. With length 0 the pointer is never followed and may be anything, NULL included.
- * - A buffer that is written (ordinary, trusted, reply, room, leaving, a request's buffer; of the helpers, the board, the answer with its
- *   completion, what leaves with its bytes, and what is heard) overlaps no other buffer of the same call. Buffers that are only read may
- *   overlap each other, or be the same. thawribbon_board_serve, thawribbon_ports_route and thawribbon_board_ask look at this themselves,
- *   and answer 1.
+ * - A buffer that is written (ordinary, trusted, reply, room, leaving, a request's buffer, a capability's fields; of the helpers, the board,
+ *   the answer with its completion, what leaves with its bytes, what is heard, an offload, and what is judged) overlaps no other buffer of
+ *   the same call. Buffers that are only read may overlap each other, or be the same. thawribbon_board_serve, thawribbon_ports_route and
+ *   thawribbon_board_ask look at this themselves, and answer 1.
  * - While a call runs, no other thread writes to its buffers, or reads those that it writes.
  *
  * Nothing is kept: no function stores a pointer, allocates, or has a state of its own. What a board has captured goes in and comes back
@@ -60,9 +61,9 @@ extern "C" {
 #endif
 
 /* The version of this header, and of the archive that came with it. */
-#define THAWRIBBON_VERSION "0.8.0"
+#define THAWRIBBON_VERSION "0.9.0"
 #define THAWRIBBON_VERSION_MAJOR 0
-#define THAWRIBBON_VERSION_MINOR 8
+#define THAWRIBBON_VERSION_MINOR 9
 #define THAWRIBBON_VERSION_PATCH 0
 
 /* An answer that is dropped is an answer that nobody looked at: compilers that can, warn. */
@@ -87,7 +88,8 @@ enum thawribbon_number {
        thawribbon_board_serve, also where buffers overlap; at a router, a list has over 32 ports, a port's secondary bus is over its
        subordinate bus, or two ranges of buses meet (rule 10.2); at thawribbon_ports_route, also where what leaves overlaps the ports or the
        packet; of a request to be written, its kind is none of the six, its device is over 31, its function over 7, its offset over FFCh or
-       not a multiple of 4, or its enables over 15; at thawribbon_board_ask, also where what is heard overlaps the board */
+       not a multiple of 4, or its enables over 15; at thawribbon_board_ask, also where what is heard overlaps the board; of an address to
+       be judged, the list has over 32 ports, the packet enters by none of them, or a port's fields are such as no reading gives */
     THAWRIBBON_BAD_DESCRIPTION = 1,
     /* the reply is under 16 bytes, the list room is under the list's maximum, the buffer for what leaves is under 20 bytes, or the buffer
        for a request is shorter than the request */
@@ -110,7 +112,9 @@ enum thawribbon_number {
     /* a pointer of the list is below its floor (rule 6.8) */
     THAWRIBBON_BELOW_FLOOR = 11,
     /* a pointer of the list leads to an offset that is already in the chain (rule 6.8) */
-    THAWRIBBON_COMES_BACK = 12
+    THAWRIBBON_COMES_BACK = 12,
+    /* of a Multicast capability, Num Group is over Max Group, or it is enabled with an Index Position under 12 */
+    THAWRIBBON_WRONG_GROUPS = 13
 };
 
 /* The bytes of a space, of its rules and of its marks. */
@@ -121,6 +125,10 @@ enum thawribbon_number {
 #define THAWRIBBON_LEAVING 20
 /* The most ports that a list can have. */
 #define THAWRIBBON_PORTS 32
+/* The most groups that a Multicast capability can have: group 0 to group 63. */
+#define THAWRIBBON_GROUPS 64
+/* The ID by which an extended list names a Multicast capability. */
+#define THAWRIBBON_MULTICAST_ID 0x0012
 /* The bytes that hold any request that is written: a write has 16, and a read 12. */
 #define THAWRIBBON_REQUEST 16
 /* Where four data bytes are: in a packet that writes, and in a completion of 16 bytes. */
@@ -268,6 +276,42 @@ typedef struct thawribbon_heard {
     uint8_t tag;          /* that of the request */
     uint8_t data[4];      /* with THAWRIBBON_SAID_DATA, what a read gave; else 0 */
 } thawribbon_heard;
+
+/*
+ * The fields of a port's Multicast capability.
+ *
+ * All of them are 0 where the reading is refused. Seven zeros are fields that a reading can give, too: those of a capability that is not
+ * enabled, at which no address hits. So nothing but the number says that there was none to read.
+ */
+typedef struct thawribbon_groups {
+    uint64_t max_group; /* Max Group, 0 to 63 */
+    uint64_t num_group; /* Num Group: the highest group, and not how many there are; at most Max Group */
+    uint64_t enable;    /* 1: it is enabled. 0: it is not, and no address hits */
+    uint64_t index;     /* Index Position, 0 to 63, and 12 or more where it is enabled: a group has 2 to the power of it addresses */
+    uint64_t base;      /* the base address, where group 0 begins: bits 63:12 in their place, and below them 0 */
+    uint64_t receive;   /* bit g is 1: a packet of group g leaves by this port, where it entered by another */
+    uint64_t block_all; /* bit g is 1: a packet of group g that enters by this port is dropped */
+} thawribbon_groups;
+
+/* What becomes of a packet for an address. Not to be mistaken for a router's thawribbon_verdict, which has other names and numbers. */
+typedef enum thawribbon_judgement {
+    /* nothing is said, since it is refused */
+    THAWRIBBON_JUDGED_NOTHING = 0,
+    /* no hit: the address is in no group of the port that the packet enters by, or that port is not enabled */
+    THAWRIBBON_JUDGED_NO_HIT = 1,
+    /* it hits a group, and is dropped where it enters: that port's Block All bit for the group is set */
+    THAWRIBBON_JUDGED_DROPPED = 2,
+    /* it hits a group, and leaves by every other port whose own Receive bit for the group is set; there may be none */
+    THAWRIBBON_JUDGED_LEAVES = 3
+} thawribbon_judgement;
+
+/* The answer about an address. Every field but the number is 0 where refused. */
+typedef struct thawribbon_judged {
+    uint32_t ports;  /* with THAWRIBBON_JUDGED_LEAVES, bit k is 1 where it leaves by port k of the list; else 0 */
+    uint8_t number;  /* 0 or 1; of an offload that is refused, its number */
+    uint8_t verdict; /* one of thawribbon_judgement */
+    uint8_t group;   /* with THAWRIBBON_JUDGED_DROPPED and THAWRIBBON_JUDGED_LEAVES the group that is hit, 0 to 63; else 0 */
+} thawribbon_judged;
 
 /*
  * Answers a packet that a board receives: does the access and writes the completion.
@@ -430,6 +474,37 @@ THAWRIBBON_MUST_USE thawribbon_written thawribbon_write_request(thawribbon_parts
  * Any number but 0 gives 0 for every field. The bytes are only read.
  */
 THAWRIBBON_MUST_USE thawribbon_heard thawribbon_read_completion(const uint8_t *completion, size_t completion_length);
+
+/*
+ * Reads the Multicast capability at an offset of a port's space, and gives the number.
+ *
+ * Takes the space, the offset, which may be any number, and where to write the fields. The first of these that applies is given:
+ *   1  the space isn't 4,096 bytes, or the offset isn't a multiple of 4 from 100h to FFCh.
+ *   8  the ID there isn't 0012h, or the version isn't 1h.
+ *   9  fewer than 28h bytes are left.
+ *  13  Num Group is over Max Group, or Index Position is under 12 and Enable is set.
+ *   0  otherwise: the fields are the capability's.
+ * Any number but 0 gives 0 for every field, and seven zeros are also what a capability may hold that is not enabled: look at the number.
+ * `groups` is not NULL, overlaps no byte of the space, and all of it is written, whatever the number. The space is only read.
+ */
+THAWRIBBON_MUST_USE uint8_t thawribbon_multicast(const uint8_t *space, size_t space_length, size_t at, thawribbon_groups *groups);
+
+/*
+ * Judges an address: what becomes of a packet for it that enters a switch by one of its ports, given each port's Multicast capability.
+ *
+ * Takes the list of ports, the place in it of the one that the packet enters by, and the address; both may be any number. ports_length
+ * counts ports, not bytes. The first of these that applies is given:
+ *   1  the list has over 32 ports, `entering` is no place in it, or the fields of any port are such as thawribbon_multicast gives for no
+ *      space: Max Group or Index Position over 63, Enable over 1, a bit of the base below bit 12, or what is refused there with 13.
+ *   0  otherwise: it is judged. Where the entering port is enabled, an address at or above its base hits the group that is the whole part
+ *      of (address - base) / 2 to the power of its Index Position, if that is at most its Num Group; all else is THAWRIBBON_JUDGED_NO_HIT.
+ *      Where its Block All bit for the group is set, it is THAWRIBBON_JUDGED_DROPPED. Else it is THAWRIBBON_JUDGED_LEAVES, with a bit in
+ *      `ports` for every other port whose own Receive bit for the group is set: of those ports nothing else counts.
+ * No address is an exception: a group that would end past the largest address ends with it. With number 1, all else is 0. The list is only
+ * read.
+ */
+THAWRIBBON_MUST_USE thawribbon_judged thawribbon_judge(const thawribbon_groups *ports, size_t ports_length, size_t entering,
+                                                       uint64_t address);
 
 /* ---- Helpers: inline, over the functions above, and not proved. ---- */
 
@@ -620,9 +695,9 @@ THAWRIBBON_MUST_USE static inline const char *thawribbon_text(unsigned number)
         return "a space, rules or marks of 4,096 bytes are not lent, a bit is in both the rules and the marks of a space, "
                "a captured device is over 31, a function number or A or B is outside its range, a record is asked for where none may stand, "
                "a list has over 32 ports, a secondary bus over its subordinate bus, or two ranges that meet, "
-               "what leaves overlaps the ports or the packet, what is heard overlaps the board, "
-               "or a request has a kind outside the six, a device over 31, a function over 7, "
-               "an offset over FFCh or not a multiple of 4, or enables over 15";
+               "a packet enters by no port of the list, a port's Multicast fields are such as no reading gives, "
+               "what leaves overlaps the ports or the packet, what is heard overlaps the board, or a request has a kind outside the six, "
+               "a device over 31, a function over 7, an offset over FFCh or not a multiple of 4, or enables over 15";
     case THAWRIBBON_NO_ROOM:
         return "the reply is under 16 bytes, the list room is under the list's maximum, "
                "the buffer for what leaves is under 20 bytes, or the buffer for a request is shorter than its bytes";
@@ -633,11 +708,9 @@ THAWRIBBON_MUST_USE static inline const char *thawribbon_text(unsigned number)
                "it is Type 0, or it is trusted and its port does not support TCS routing; "
                "or the completion's first byte is neither 4Ah nor 0Ah";
     case THAWRIBBON_WRONG_LENGTH:
-        return "the packet's length does not fit its type and digest bit, "
-               "or the completion's length does not fit its first byte";
+        return "the packet's length does not fit its type and digest bit, or the completion's length does not fit its first byte";
     case THAWRIBBON_WRONG_FIELD:
-        return "a fixed field of the packet's header has another value, "
-               "or the completion has a byte that no reply has at its place";
+        return "a fixed field of the packet's header has another value, or the completion has a byte that no reply has at its place";
     case THAWRIBBON_OTHER_STRUCTURE:
         return "this is not the structure asked for";
     case THAWRIBBON_WRONG_EXTENT:
@@ -648,6 +721,8 @@ THAWRIBBON_MUST_USE static inline const char *thawribbon_text(unsigned number)
         return "a pointer of the list is below its floor";
     case THAWRIBBON_COMES_BACK:
         return "a pointer of the list leads to an offset that is already in the chain";
+    case THAWRIBBON_WRONG_GROUPS:
+        return "the Multicast capability has a Num Group over its Max Group, or is enabled with an Index Position under 12";
     default:
         return "a number that is no answer";
     }
@@ -862,6 +937,126 @@ THAWRIBBON_MUST_USE static inline const char *thawribbon_asked_text(thawribbon_a
         return "the completion is another request's";
     default:
         return thawribbon_text(heard->number);
+    }
+}
+
+/* Where a port's Multicast capability is: the port's space, and the offset in it. A space that is NULL counts as one without bytes: 1. */
+typedef struct thawribbon_capability {
+    const thawribbon_bytes *space;
+    size_t at;
+} thawribbon_capability;
+
+/*
+ * The multicast of a switch: the fields of each port's capability, in the order of the list. thawribbon_offload_read sets all of it.
+ *
+ * Where one port could not be read there are no ports: so no address is judged by fields that are 0 because nobody read them.
+ */
+typedef struct thawribbon_offload {
+    size_t length;                             /* how many ports there are: 0 where refused */
+    size_t refused;                            /* where refused, the place of the first port at fault; else 0 */
+    uint8_t number;                            /* why it is refused: 1, 8, 9 or 13; 0 where it is not */
+    thawribbon_groups ports[THAWRIBBON_PORTS]; /* the fields of each port; past the length, and all of them where refused, 0 */
+} thawribbon_offload;
+
+/* An offload without ports, for the reason that this number says of the port at this place. */
+static inline uint8_t thawribbon_offload_none(thawribbon_offload *offload, uint8_t number, size_t refused)
+{
+    const thawribbon_groups nothing = {0, 0, 0, 0, 0, 0, 0};
+    size_t place;
+    offload->length = 0;
+    offload->refused = refused;
+    offload->number = number;
+    for (place = 0; place < THAWRIBBON_PORTS; place++) {
+        offload->ports[place] = nothing;
+    }
+    return number;
+}
+
+/*
+ * Reads the Multicast capabilities of a switch's ports, by thawribbon_multicast, one after the other.
+ *
+ * Gives the number, and sets every member of `offload`. 0 means that all were read. Any other is the number of the first that was refused,
+ * and offload->refused is its place: then there are no ports, and thawribbon_offload_judge judges nothing. Over 32 ports are refused with 1
+ * at place 32. A list of none is read, and no packet enters by any of its ports. `offload` is not NULL, and overlaps neither a space nor
+ * the list; these are only read.
+ */
+THAWRIBBON_MUST_USE static inline uint8_t thawribbon_offload_read(const thawribbon_capability *capabilities, size_t capabilities_length,
+                                                                  thawribbon_offload *offload)
+{
+    size_t place;
+    (void)thawribbon_offload_none(offload, THAWRIBBON_SERVED, 0);
+    if (capabilities_length > THAWRIBBON_PORTS) {
+        return thawribbon_offload_none(offload, THAWRIBBON_BAD_DESCRIPTION, THAWRIBBON_PORTS);
+    }
+    for (place = 0; place < capabilities_length; place++) {
+        const thawribbon_bytes *space = capabilities[place].space;
+        const uint8_t number = thawribbon_multicast(thawribbon_bytes_read(space), thawribbon_bytes_length(space), capabilities[place].at,
+                                                    &offload->ports[place]);
+        if (number != THAWRIBBON_SERVED) {
+            return thawribbon_offload_none(offload, number, place);
+        }
+    }
+    offload->length = capabilities_length;
+    return THAWRIBBON_SERVED;
+}
+
+/* What becomes of a packet, by what thawribbon_judge gave. Only number 0 says that it is judged. */
+THAWRIBBON_MUST_USE static inline thawribbon_judgement thawribbon_judgement_of(thawribbon_judged judged)
+{
+    if (judged.number != THAWRIBBON_SERVED) {
+        return THAWRIBBON_JUDGED_NOTHING;
+    }
+    switch (judged.verdict) {
+    case THAWRIBBON_JUDGED_NO_HIT:
+        return THAWRIBBON_JUDGED_NO_HIT;
+    case THAWRIBBON_JUDGED_DROPPED:
+        return THAWRIBBON_JUDGED_DROPPED;
+    case THAWRIBBON_JUDGED_LEAVES:
+        return THAWRIBBON_JUDGED_LEAVES;
+    default:
+        return THAWRIBBON_JUDGED_NOTHING;
+    }
+}
+
+/*
+ * Judges an address by the ports of an offload: thawribbon_judge, where all of them were read.
+ *
+ * Gives what becomes of a packet for the address that enters by the port at this place, and sets every member of `judged`. Where the offload
+ * is refused, that is THAWRIBBON_JUDGED_NOTHING with the offload's number, whatever the address: it is never no hit. The place and the
+ * address may be any number. The offload and `judged` are not NULL, and do not overlap; the offload is only read.
+ */
+THAWRIBBON_MUST_USE static inline thawribbon_judgement thawribbon_offload_judge(const thawribbon_offload *offload, size_t entering,
+                                                                                uint64_t address, thawribbon_judged *judged)
+{
+    const thawribbon_judged nothing = {0, offload->number, THAWRIBBON_JUDGED_NOTHING, 0};
+    if (offload->number != THAWRIBBON_SERVED) {
+        *judged = nothing;
+    } else {
+        *judged = thawribbon_judge(offload->ports, offload->length, entering, address);
+    }
+    return thawribbon_judgement_of(*judged);
+}
+
+/* Whether a packet leaves by the port at this place, which may be any number: 1 or 0. It is 0 with every verdict but
+ * THAWRIBBON_JUDGED_LEAVES. */
+THAWRIBBON_MUST_USE static inline int thawribbon_leaves_by(thawribbon_judged judged, size_t place)
+{
+    return thawribbon_judgement_of(judged) == THAWRIBBON_JUDGED_LEAVES && place < THAWRIBBON_PORTS && (judged.ports >> place & 1) != 0;
+}
+
+/* What becomes of a packet for an address, in words. A packet that leaves by no port has words of its own. */
+THAWRIBBON_MUST_USE static inline const char *thawribbon_judged_text(thawribbon_judged judged)
+{
+    switch (thawribbon_judgement_of(judged)) {
+    case THAWRIBBON_JUDGED_NO_HIT:
+        return "no hit: the address is in no group of the port that the packet enters by";
+    case THAWRIBBON_JUDGED_DROPPED:
+        return "the packet is dropped where it enters";
+    case THAWRIBBON_JUDGED_LEAVES:
+        return judged.ports != 0 ? "the packet leaves" : "the packet leaves by no port: no other one receives its group";
+    case THAWRIBBON_JUDGED_NOTHING:
+    default:
+        return thawribbon_text(judged.number);
     }
 }
 

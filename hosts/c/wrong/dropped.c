@@ -4,6 +4,7 @@
 void drop(thawribbon_board *board, thawribbon_answer *answer, const uint8_t *bytes, uint8_t *reply, uint16_t *room);
 void drop_routed(const thawribbon_port *ports, thawribbon_leaving *leaving, const uint8_t *bytes, uint8_t *reply);
 void drop_asked(thawribbon_board *board, thawribbon_parts parts, thawribbon_heard *heard, const uint8_t *bytes, uint8_t *buffer);
+void drop_judged(thawribbon_offload *offload, thawribbon_judged judged, const uint8_t *bytes, const thawribbon_capability *capabilities);
 
 void drop(thawribbon_board *board, thawribbon_answer *answer, const uint8_t *bytes, uint8_t *reply, uint16_t *room)
 {
@@ -47,4 +48,15 @@ void drop_asked(thawribbon_board *board, thawribbon_parts parts, thawribbon_hear
     thawribbon_read_completion(bytes, 12);                                                                               /* dropped */
     thawribbon_hear(parts, bytes, 12, heard);                                                                            /* dropped */
     thawribbon_asked_text(THAWRIBBON_ASKED_DONE, heard);                                                                 /* dropped */
+}
+
+void drop_judged(thawribbon_offload *offload, thawribbon_judged judged, const uint8_t *bytes, const thawribbon_capability *capabilities)
+{
+    thawribbon_offload_read(capabilities, 1, offload);                                                                   /* dropped */
+    thawribbon_offload_judge(offload, 0, 0, &judged);                                                                    /* dropped */
+    thawribbon_multicast(bytes, 16, 0x100, &offload->ports[0]);                                                          /* dropped */
+    thawribbon_judge(offload->ports, 1, 0, 0);                                                                           /* dropped */
+    thawribbon_judgement_of(judged);                                                                                     /* dropped */
+    thawribbon_leaves_by(judged, 0);                                                                                     /* dropped */
+    thawribbon_judged_text(judged);                                                                                      /* dropped */
 }

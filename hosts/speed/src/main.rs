@@ -6,6 +6,7 @@ mod asks;
 mod machine;
 mod measure;
 mod merges;
+mod multicast;
 mod options;
 mod order;
 mod packets;
@@ -51,6 +52,7 @@ fn measure_all(plan: Plan) -> Result<(), String> {
     rows.extend(records::rows()?);
     rows.extend(routes::rows()?);
     rows.extend(asks::rows()?);
+    rows.extend(multicast::rows()?);
     let mut variants = packets::variants::all()?;
     let row_contests = rows.iter_mut().map(|row| &mut row.contest);
     let variant_contests = variants.iter_mut().map(|variants| &mut variants.contest);

@@ -18,13 +18,13 @@ const RECORDS: usize = 8;
 const CALLS: usize = 256;
 
 /// A place that a record is asked for at.
-struct Place {
-    space: Rc<[u8]>,
-    at: usize,
+pub struct Place {
+    pub space: Rc<[u8]>,
+    pub at: usize,
 }
 
 /// The places of a row.
-type Places = Rc<[Place]>;
+pub type Places = Rc<[Place]>;
 
 /// Reads the record at an offset: a function that is not inlined and makes one call to its side. What it answers goes
 /// through black_box there, so that it is no mere jump to its side.
@@ -38,7 +38,7 @@ pub fn rows() -> Result<Vec<Row>, String> {
 }
 
 /// Random spaces with drawn records at random multiples of a record's bytes between two offsets.
-fn places(seed: u64, (from, end): (usize, usize), bytes: usize, draw: fn(&mut Random, &mut [u8])) -> Places {
+pub fn places(seed: u64, (from, end): (usize, usize), bytes: usize, draw: fn(&mut Random, &mut [u8])) -> Places {
     let mut random = Random::seeded(seed);
     let mut places = Vec::new();
     for _ in 0..SPACES {

@@ -18,6 +18,12 @@ pub const LEAVING: usize = 20;
 /// The most ports that a list can have.
 pub const PORTS: usize = 32;
 
+/// The most groups that a Multicast capability can have: group 0 to group 63.
+pub const GROUPS: usize = 64;
+
+/// The ID by which an extended list names a Multicast capability.
+pub const MULTICAST_ID: u16 = 0x0012;
+
 /// The bytes that hold any request that is written: a write has 16, and a read 12.
 pub const REQUEST: usize = 16;
 

@@ -1,8 +1,9 @@
-//! A board's answers to configuration packets, the three capability lists, two records, a switch's router, and the asking
-//! side, by the proved code of libthawribbon.a.
+//! A board's answers to configuration packets, the three capability lists, two records, a switch's router, the asking side,
+//! and a switch's multicast, by the proved code of libthawribbon.a.
 //!
-//! Document 01 of the project fixes what every function answers, with what document 02 corrects, and for the router and
-//! the asking side document 02; their words are used here, and the rules that hold stand in docs/RULES.md of the project.
+//! Document 01 of the project fixes what every function answers, with what document 02 corrects, and for the router, the
+//! asking side and multicast document 02; their words are used here, and the rules that hold stand in docs/RULES.md of the
+//! project.
 //! Any bytes, of any length, get an answer. After a [`Refusal`] no lent byte and no capture has changed.
 //!
 //! | You want to | Use |
@@ -10,6 +11,7 @@
 //! | ask | a [`Request`], which gives the [`Packet`] to send, and reads the [`Completion`] that came for it, or says why it is [`NotAnswered`] |
 //! | have a board answer a packet | [`Board::serve`], which gives a [`Completion`] or says why it is [`NotDone`] |
 //! | have a switch pass a packet on | [`route`], which gives what is [`Leaving`], or says why it is [`NotRouted`] |
+//! | know by which ports a multicast packet leaves a switch | [`Groups::read`] for each port, and [`judge`], which gives what is [`Judged`] |
 //! | list the capabilities of a space | [`headers`]; [`chain`] and [`walk`] give bare offsets |
 //! | read a record | [`dvsec`], [`dvsec_body`], [`dual_bdf`] |
 //! | have the functions of thawribbon.h as they are | [`raw`] |
@@ -111,6 +113,41 @@
 //! }
 //! ```
 //!
+//! # Who gets a radar's group
+//!
+//! The Multicast capability of each port of a switch says which groups there are at which addresses, which of them leave by
+//! the port, and which are dropped where they enter. `?` stops at a port that has none, or one that is refused: no address
+//! is judged without it.
+//!
+//! ```
+//! use thawribbon::{Groups, Judged, List, MULTICAST_ID, Refusal, SPACE, headers, judge};
+//!
+//! /// The Multicast capability that a port's extended list has.
+//! fn multicast(space: &[u8]) -> Result<Groups, Refusal> {
+//!     let headers = headers(List::Extended, space)?;
+//!     let header = headers.iter().find(|header| header.id == MULTICAST_ID);
+//!     Groups::read(space, header.ok_or(Refusal::OtherStructure)?.offset)
+//! }
+//!
+//! fn main() -> Result<(), Refusal> {
+//!     // Three ports with groups 0 to 3 of 4 KiB each, from 8_0000_0000h on. Behind the last two are the model hosts.
+//!     let mut spaces = [[0; SPACE]; 3];
+//!     for space in &mut spaces {
+//!         space[0x100..0x10E].copy_from_slice(&[0x12, 0x00, 0x01, 0x00, 0x3F, 0x00, 0x03, 0x80, 0x0C, 0, 0, 0, 0x08, 0]);
+//!     }
+//!     (spaces[1][0x110], spaces[2][0x110]) = (0b0110, 0b0100); // Receive: groups 1 and 2, and group 2
+//!     let ports = spaces.iter().map(|space| multicast(space)).collect::<Result<Vec<_>, _>>()?;
+//!
+//!     // A radar volume of group 2 enters by port 0.
+//!     match judge(&ports, 0, 0x8_0000_2000)? {
+//!         Judged::Leaves { group, ports } => assert_eq!((group, ports.iter().collect()), (2, vec![1, 2])),
+//!         Judged::Dropped { group } => panic!("group {group} is blocked"),
+//!         Judged::NoHit => panic!("the address is no group's"),
+//!     }
+//!     Ok(())
+//! }
+//! ```
+//!
 //! # A board's first three packets
 //!
 //! P1 to P3 of the bench sheet: a fresh board does not know its bus and device number, so it cannot be asked for a
@@ -161,10 +198,12 @@ mod board;
 mod completion;
 mod constants;
 mod lists;
+mod multicast;
 mod not_answered;
 mod not_done;
 mod not_routed;
 mod packet;
+mod port_set;
 #[allow(unsafe_code)]
 pub mod raw;
 mod records;
@@ -175,16 +214,18 @@ mod router;
 pub use board::{Board, Capture, Description, Space};
 pub use completion::{Completion, Id, Said, Status};
 pub use constants::{
-    COMPATIBLE_MAXIMUM, DATA, EXTENDED_MAXIMUM, LEAVING, NO_MARKS, PORTS, REPLY, REQUEST, SPACE, STATUS,
-    STATUS_SUCCESSFUL, STATUS_UNSUPPORTED, TRUSTED_MAXIMUM, TRUSTED_READ, TRUSTED_WRITE, TYPE0_READ, TYPE0_WRITE,
-    TYPE1_READ, TYPE1_WRITE, VERSION,
+    COMPATIBLE_MAXIMUM, DATA, EXTENDED_MAXIMUM, GROUPS, LEAVING, MULTICAST_ID, NO_MARKS, PORTS, REPLY, REQUEST, SPACE,
+    STATUS, STATUS_SUCCESSFUL, STATUS_UNSUPPORTED, TRUSTED_MAXIMUM, TRUSTED_READ, TRUSTED_WRITE, TYPE0_READ,
+    TYPE0_WRITE, TYPE1_READ, TYPE1_WRITE, VERSION,
 };
 pub use lists::{Header, List, chain, headers, walk};
+pub use multicast::{Judged, judge};
 pub use not_answered::NotAnswered;
 pub use not_done::NotDone;
 pub use not_routed::NotRouted;
 pub use packet::Packet;
-pub use raw::Port;
+pub use port_set::{PortPlaces, PortSet};
+pub use raw::{Groups, Port};
 pub use records::{Alternate, Dvsec, dual_bdf, dvsec, dvsec_body};
 pub use refusal::Refusal;
 pub use request::{Kind, Request};

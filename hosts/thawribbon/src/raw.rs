@@ -4,7 +4,9 @@
 //! Of these, only [`serve`] writes into a reply that is lent, and its number 0 does not say that the access was done:
 //! byte 6 of the reply does, which is [`STATUS_SUCCESSFUL`](crate::STATUS_SUCCESSFUL) or
 //! [`STATUS_UNSUPPORTED`](crate::STATUS_UNSUPPORTED). Nor does number 0 of [`route`] say that the packet leaves:
-//! [`Routed::leaves`] does; nor that of [`read_completion`] that the access was done: [`Heard::said`] does.
+//! [`Routed::leaves`] does; nor that of [`read_completion`] that the access was done: [`Heard::said`] does; nor that of
+//! [`judge`] that the packet leaves: [`Judged::verdict`] does. A capability that [`multicast`] refuses leaves fields of
+//! zeros, which [`judge`] takes for those of a port that is not enabled: only the number tells.
 //!
 //! Every function is safe to call: a slice has the pointer and the length that C passes by hand, and the functions take
 //! any length. This is the one module with `unsafe` in it. The structs are laid out as C lays them out, and are held to
@@ -222,7 +224,8 @@ pub struct Judged {
 
 mod linked {
     use super::{
-        Alternate, Capture, Description, Dvsec, Groups, Heard, Judged, Part, Parts, Port, Routed, Served, Walked, Written,
+        Alternate, Capture, Description, Dvsec, Groups, Heard, Judged, Part, Parts, Port, Routed, Served, Walked,
+        Written,
     };
 
     unsafe extern "C" {
@@ -278,12 +281,8 @@ mod linked {
         ) -> Routed;
         pub(super) fn thawribbon_write_request(parts: Parts, buffer: *mut u8, buffer_length: usize) -> Written;
         pub(super) fn thawribbon_read_completion(completion: *const u8, completion_length: usize) -> Heard;
-        pub(super) fn thawribbon_multicast(
-            space: *const u8,
-            space_length: usize,
-            at: usize,
-            groups: *mut Groups,
-        ) -> u8;
+        pub(super) fn thawribbon_multicast(space: *const u8, space_length: usize, at: usize, groups: *mut Groups)
+        -> u8;
         pub(super) fn thawribbon_judge(
             ports: *const Groups,
             ports_length: usize,

@@ -1,4 +1,4 @@
-//! Why a call is refused: the answer numbers 1 to 12 without 7, named once for Rust.
+//! Why a call is refused: the answer numbers 1 to 13 without 7, named once for Rust.
 
 use crate::{Offset, raw};
 use std::error::Error;
@@ -16,7 +16,9 @@ pub enum Refusal {
     /// device is over 31, a function number or A or B is outside its range, or a record is asked for where none may stand.
     /// At a router: a list has over 32 ports, a port's secondary bus is over its subordinate bus, or two ranges of buses
     /// meet. Of a request to be written: its kind is none of the six, a device is over 31, a function over 7, its offset
-    /// over FFCh or not a multiple of 4, or its enables over 15. The overlaps that its text names can only be in C.
+    /// over FFCh or not a multiple of 4, or its enables over 15. Of an address to be judged: the list has over 32 ports, the
+    /// packet enters by none of them, or a port's fields are such as no reading gives. The overlaps that its text names can
+    /// only be in C.
     BadDescription,
     /// The reply is under 16 bytes, the list room is under the list's maximum, the buffer for what leaves is under 20
     /// bytes, or the buffer for a request is shorter than the request.
@@ -51,10 +53,12 @@ pub enum Refusal {
         /// none.
         place: Offset,
     },
+    /// Of a Multicast capability: Num Group is over Max Group, or it is enabled with an Index Position under 12.
+    WrongGroups,
 }
 
 impl Refusal {
-    /// The answer number: 1 to 6, or 8 to 12.
+    /// The answer number: 1 to 6, or 8 to 13.
     ///
     /// ```
     /// use thawribbon::Refusal;
@@ -76,6 +80,7 @@ impl Refusal {
             Refusal::NotOneFunction => 10,
             Refusal::BelowFloor { .. } => 11,
             Refusal::ComesBack { .. } => 12,
+            Refusal::WrongGroups => 13,
         }
     }
 
@@ -122,6 +127,7 @@ impl Refusal {
                  a captured device is over 31, \
                  a function number or A or B is outside its range, a record is asked for where none may stand, \
                  a list has over 32 ports, a secondary bus over its subordinate bus, or two ranges that meet, \
+                 a packet enters by no port of the list, a port's Multicast fields are such as no reading gives, \
                  what leaves overlaps the ports or the packet, what is heard overlaps the board, \
                  or a request has a kind outside the six, a device over 31, a function over 7, \
                  an offset over FFCh or not a multiple of 4, or enables over 15"
@@ -149,6 +155,10 @@ impl Refusal {
             Refusal::NotOneFunction => "the function vector does not have exactly one bit",
             Refusal::BelowFloor { .. } => "a pointer of the list is below its floor",
             Refusal::ComesBack { .. } => "a pointer of the list leads to an offset that is already in the chain",
+            Refusal::WrongGroups => {
+                "the Multicast capability has a Num Group over its Max Group, \
+                 or is enabled with an Index Position under 12"
+            }
         }
     }
 }
@@ -190,13 +200,14 @@ impl fmt::Debug for Refusal {
                 return write!(formatter, "BelowFloor {{ place: Some({place:#05X}) }}");
             }
             Refusal::ComesBack { place } => return write!(formatter, "ComesBack {{ place: {place:#05X} }}"),
+            Refusal::WrongGroups => "WrongGroups",
         })
     }
 }
 
 impl Error for Refusal {}
 
-/// The refusal with this number, and this place of a list; none where the number is 0, 7 or over 12.
+/// The refusal with this number, and this place of a list; none where the number is 0, 7 or over 13.
 #[inline]
 const fn refusal(number: u8, place: Offset) -> Option<Refusal> {
     Some(match number {
@@ -212,6 +223,7 @@ const fn refusal(number: u8, place: Offset) -> Option<Refusal> {
         11 if place == 0 => Refusal::BelowFloor { place: None },
         11 => Refusal::BelowFloor { place: Some(place) },
         12 => Refusal::ComesBack { place },
+        13 => Refusal::WrongGroups,
         _ => return None,
     })
 }
@@ -252,7 +264,7 @@ mod tests {
     use super::{Refusal, refusal, served, walked};
     use crate::raw::Walked;
 
-    const NUMBERS: [u8; 11] = [1, 2, 3, 4, 5, 6, 8, 9, 10, 11, 12];
+    const NUMBERS: [u8; 12] = [1, 2, 3, 4, 5, 6, 8, 9, 10, 11, 12, 13];
 
     #[test]
     fn each_number_has_its_refusal() {
@@ -266,9 +278,9 @@ mod tests {
     }
 
     #[test]
-    #[should_panic(expected = "answered 13")]
+    #[should_panic(expected = "answered 14")]
     fn a_number_that_is_no_answer_is_no_refusal() {
-        let _ = served(13);
+        let _ = served(14);
     }
 
     #[test]
@@ -295,7 +307,11 @@ mod tests {
                 let refusal = refusal(number, place).expect("a refusal");
                 let text = refusal.to_string();
                 assert!(text.starts_with(&format!("refused with {number}: ")), "{text}");
-                assert_eq!(said.contains(&text), number < 11 && place != 0, "{text}");
+                assert_eq!(
+                    said.contains(&text),
+                    ![11, 12].contains(&number) && place != 0,
+                    "{text}"
+                );
                 said.push(text);
             }
         }
@@ -313,6 +329,7 @@ mod tests {
     fn a_refusal_is_written_as_it_stands_in_a_program() {
         let says = |refusal: Refusal| format!("{refusal:?}");
         assert_eq!(says(Refusal::NotOneFunction), "NotOneFunction");
+        assert_eq!(says(Refusal::WrongGroups), "WrongGroups");
         assert_eq!(says(Refusal::BelowFloor { place: None }), "BelowFloor { place: None }");
         assert_eq!(
             says(Refusal::BelowFloor { place: Some(0x008) }),

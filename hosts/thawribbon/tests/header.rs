@@ -2,13 +2,13 @@
 #![forbid(unsafe_code)]
 
 use std::collections::BTreeMap;
-use thawribbon::raw::read_completion;
+use thawribbon::raw::{Groups, judge, read_completion};
 use thawribbon::{Completion, List, NotAnswered, NotRouted, Refusal};
 
 const HEADER: &str = include_str!("../../include/thawribbon.h");
 
 /// The refusals of the crate, under the names that the header has for them.
-const REFUSALS: [(&str, Refusal); 11] = [
+const REFUSALS: [(&str, Refusal); 12] = [
     ("THAWRIBBON_BAD_DESCRIPTION", Refusal::BadDescription),
     ("THAWRIBBON_NO_ROOM", Refusal::NoRoom),
     ("THAWRIBBON_SHORT_PACKET", Refusal::ShortPacket),
@@ -20,6 +20,7 @@ const REFUSALS: [(&str, Refusal); 11] = [
     ("THAWRIBBON_NOT_ONE_FUNCTION", Refusal::NotOneFunction),
     ("THAWRIBBON_BELOW_FLOOR", Refusal::BelowFloor { place: None }),
     ("THAWRIBBON_COMES_BACK", Refusal::ComesBack { place: 0x100 }),
+    ("THAWRIBBON_WRONG_GROUPS", Refusal::WrongGroups),
 ];
 
 /// What is fixed is there when a program is compiled.
@@ -74,6 +75,8 @@ fn the_constants_are_those_of_the_header() {
         ("REPLY", &thawribbon::REPLY.to_string()),
         ("LEAVING", &thawribbon::LEAVING.to_string()),
         ("PORTS", &thawribbon::PORTS.to_string()),
+        ("GROUPS", &thawribbon::GROUPS.to_string()),
+        ("MULTICAST_ID", &format!("0x{:04X}", thawribbon::MULTICAST_ID)),
         ("REQUEST", &thawribbon::REQUEST.to_string()),
         ("DATA", &thawribbon::DATA.to_string()),
         ("STATUS", &thawribbon::STATUS.to_string()),
@@ -101,7 +104,10 @@ fn no_marks_are_those_of_the_header() {
 
 /// The names and the numbers of an enum of the header.
 fn enumerated(name: &str) -> BTreeMap<&'static str, u8> {
-    lines_between(&format!("enum {name} {{"), "};")
+    let beginning = format!("enum {name} {{");
+    let after = HEADER.lines().skip_while(|line| !line.contains(&beginning)).skip(1);
+    after
+        .take_while(|line| !line.starts_with('}'))
         .filter_map(|line| line.trim().trim_end_matches(',').split_once(" = "))
         .map(|(name, number)| (name, number.parse().expect("a number")))
         .collect()
@@ -157,6 +163,25 @@ fn what_is_said_is_what_the_header_names() {
         ("THAWRIBBON_SAID_UNSUPPORTED", said(&completion(0x20))),
     ];
     assert_eq!(enumerated("thawribbon_said"), BTreeMap::from(expected));
+}
+
+/// What `raw::judge` gives for each is what the header names.
+#[test]
+fn what_is_judged_is_what_the_header_names() {
+    let port = Groups {
+        enable: 1,
+        index: 12,
+        ..Groups::default()
+    };
+    let blocked = Groups { block_all: 1, ..port };
+    let verdict = |ports: &[Groups], address| judge(ports, 0, address).verdict;
+    let expected = [
+        ("THAWRIBBON_JUDGED_NOTHING", verdict(&[], 0)),
+        ("THAWRIBBON_JUDGED_NO_HIT", verdict(&[port], 0x1000)),
+        ("THAWRIBBON_JUDGED_DROPPED", verdict(&[blocked], 0)),
+        ("THAWRIBBON_JUDGED_LEAVES", verdict(&[port], 0)),
+    ];
+    assert_eq!(enumerated("thawribbon_judgement"), BTreeMap::from(expected));
 }
 
 #[test]

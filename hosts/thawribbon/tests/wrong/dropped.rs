@@ -1,11 +1,12 @@
 //! Every answer that may not be dropped, dropped: rustc has to warn of each line that says so.
 //!
 //! tests/rust.sh compiles this; it is no test of the package, and is never run. It counts the crate's functions too: each
-//! that gives something stands here. What leaves a switch, or is to be sent, may not be dropped behind a `?` either.
+//! that gives something stands here. What leaves a switch, is judged, or is to be sent, may not be dropped behind a `?`
+//! either.
 use thawribbon::raw::{self, Capture, Description, Parts};
-use thawribbon::{Board, Completion, Id, Kind, Leaving, List, NotAnswered, NotDone, NotRouted, Packet, Port, Refusal};
-use thawribbon::{Request, Space};
-use thawribbon::{chain, dual_bdf, dvsec, dvsec_body, headers, route, walk};
+use thawribbon::{Board, Completion, Groups, Id, Kind, Leaving, List, NotAnswered, NotDone, NotRouted, Packet, Port};
+use thawribbon::{PortSet, Refusal, Request, Space};
+use thawribbon::{chain, dual_bdf, dvsec, dvsec_body, headers, judge, route, walk};
 
 fn main() {}
 
@@ -41,6 +42,23 @@ pub fn drop_routed(ports: &[Port], packet: &[u8], leaving: &Leaving) -> Result<(
     leaving.port(); // dropped
     leaving.bytes(); // dropped
     Ok(())
+}
+
+pub fn drop_judged(ports: &[Groups], space: &[u8], set: PortSet) -> Result<(), Refusal> {
+    Groups::read(space, 0x100); // dropped
+    judge(ports, 0, 0); // dropped
+    judge(ports, 0, 0)?; // dropped
+    set.contains(0); // dropped
+    set.is_empty(); // dropped
+    set.len(); // dropped
+    set.bits(); // dropped
+    set.iter(); // dropped
+    Ok(())
+}
+
+pub fn drop_raw_judged(ports: &[Groups], space: &[u8], groups: &mut Groups) {
+    raw::multicast(space, 0x100, groups); // dropped
+    raw::judge(ports, 0, 0); // dropped
 }
 
 pub fn drop_requests(target: Id, data: [u8; 4]) {

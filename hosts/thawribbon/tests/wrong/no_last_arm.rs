@@ -9,6 +9,6 @@ pub fn is_of_a_packet(refusal: Refusal) -> bool {
     match refusal {
         Refusal::ShortPacket | Refusal::UnknownType | Refusal::WrongLength | Refusal::WrongField => true,
         Refusal::BadDescription | Refusal::NoRoom | Refusal::BelowFloor { .. } | Refusal::ComesBack { .. } => false,
-        Refusal::OtherStructure | Refusal::WrongExtent | Refusal::NotOneFunction => false,
+        Refusal::OtherStructure | Refusal::WrongExtent | Refusal::NotOneFunction | Refusal::WrongGroups => false,
     }
 }
