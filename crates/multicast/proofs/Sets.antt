@@ -1,15 +1,14 @@
--- Laws of sets as numbers, a bit for each place: a set that grows by a place above all that it has, and that its bits are all there is to it. Assumes
--- nothing.
+-- Laws of sets as numbers, a bit for each place: a set that grows by a place below all that it has, and that its bits are all there is to it. Assumes nothing.
 use Prim.Native.Nat.{ℕ, zero, suc, _+_, _-_, _*_, _/_, _%_, _^_, _≤_, _<_}
 use mathlib.Core.Bool.{Bool, true, false}
 use mathlib.Core.Logic.{_⊎_, inl, inr}
 use mathlib.Core.Path.{_≡_, refl, sym, ap, _∙_, subst}
-use native.Mathlib.Nat.{div-eq-of-lt, mod-lt, pow-suc}
+use native.Mathlib.Nat.{div-eq-of-lt, mod-lt, mod-eq-of-lt, pow-suc}
 use native.Mathlib.Omega.{arith}
 use borrow.Author.Tests.{ltb-true, ltb-false}
 use lib.Bits.{bitOr, or-shifted}
 use lib.Dec.{ltb}
-use lib.Pow.{field, high, low, mod-mod-pow, pow-mono, shl-exact, shr-shr}
+use lib.Pow.{pow-mono, shr-shr}
 use Rattle.words.specs.Fields.{bit}
 
 pub below-or-from : (k n : ℕ) → (k < n) ⊎ (n ≤ k)
@@ -29,32 +28,19 @@ bit-above k n x h l = ap (λ (q : ℕ). q % 2) (div-eq-of-lt (wide (2 ^ n) (2 ^ 
     wide : (a b : ℕ) → x < a → a ≤ b → x < b
     wide a b h l = omega arith
 
--- the bits of what a number leaves by a higher power are its own
-bit-mod : (k n x : ℕ) → k < n → bit k (x % 2 ^ n) ≡ bit k x
-bit-mod k n x h =
-    let whole : n ≡ (n - (1 + k)) + (1 + k) = omega arith in
-    sym (field (x % 2 ^ n) 1 k)
-    ∙ ap (λ (y : ℕ). y / 2 ^ k) (ap (λ (m : ℕ). x % 2 ^ m % 2 ^ (1 + k)) whole ∙ mod-mod-pow x (n - (1 + k)) (1 + k))
-    ∙ field x 1 k
+bit-half : (k x : ℕ) → bit (suc k) x ≡ bit k (x / 2)
+bit-half k x = ap (λ (n : ℕ). x / 2 ^ n % 2) (omega arith) ∙ ap (λ (q : ℕ). q % 2) (sym (shr-shr x 1 k))
 
--- one more place, above a set
-module _ (t n set : ℕ) (small : t < 2) (below : set < 2 ^ n) where
-  pub grown-is : n < 32 → bitOr (t * 2 ^ n % 2 ^ 32) set ≡ t * 2 ^ n + set
-  grown-is h = ap (λ (x : ℕ). bitOr x set) (shl-exact 1 n 32 small (omega arith)) ∙ or-shifted t n set below
+-- one more place, below a set
+module _ (set t : ℕ) (small : t < 2) where
+  pub below-set : set < 2 ^ 31 → bitOr (set * 2 % 2 ^ 32) t ≡ set * 2 + t
+  below-set h = ap (λ (x : ℕ). bitOr x t) (mod-eq-of-lt {n = set * 2} {m = 2 ^ 32} (omega arith)) ∙ or-shifted set 1 t small
 
-  pub grown-lt : t * 2 ^ n + set < 2 ^ suc n
-  grown-lt = rw (pow-suc 2 n) (room t (2 ^ n) small below)
-    where
-      room : (t p : ℕ) → t < 2 → set < p → t * p + set < p * 2
-      room zero p small h = omega arith
-      room (suc zero) p small h = omega arith
-      room (suc (suc t)) p small h = absurd (omega arith)
+  pub lowest-bit : bit 0 (set * 2 + t) ≡ t
+  lowest-bit = omega arith
 
-  pub grown-old : (k : ℕ) → k < n → bit k (t * 2 ^ n + set) ≡ bit k set
-  grown-old k h = sym (bit-mod k n (t * 2 ^ n + set) h) ∙ ap (bit k) (low t n below)
-
-  pub grown-new : bit n (t * 2 ^ n + set) ≡ t
-  grown-new = ap (λ (q : ℕ). q % 2) (high t n below) ∙ omega arith
+  pub higher-bit : (k : ℕ) → bit (suc k) (set * 2 + t) ≡ bit k set
+  higher-bit k = bit-half k (set * 2 + t) ∙ ap (bit k) (omega arith)
 
 -- a number is its bits
 pub same-bits : (n a b : ℕ) → a < 2 ^ n → b < 2 ^ n → ((k : ℕ) → k < n → bit k a ≡ bit k b) → a ≡ b
@@ -66,6 +52,3 @@ same-bits (suc n) a b ha hb e =
   where
     half : (x : ℕ) → x < 2 ^ suc n → x / 2 < 2 ^ n
     half x h = let wide : x < 2 ^ n * 2 = subst (λ (p : ℕ). x < p) (pow-suc 2 n) h in omega arith
-
-    bit-half : (k x : ℕ) → bit (suc k) x ≡ bit k (x / 2)
-    bit-half k x = ap (λ (n : ℕ). x / 2 ^ n % 2) (omega arith) ∙ ap (λ (q : ℕ). q % 2) (sym (shr-shr x 1 k))

@@ -3,7 +3,7 @@ ghost use mathlib.Core.Path.{_≡_};
 ghost use Prim.Native.Nat.{_≤_, _<_};
 ghost use lib.ListN.{length};
 ghost use Rattle.multicast.specs.Records.{areRecords};
-ghost use Rattle.multicast.specs.Inner.{memberBit, SetOf};
+ghost use Rattle.multicast.specs.Inner.{Spans, Gathers, SetOf};
 use super::RECEIVE;
 use super::Record;
 use super::fields;
@@ -22,28 +22,26 @@ pub(crate) fn are_records(ports: &[Record]) -> bool
     true
 }
 
-// 1 where a port is another than the one that the group enters by, and has its Receive bit; else 0.
-fn member(ports: &[Record], entering: usize, group: u8, place: usize) -> u32
-    requires { ⌜ (place < length (now ports)) × (group ≤ 63) ⌝ }
-    ensures { λ r. ⌜ r ≡ memberBit (now (ports .entry)) entering group place ⌝ }
+// The Receive bits of the ports from one place up to another: each is put below those of the places above it, which the set has already.
+fn gather(ports: &[Record], from: usize, to: usize, group: u8, above: u32) -> u32
+    requires { ⌜ Spans (now ports) from to group above ⌝ }
+    ensures { λ r. ⌜ Gathers (now (ports .entry)) from to group above r ⌝ }
 {
-    if place == entering {
-        return 0;
-    }
-    let port = ports[place];
-    groups::bit_of(port[RECEIVE], group)
-}
-
-// The set of the ports that a group leaves by.
-pub(crate) fn leaving(ports: &[Record], entering: usize, group: u8) -> u32
-    requires { ⌜ (length (now ports) ≤ 32) × (group ≤ 63) ⌝ }
-    ensures { λ r. ⌜ SetOf (now (ports .entry)) entering group r ⌝ }
-{
-    let mut set = 0;
-    let mut place = 0;
-    while place < ports.len() {
-        set = member(ports, entering, group, place) << place | set;
-        place += 1;
+    let mut set = above;
+    let mut place = to;
+    while from < place {
+        place -= 1;
+        let port = ports[place];
+        set = set << 1 | groups::bit_of(port[RECEIVE], group);
     }
     set
+}
+
+// The set of the ports that a group leaves by: those above the one that it enters by, a 0 for that one, and those below.
+pub(crate) fn leaving(ports: &[Record], entering: usize, group: u8) -> u32
+    requires { ⌜ (entering < length (now ports)) × (length (now ports) ≤ 32) × (group ≤ 63) ⌝ }
+    ensures { λ r. ⌜ SetOf (now (ports .entry)) entering group r ⌝ }
+{
+    let above = gather(ports, entering + 1, ports.len(), group, 0);
+    gather(ports, 0, entering, group, above << 1)
 }

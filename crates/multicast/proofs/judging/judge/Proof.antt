@@ -76,7 +76,9 @@ returns-5 c =
 
 leaving-requires : tie.Need-leaving-requires
 leaving-requires c κs =
-    let k = c .before .before in (k .before .before .before .before .before .before .before .before .if1 .left, hit k .2)
+    let k = c .before .before in
+    let g = k .before .before .before .before .before .before .before in
+    (g .if2 .left, g .before .if1 .left, hit k .2)
 
 returns-6 : tie.Need-returns-6
 returns-6 c =

@@ -1,58 +1,20 @@
--- `multicast::members::leaving` meets its contract. The loop's invariant: the set holds the members among the ports that were looked at. Assumes nothing.
+-- `multicast::members::leaving` meets its contract: the members above the place that is entered by, none there, and those below. Assumes nothing.
 use borrow.Author.Needs.{needs}
-use Prim.Native.Nat.{_-_, _≤_}
-use native.Mathlib.Omega.{arith}
-use lib.ListN.{length}
-use Rattle.multicast.proofs.Held.{Holds, holds-none, holds-more, holds-all}
+use Rattle.multicast.proofs.Held.{gathered-start, gathered-above, gathered-all}
 use Rattle.multicast.proofs.members.leaving.Statement.{statement}
 use Rattle.multicast.proofs.members.leaving.Tie as tie
 
-abbrev Inv-loop : tie.InvT-loop
-Inv-loop ports entering group set₀ place₀ set place = (place ≤ length ports) × Holds ports entering group place set
+add-gather : tie.Need-add-gather
+add-gather c = search needs
 
-abbrev μ-loop : tie.MeasureT-loop
-μ-loop ports entering group set₀ place₀ set place = length ports - place
+gather-requires : tie.Need-gather-requires
+gather-requires c κs = gathered-start _ _ _ (c .pre .0) (c .pre .1) (c .pre .2)
 
-loop-holds : tie.Need-loop-holds Inv-loop μ-loop
-loop-holds c = (omega arith, holds-none _ _ _)
+gather-requires-2 : tie.Need-gather-requires-2
+gather-requires-2 c κs = let p = c .before .pre in gathered-above _ _ _ (p .0) (p .1) _ (p .2) (c .gather .ensures .1)
 
-member-requires : tie.Need-member-requires Inv-loop μ-loop
-member-requires c κs = (c .loop-test .taken, c .before .before .pre .1)
-
-cast-set : tie.Need-cast-set Inv-loop μ-loop
-cast-set c = let l = c .before .before .loop in omega (arith, l .inv .0, c .before .before .before .pre .0)
-
-shl-set : tie.Need-shl-set Inv-loop μ-loop
-shl-set c = let l = c .before .before .loop in omega (arith, l .inv .0, c .before .loop-test .taken, c .before .before .before .pre .0)
-
-add-place : tie.Need-add-place Inv-loop μ-loop
-add-place c = search needs
-
-loop-less : tie.Need-loop-less Inv-loop μ-loop
-loop-less c = search needs
-
-loop-again : tie.Need-loop-again Inv-loop μ-loop
-loop-again c =
-    let l = c .before .before .loop in
-    let less = c .before .loop-test .taken in
-    (omega arith, rw (c .member .ensures) (holds-more _ _ _ (l .place) (l .set) (omega (arith, less, c .before .before .before .pre .0)) (l .inv .1)))
-
-returns : tie.Need-returns Inv-loop μ-loop
-returns c =
-    let l = c .before .loop in
-    holds-all _ _ _ (l .place) (l .set) (c .before .before .pre .0) (omega (arith, l .inv .0)) (l .inv .1)
+returns : tie.Need-returns
+returns c = let p = c .before .before .pre in gathered-all _ _ _ (p .0) (p .1) _ _ (c .before .gather .ensures) (c .gather2 .ensures)
 
 pub leaving-spec : {M : Type 1} → statement M
-leaving-spec =
-    tie.close
-    (tie.spec
-    Inv-loop
-    μ-loop
-    loop-holds
-    member-requires
-    cast-set
-    shl-set
-    add-place
-    loop-less
-    loop-again
-    returns)
+leaving-spec = tie.close (tie.spec add-gather gather-requires gather-requires-2 returns)
