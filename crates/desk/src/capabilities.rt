@@ -1,0 +1,161 @@
+// A Multicast capability of the board at the desk is asked for. Its number and its seven fields are told, or held against what is expected; it
+// may be kept as the record of a port of the switch.
+use crate::keeping;
+use crate::keeping::Records;
+use crate::pieces;
+use crate::reading;
+use crate::slots::Desk;
+use crate::tokens;
+use crate::tokens::Tokens;
+use crate::wording;
+use crate::wording::say;
+use crate::wording::say_all;
+use crate::wording::say_one;
+use crate::wording::say_three;
+use answers::Answer;
+use multicast::Capability;
+use multicast::Record;
+
+// The words for 0 and for 1 of Enable, by their numbers in saying.rt.
+const NOT_ENABLED: usize = 7;
+
+// The number of fields that do not go together.
+const WRONG_GROUPS: u8 = 13;
+
+// How many groups there may be, each with a bit of a register.
+const PLACES: usize = 64;
+
+// Says whether this is a check that was right.
+pub fn ask(desk: &Desk, tokens: &Tokens, space: &[u8]) -> bool {
+    answer(desk, tokens, space, read(tokens, space))
+}
+
+// The same, and what is found becomes the record of a port; a refusal leaves that as it is.
+pub fn keep(desk: &Desk, tokens: &Tokens, space: &[u8], records: &mut Records) -> bool {
+    let found = read(tokens, space);
+    let port = tokens::at(tokens, 3);
+    let right = answer(desk, tokens, space, found);
+    if is_found(found) {
+        keeping::put(desk, records, port, found.fields);
+        tell_kept(right, port);
+    }
+    right
+}
+
+fn tell_kept(right: bool, port: usize) {
+    if !right {
+        say_one(wording::KEPT, port);
+    }
+}
+
+fn read(tokens: &Tokens, space: &[u8]) -> Capability {
+    multicast::read(space, tokens::at(tokens, 2))
+}
+
+fn is_found(found: Capability) -> bool {
+    number_of(found) == 0
+}
+
+fn number_of(found: Capability) -> u8 {
+    let answer = found.answer;
+    match answer {
+        Answer::Done => 0,
+        Answer::Refused(refusal) => refusal.number(),
+    }
+}
+
+// A refusal has no fields.
+fn answer(desk: &Desk, tokens: &Tokens, space: &[u8], found: Capability) -> bool {
+    let number = number_of(found);
+    let fields = numbers_of(found.fields);
+    let told = if number == 0 { fields.len() } else { 0 };
+    let right = reading::answer(desk, tokens, number, &fields[..told], &space[..0]);
+    if !right {
+        tell_clash(number, space, tokens::at(tokens, 2));
+    }
+    right
+}
+
+fn numbers_of(record: Record) -> [usize; 7] {
+    [
+        record[0] as usize,
+        record[1] as usize,
+        record[2] as usize,
+        record[3] as usize,
+        record[4] as usize,
+        record[5] as usize,
+        record[6] as usize,
+    ]
+}
+
+// The seven fields in words.
+pub fn tell(fields: &[usize]) {
+    let index = field(fields, multicast::INDEX);
+    let receive = field(fields, multicast::RECEIVE);
+    let block_all = field(fields, multicast::BLOCK_ALL);
+    say_three(
+        wording::GROUPS,
+        field(fields, multicast::MAX_GROUP),
+        field(fields, multicast::NUM_GROUP),
+        enabled(field(fields, multicast::ENABLE)),
+    );
+    say_three(
+        wording::WINDOWS,
+        field(fields, multicast::BASE),
+        index,
+        1 << index % PLACES,
+    );
+    tell_register(wording::RECEIVE, receive);
+    tell_register(wording::BLOCK_ALL, block_all);
+}
+
+fn field(fields: &[usize], place: usize) -> usize {
+    pieces::number_at(fields, place)
+}
+
+fn enabled(enable: usize) -> usize {
+    NOT_ENABLED + enable % 2
+}
+
+fn tell_register(text: usize, register: usize) {
+    say_one(text, register);
+    put_places(register);
+    say(wording::END);
+}
+
+// The places of the bits that are 1, or that none is.
+pub fn put_places(set: usize) {
+    if set == 0 {
+        say(wording::NONE);
+    }
+    let mut place = 0;
+    while place < PLACES {
+        if set >> place & 1 == 1 {
+            say_one(wording::ONE, place);
+        }
+        place += 1;
+    }
+}
+
+// Of a refusal for fields that do not go together, these fields, as they stand in the space.
+fn tell_clash(number: u8, space: &[u8], at: usize) {
+    if number != WRONG_GROUPS {
+        return;
+    }
+    say_all(
+        wording::CLASH,
+        six_bits(space, at, 4),
+        six_bits(space, at, 6),
+        enabled(byte(space, at, 7) / 128),
+        six_bits(space, at, 8),
+        0,
+    );
+}
+
+fn six_bits(space: &[u8], at: usize, further: usize) -> usize {
+    byte(space, at, further) % PLACES
+}
+
+fn byte(space: &[u8], at: usize, further: usize) -> usize {
+    pieces::value_of(space, std::num::wrapping_add_usize(at, further))
+}
