@@ -83,7 +83,7 @@ the first byte is neither 4A nor 0A
 the completion's length does not fit its first byte: 16 bytes after 4A, 12 after 0A
 a byte that no reply with this first byte has at its place
 badly described: a buffer of another size than 1000, a number or an offset out of range, or a bit that is writable and marked
-badly described: more than 32 records, no such port, or a record that no capability gives
+badly described: too many records, no such port, or a record that no capability gives
 answered
 badly described: a space of another size than 1000, or a number or an offset out of range
 no room: the reply's buffer or the list room is too small

@@ -129,7 +129,7 @@ the input could not be read to its end
 is given no more: a broken list is 11 or 12, with its place
 stands where two numbers more are wanted: sizes has six, each space with its rules and its marks
 stands where four numbers more are wanted: merge has seventeen, with four marks behind the rules
-the list of records has no such port; records begins one with so many
+the list of records has no such port: records C begins one for C ports
 ",
         what,
     ));

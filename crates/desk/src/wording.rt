@@ -244,8 +244,8 @@ nothing
   group %v: dropped where it enters, by the Block All bit of port %v%n
   group %v: leaves by ports
   group %v: leaves by no port%n
-  the list has %v records%n
-  port %v: the list has %v records, the first of them that of port 0%n
+  the list has %v records, and may have 20%n
+  no port %v: the list has %v records, counted from port 0%n
   port %v:%_
 writes:
   reads:%_
