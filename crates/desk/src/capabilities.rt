@@ -35,8 +35,9 @@ pub fn keep(desk: &Desk, tokens: &Tokens, space: &[u8], records: &mut Records) -
     let found = read(tokens, space);
     let port = tokens::at(tokens, 3);
     let right = answer(desk, tokens, space, found);
+    let fields = found.fields;
     if is_found(found) {
-        keeping::put(desk, records, port, found.fields);
+        keeping::put(desk, records, port, fields);
         tell_kept(right, port);
     }
     right
@@ -64,16 +65,23 @@ fn number_of(found: Capability) -> u8 {
     }
 }
 
-// A refusal has no fields.
 fn answer(desk: &Desk, tokens: &Tokens, space: &[u8], found: Capability) -> bool {
     let number = number_of(found);
-    let fields = numbers_of(found.fields);
-    let told = if number == 0 { fields.len() } else { 0 };
-    let right = reading::answer(desk, tokens, number, &fields[..told], &space[..0]);
+    let record = found.fields;
+    let right = if number == 0 {
+        answer_found(desk, tokens, record, &space[..0])
+    } else {
+        reading::refused(desk, tokens, number, &space[..0])
+    };
     if !right {
         tell_clash(number, space, tokens::at(tokens, 2));
     }
     right
+}
+
+// A capability has no body.
+fn answer_found(desk: &Desk, tokens: &Tokens, record: Record, body: &[u8]) -> bool {
+    reading::answer(desk, tokens, 0, &numbers_of(record), body)
 }
 
 fn numbers_of(record: Record) -> [usize; 7] {

@@ -52,7 +52,7 @@ pub fn list_of<'a>(desk: &Desk, records: &'a [Record]) -> &'a [Record] {
     if records.len() < count {
         return records;
     }
-    &records[..count]
+    &records[0..count]
 }
 
 // The record of a port, or seven zeros.

@@ -61,7 +61,7 @@ fn alternate_found(desk: &Desk, tokens: &Tokens, alternate: Alternate, body: &[u
 }
 
 // A refusal has no fields.
-fn refused(desk: &Desk, tokens: &Tokens, number: u8, body: &[u8]) -> bool {
+pub fn refused(desk: &Desk, tokens: &Tokens, number: u8, body: &[u8]) -> bool {
     answer(desk, tokens, number, &[], body)
 }
 

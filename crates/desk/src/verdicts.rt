@@ -140,13 +140,14 @@ fn judge_ports(desk: &Desk, found: usize, wanted: usize) -> bool {
 }
 
 fn tell(verdict: Verdict, list: &[Record], entering: usize, address: u64) {
-    if verdict.said == NOTHING {
+    let said = verdict.said;
+    if said == NOTHING {
         explaining::put_number_as(verdict.number, explaining::BAD_RECORDS);
         missing::tell_refused(list, entering);
         return;
     }
     explaining::put_number(verdict.number);
-    match verdict.said {
+    match said {
         NO_HIT => missing::tell_no_hit(keeping::record_at(list, entering), entering, address),
         DROPPED => say_two(wording::DROPPED, verdict.group, entering),
         _ => tell_leaving(verdict.group, verdict.ports),

@@ -241,9 +241,9 @@ nothing
   no hit: port %v is not enabled%n
   no hit: the address is below %v, the base of port %v%n
   no hit: it would be in group %v, and the last one of port %v is %v%n
-  group %v: dropped where it enters, by the Block All bit of port %v%n
-  group %v: leaves by ports
-  group %v: leaves by no port%n
+  group %v, dropped where it enters: the Block All bit of port %v is 1%n
+  group %v, leaves by ports:
+  group %v, leaves by no port%n
   the list has %v records, and may have 20%n
   no port %v: the list has %v records, counted from port 0%n
   port %v:%_
