@@ -13,14 +13,12 @@ use crate::wording::say_all;
 use crate::wording::say_one;
 use crate::wording::say_three;
 use answers::Answer;
+use answers::Refusal;
 use multicast::Capability;
 use multicast::Record;
 
 // The words for 0 and for 1 of Enable, by their numbers in saying.rt.
 const NOT_ENABLED: usize = 7;
-
-// The number of fields that do not go together.
-const WRONG_GROUPS: u8 = 13;
 
 // How many groups there may be, each with a bit of a register.
 const PLACES: usize = 64;
@@ -54,27 +52,26 @@ fn read(tokens: &Tokens, space: &[u8]) -> Capability {
 }
 
 fn is_found(found: Capability) -> bool {
-    number_of(found) == 0
-}
-
-fn number_of(found: Capability) -> u8 {
     let answer = found.answer;
     match answer {
-        Answer::Done => 0,
-        Answer::Refused(refusal) => refusal.number(),
+        Answer::Done => true,
+        Answer::Refused(_) => false,
     }
 }
 
 fn answer(desk: &Desk, tokens: &Tokens, space: &[u8], found: Capability) -> bool {
-    let number = number_of(found);
+    let answer = found.answer;
     let record = found.fields;
-    let right = if number == 0 {
-        answer_found(desk, tokens, record, &space[..0])
-    } else {
-        reading::refused(desk, tokens, number, &space[..0])
-    };
+    match answer {
+        Answer::Done => answer_found(desk, tokens, record, &space[..0]),
+        Answer::Refused(refusal) => answer_refused(desk, tokens, refusal, space),
+    }
+}
+
+fn answer_refused(desk: &Desk, tokens: &Tokens, refusal: Refusal, space: &[u8]) -> bool {
+    let right = reading::refused(desk, tokens, refusal.number(), &space[..0]);
     if !right {
-        tell_clash(number, space, tokens::at(tokens, 2));
+        tell_why(refusal, space, tokens::at(tokens, 2));
     }
     right
 }
@@ -145,11 +142,15 @@ pub fn put_places(set: usize) {
     }
 }
 
-// Of a refusal for fields that do not go together, these fields, as they stand in the space.
-fn tell_clash(number: u8, space: &[u8], at: usize) {
-    if number != WRONG_GROUPS {
-        return;
+fn tell_why(refusal: Refusal, space: &[u8], at: usize) {
+    match refusal {
+        Refusal::WrongGroups => tell_clash(space, at),
+        _ => {}
     }
+}
+
+// Fields that do not go together, as they stand in the space.
+fn tell_clash(space: &[u8], at: usize) {
     say_all(
         wording::CLASH,
         six_bits(space, at, 4),

@@ -52,15 +52,14 @@ pub fn ask(desk: &Desk, tokens: &Tokens, records: &[Record]) -> bool {
 
 fn verdict_of(judged: Judged) -> Verdict {
     match judged {
-        Judged::Refused(refusal) => without(refusal.number(), NOTHING),
-        Judged::NoHit => without(0, NO_HIT),
-        Judged::Dropped { group } => within(DROPPED, group, 0),
-        Judged::Leaves { group, ports } => within(LEAVES, group, ports as usize),
+        Judged::Refused(refusal) => without_group(refusal.number(), NOTHING),
+        Judged::NoHit => without_group(0, NO_HIT),
+        Judged::Dropped { group } => with_group(DROPPED, group, 0),
+        Judged::Leaves { group, ports } => with_group(LEAVES, group, ports as usize),
     }
 }
 
-// A verdict without a group.
-fn without(number: u8, said: usize) -> Verdict {
+fn without_group(number: u8, said: usize) -> Verdict {
     Verdict {
         number,
         said,
@@ -69,7 +68,7 @@ fn without(number: u8, said: usize) -> Verdict {
     }
 }
 
-fn within(said: usize, group: u8, ports: usize) -> Verdict {
+fn with_group(said: usize, group: u8, ports: usize) -> Verdict {
     Verdict {
         number: 0,
         said,
