@@ -55,8 +55,8 @@ packet 1B ->|the line's end stands where a word is wanted
 packet 1B -> 0|'0' stands where a word is wanted
 packet 1B -> number|the line's end stands where a number is still wanted
 packet 1B -> number 3,|the line's end stands where a word is wanted
-packet 1B -> number A|'A' is no answer number: those are 0 to 12, and the only numbers in decimal
-packet 1B -> number 13|'13' is too large here
+packet 1B -> number A|'A' is no answer number: those are 0 to 13, and the only numbers in decimal
+packet 1B -> number 14|'14' is too large here
 packet 1B -> number 7|'7' is given no more: a broken list is 11 or 12, with its place
 walk extended -> number 7|'7' is given no more: a broken list is 11 or 12, with its place
 walk extended -> number 12, place|the line's end stands where a number is still wanted
@@ -148,6 +148,50 @@ completion 0A -> number 3, done, shown 00 00 00 00|'shown' says again what is ex
 completion 0A -> number 3, shown 00 00 00 00, unsupported|'unsupported' says again what is expected already
 completion 0A -> number 3, unsupported, done|'done' says again what is expected already
 completion 0A -> done, number 3|'done' stands where the expected number is wanted first
+records|the line's end stands where a number is still wanted
+records 22|'22' is too large here
+records 1 2|'2' is a number too many
+records 0 -> number 0|'->' stands behind a statement that has no answer to expect
+record 0 3F 21 1 C 100000000 0|the line's end stands where a number is still wanted
+record 21 0 0 0 0 0 0 0|'21' is too large here
+record 0 0 0 0 0 0 0 0 7|'7' is a number too many
+record 0 0 0 0 0 0 0 11111111111111111|'11111111111111111' is no word of the desk, and no number of one to sixteen hexadecimal digits
+record 0 0 0 0 0 0 0 0|the list of records has no such port: records C begins one for C ports
+keep trusted 200 0|the list of records has no such port: records C begins one for C ports
+keep trusted 200 0 -> number 8|the list of records has no such port: records C begins one for C ports
+keep trusted 200|the line's end stands where a number is still wanted
+keep trusted 200 21|'21' is too large here
+keep trusted 200 0 1|'1' is a number too many
+keep 200 0|'200' stands where the name of a list or a space is wanted
+keep trusted-rules 200 0|'trusted-rules' stands where the name of a list or a space is wanted
+multicast|the line's end stands where the name of a list or a space is wanted
+multicast compatible 100|'compatible' stands where the name of a list or a space is wanted
+multicast ordinary|the line's end stands where a number is still wanted
+multicast ordinary 100 200|'200' is a number too many
+multicast ordinary 100 -> fields 0 0 0 0 0 0 0|'fields' stands where the expected number is wanted first
+multicast ordinary 100 -> number 0, fields 0 0 0 0 0 0|the line's end stands where a number is still wanted
+multicast ordinary 100 -> number 0, fields 0 0 0 0 0 0 0 7|'7' is a number too many
+multicast ordinary 100 -> number 0, header 0 0 0 0|'header' cannot be expected of this
+multicast ordinary 100 -> number 0, group 0|'group' cannot be expected of this
+dvsec ordinary 100 -> number 0, fields 0 0 0 0 0 0 0|'fields' cannot be expected of this
+judge 0|the line's end stands where a number is still wanted
+judge 0 0 0|'0' is a number too many
+judge 0 11111111111111111|'11111111111111111' is no word of the desk, and no number of one to sixteen hexadecimal digits
+judge 0 0 -> group 0, number 0|'group' stands where the expected number is wanted first
+judge 0 0 -> number 0, group|the line's end stands where a number is still wanted
+judge 0 0 -> number 0, group 40|'40' is too large here
+judge 0 0 -> number 0, group 0, leaves-by 20|'20' is too large here
+judge 0 0 -> number 0, group 0, dropped 1|'1' is a number too many
+judge 0 0 -> number 0, no-hit 1|'1' is a number too many
+judge 0 0 -> number 0, group 0, dropped, leaves-by 1|'leaves-by' says again what is expected already
+judge 0 0 -> number 0, no-hit, dropped|'dropped' says again what is expected already
+judge 0 0 -> number 0, leaves-by 1, no-hit|'no-hit' says again what is expected already
+judge 0 0 -> number 0, group 0, group 0|'group' says again what is expected already
+judge 0 0 -> number 0, port 0|'port' cannot be expected of this
+judge 0 0 -> number 0, fields 0 0 0 0 0 0 0|'fields' cannot be expected of this
+route 05 -> number 3, leaves-by 0|'leaves-by' cannot be expected of this
+leaves-by 1|'leaves-by' is not a statement; help lists them
+no-hit|'no-hit' is not a statement; help lists them
 end|a sheet ends that has not begun
 LINES
 {
@@ -209,6 +253,123 @@ as expected
 checks 1, as expected 1, lines not understood 0
 LINES
 answers "marks, and a bit that is marked twice" 0 <"$work/in"
+
+# What the records of ports say in words, and why an address is not judged: each cause.
+cat >"$work/in" <<'LINES'
+judge 0 0
+records 2
+judge 2 0
+record 1 40 41 2 40 1 0 0
+judge 0 0
+record 1 3F 41 2 40 1 0 0
+judge 0 0
+record 1 3F 41 1 40 1 0 0
+judge 0 0
+record 1 3F 41 1 B 1 0 0
+judge 0 0
+record 1 3F 41 1 B 1000 0 0
+judge 0 0
+record 1 3F 3F 1 B 1000 0 0
+judge 0 0
+record 1 3F 3F 1 3F FFFFFFFFFFFFF000 8000000100000001 0
+judge 0 0
+judge 1 0
+judge 1 FFFFFFFFFFFFFFFF
+record 0 3F 0 1 C 0 0 0
+judge 0 0
+judge 0 FFFFFFFFFFFFFFFF
+records 21
+judge 21 0
+LINES
+bad='number 1: badly described: too many records, no such port, or a record that no capability gives'
+cat >"$work/wanted" <<LINES
+$bad
+  no port 0: the list has 0 records, counted from port 0
+ok
+$bad
+  no port 2: the list has 2 records, counted from port 0
+ok
+$bad
+  port 1: Max Group is over 3F
+ok
+$bad
+  port 1: Enable is neither 0 nor 1
+ok
+$bad
+  port 1: the index is over 3F
+ok
+$bad
+  port 1: the base is no multiple of 1000
+ok
+$bad
+  port 1: Num Group is over Max Group
+ok
+$bad
+  port 1: the index is under C while enabled
+ok
+number 0: answered
+  no hit: port 0 is not enabled
+number 0: answered
+  no hit: the address is below FFFFFFFFFFFFF000, the base of port 1
+number 0: answered
+  group 0, leaves by no port
+ok
+number 0: answered
+  group 0, leaves by ports: 1
+number 0: answered
+  no hit: it would be in group FFFFFFFFFFFFF, and the last one of port 0 is 0
+ok
+$bad
+  the list has 21 records, and may have 20
+checks 0, as expected 0, lines not understood 0
+LINES
+answers "an address, and why it is not judged" 0 <"$work/in"
+# A capability in words, and of one that is refused for its fields these; what is not as expected, in numbers of every width.
+cat >"$work/in" <<'LINES'
+records 2
+ordinary 100 12 00 01 00 3F 00 3E 80 3F F0 FF FF FF FF FF FF 01 00 00 80 01 00 00 80 00 00 01 00 00 00 00 00
+keep ordinary 100 1
+ordinary 106 3E 00 0B
+multicast ordinary 100 -> number 0, fields 3F 3E 1 3F FFFFFFFFFFFFE000 8000000180000000 FFFF
+ordinary 104 3D
+keep ordinary 100 0
+judge 1 FFFFFFFFFFFFFFFF -> number 0, group 1, leaves-by 1 1F
+judge 1 FFFFFFFFFFFFFFFF -> number 0, no-hit
+LINES
+cat >"$work/wanted" <<'LINES'
+ok
+ok
+number 0: answered
+  Max Group 3F, Num Group 3E, enabled
+  base FFFFFFFFFFFFF000, index 3F: the window of a group has 8000000000000000 bytes
+  Receive 8000000180000001, groups: 0 1F 20 3F
+  Block All 10000, groups: 10
+  kept: the record of port 1
+ok
+line 5: not as expected: field 0, expected 1
+line 5: not as expected: field B, expected 3F
+line 5: not as expected: field FFFFFFFFFFFFF000, expected FFFFFFFFFFFFE000
+line 5: not as expected: field 8000000180000001, expected 8000000180000000
+line 5: not as expected: field 10000, expected FFFF
+number 0: answered
+  Max Group 3F, Num Group 3E, not enabled
+  base FFFFFFFFFFFFF000, index B: the window of a group has 800 bytes
+  Receive 8000000180000001, groups: 0 1F 20 3F
+  Block All 10000, groups: 10
+ok
+number 13: Num Group is over Max Group, or the index is under C while enabled
+  Max Group 3D, Num Group 3E, not enabled, index B
+line 8: not as expected: group 0, expected 1
+line 8: not as expected: ports none, expected 1 1F
+number 0: answered
+  group 0, leaves by no port
+line 9: not as expected: says leaves-by, expected no-hit
+line 9: not as expected: group 0, expected none
+number 0: answered
+  group 0, leaves by no port
+checks 3, as expected 0, lines not understood 0
+LINES
+answers "capabilities, and what is not as expected of them" 1 <"$work/in"
 
 # A sheet that breaks off, inside a line or between two.
 half=$(($(wc -c <"$sheet") / 2))
@@ -275,6 +436,18 @@ completion 0A 00 00 00 05 18 00 04 01 00 07 00 -> number 0, requester 01 00, tag
 completion 0A 00 00 00 05 18 20 04 01 00 07 00 -> number 0, completer 05 18, requester 01 00, tag 07, unsupported
 completion 0A 00 00 00 05 18 20 04 01 00 07 00 -> number 0, unsupported, completer 05 18, requester 01 00, tag 07
 completion 0A 00 00 -> number 3
+multicast ordinary 380 -> number 0, fields 5 3 1 D 123456000 B000000C0 4
+multicast ordinary 200 -> number 8
+multicast ordinary 3C0 -> number 13
+keep ordinary 380 2 -> number 0, fields 5 3 1 D 123456000 B000000C0 4
+keep ordinary FFC 2 -> number 8
+judge 0 100025000 -> number 0, group 25, leaves-by 1 1F
+judge 0 100025000 -> number 0, leaves-by 1F 1, group 25
+judge 0 100026000 -> number 0, group 26, leaves-by
+judge 0 100003000 -> number 0, group 3, dropped
+judge 0 100003000 -> number 0, dropped, group 3
+judge 0 FFFFFFFF -> number 0, no-hit
+judge 20 0 -> number 1
 LINES
 # what stands before each of them
 setting='open
@@ -286,7 +459,13 @@ ordinary 006 00
 ordinary 040 09 00 0C 01 C0 1E C0 00 02 00 40 05
 ordinary-rules 050 00 00 00 00
 ordinary-marks 050 FF FF FF FF
-ports 02 03 0 05 08 1'
+ports 02 03 0 05 08 1
+ordinary 380 12 00 01 00 05 00 03 80 0D 60 45 23 01 00 00 00 C0 00 00 00 0B 00 00 00 04 00 00 00 00 00 00 00
+ordinary 3C0 12 00 01 00 05 00 06 00
+records 20
+record 0 3F 3F 1 C 100000000 0 8
+record 1 0 0 0 0 0 2000000000 0
+record 1F 0 0 0 0 0 2000000000 0'
 # wrong FILE: for each number behind an arrow, its line with that number made another
 wrong() {
     awk '{
@@ -324,7 +503,7 @@ else
     echo "FAILED desk, $wrongs expectations with one number wrong: $(tail -n 1 "$work/out")"
 fi
 # And every clause: one that is left out is noticed.
-sed -n 's/^\(.* -> .*\), [a-z]*[0-9A-F ]*$/\1/p' "$work/right" >"$work/short"
+sed -n 's/^\(.* -> .*\), [a-z-]*[0-9A-F ]*$/\1/p' "$work/right" >"$work/short"
 shorts=$(wc -l <"$work/short")
 asked "$work/short" | desk >"$work/out" 2>&1
 if [ "$shorts" -ge 19 ] && [ "$(tail -n 1 "$work/out")" = "checks $shorts, as expected 0, lines not understood 0" ]; then

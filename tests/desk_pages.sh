@@ -1,5 +1,5 @@
-# The blocks of docs/LEARN.md, docs/ANSWERS.md and docs/SHARED.md are what the desk answers. A fenced block that has a line beginning with '> ' is
-# a transcript: what stands behind '> ' is typed, the other lines are the answers. All transcripts of a page, in order, are one session. The
+# The blocks of docs/LEARN.md, docs/GROUPS.md, docs/ANSWERS.md and docs/SHARED.md are what the desk answers. A fenced block that has a line beginning
+# with '> ' is a transcript: what stands behind '> ' is typed, the other lines are the answers. All transcripts of a page, in order, are one session. The
 # variable DESK may name another command for the desk.
 work=$(mktemp -d) || exit 2
 trap 'rm -rf "$work"' EXIT
@@ -49,7 +49,8 @@ page() {
     fi
 }
 page LEARN 1 68 26 # LEARN shows a mistake, and what the desk says of it
-page ANSWERS 0 113 59
+page GROUPS 0 56 23
+page ANSWERS 0 186 86
 page SHARED 0 47 17
 
 # noticed WORDS TEXT: of the page on standard input, in which every line is to be understood, this is told
@@ -65,6 +66,7 @@ noticed() {
 # as_answered LINE: a page with this line typed, and what the desk answers to it
 as_answered() { echo '```' && echo "$1" | session | sed '$d' && echo '```'; }
 sed 's/^\(  reply: .* 75\) 00$/\1 01/' docs/ANSWERS.md | noticed 'an altered answer' ' 75 01", the desk "  reply: 0A 00 00 00 05 18 20 04 01 00 75 00"'
+sed 's/^\(  group 21, leaves by\) no port$/\1 ports: 1/' docs/GROUPS.md | noticed 'an altered verdict' 'ports: 1", the desk "  group 21, leaves by no port"'
 sed '/-> forgotten$/{n;d;}' docs/SHARED.md | noticed 'a missing answer' ', the desk "as expected"'
 sed 's/trusted 1A8 72 72 72 7E$/trusted 1A8 72 72 72 7F/' docs/ANSWERS.md | noticed 'a wrong expectation' 'the page has "as expected", the desk "line '
 sed '$d' docs/SHARED.md | noticed 'a block without an end' 'the page has "a block has no end"'

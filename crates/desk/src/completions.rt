@@ -162,7 +162,8 @@ fn wanted_said(tokens: &Tokens) -> usize {
     NOTHING
 }
 
-fn is_wanted(tokens: &Tokens, word: usize) -> bool {
+// Whether a word is part of the expectation.
+pub fn is_wanted(tokens: &Tokens, word: usize) -> bool {
     tokens::is_said(tokens, tokens::behind(tokens, word))
 }
 

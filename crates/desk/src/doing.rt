@@ -1,9 +1,12 @@
 // A line that was understood is done.
+use crate::capabilities;
 use crate::chaining;
 use crate::completions;
 use crate::faults;
 use crate::helping;
 use crate::judging;
+use crate::keeping;
+use crate::keeping::Records;
 use crate::packets;
 use crate::reading;
 use crate::requests;
@@ -16,6 +19,7 @@ use crate::spaces::LONG;
 use crate::spaces::Store;
 use crate::tokens;
 use crate::tokens::Tokens;
+use crate::verdicts;
 use crate::vocabulary;
 use crate::walking;
 use crate::wording;
@@ -26,7 +30,7 @@ const ORDINARY: u8 = 0x51;
 
 const TRUSTED: u8 = 0x72;
 
-pub fn perform(desk: &mut Desk, tokens: &Tokens, store: &mut Store) {
+pub fn perform(desk: &mut Desk, tokens: &Tokens, store: &mut Store, records: &mut Records) {
     let word = tokens::word(tokens, 0);
     match word {
         vocabulary::FRESH | vocabulary::OPEN | vocabulary::BLANK => begin_board(desk, store, word),
@@ -41,6 +45,8 @@ pub fn perform(desk: &mut Desk, tokens: &Tokens, store: &mut Store) {
         }
         vocabulary::CHAIN => put_chain(desk, tokens, store),
         vocabulary::PORTS => put_ports(desk, tokens, store),
+        vocabulary::RECORDS => begin_records(desk, tokens, records),
+        vocabulary::RECORD => put_record(desk, tokens, records),
         vocabulary::SHOW => show(tokens, store),
         vocabulary::PACKET
         | vocabulary::RESET
@@ -50,7 +56,10 @@ pub fn perform(desk: &mut Desk, tokens: &Tokens, store: &mut Store) {
         | vocabulary::DUAL
         | vocabulary::ROUTE
         | vocabulary::ASK
-        | vocabulary::COMPLETION => ask(desk, tokens, store),
+        | vocabulary::COMPLETION
+        | vocabulary::MULTICAST
+        | vocabulary::KEEP
+        | vocabulary::JUDGE => ask(desk, tokens, store, records),
         _ => perform_on_desk(desk, tokens),
     }
 }
@@ -94,8 +103,32 @@ fn put_ports(desk: &mut Desk, tokens: &Tokens, store: &mut Store) {
     done();
 }
 
-// A question is lent what was said before it, and the next one everything again.
-fn ask(desk: &mut Desk, tokens: &Tokens, store: &mut Store) {
+fn begin_records(desk: &mut Desk, tokens: &Tokens, records: &mut Records) {
+    keeping::begin(desk, tokens, records);
+    done();
+}
+
+fn put_record(desk: &mut Desk, tokens: &Tokens, records: &mut Records) {
+    if keeping::put(
+        desk,
+        records,
+        tokens::at(tokens, 1),
+        keeping::record_of(tokens),
+    ) {
+        done();
+    } else {
+        faults::tell_whole(desk, faults::NO_RECORD);
+    }
+}
+
+// A question is lent what was said before it, and the next one everything again. What is to be kept wants a place first.
+fn ask(desk: &mut Desk, tokens: &Tokens, store: &mut Store, records: &mut Records) {
+    if tokens::word(tokens, 0) == vocabulary::KEEP {
+        if !keeping::is_listed(desk, tokens::at(tokens, 3)) {
+            faults::tell_whole(desk, faults::NO_RECORD);
+            return;
+        }
+    }
     let right = match tokens::word(tokens, 0) {
         vocabulary::PACKET => packets::ask(desk, tokens, store),
         vocabulary::RESET => packets::reset(desk, tokens),
@@ -103,6 +136,13 @@ fn ask(desk: &mut Desk, tokens: &Tokens, store: &mut Store) {
         vocabulary::ROUTE => routing::ask(desk, tokens, store),
         vocabulary::ASK => requests::ask(desk, tokens, store),
         vocabulary::COMPLETION => completions::ask(desk, tokens, store),
+        vocabulary::KEEP => capabilities::keep(
+            desk,
+            tokens,
+            space_of(desk, tokens, store),
+            records,
+        ),
+        vocabulary::JUDGE => verdicts::ask(desk, tokens, records),
         _ => ask_of_space(desk, tokens, store),
     };
     judging::count(desk, tokens, right);
@@ -118,14 +158,20 @@ fn show(tokens: &Tokens, store: &Store) {
     spaces::show(store, base, tokens::at(tokens, 2), tokens::at(tokens, 3));
 }
 
-// A question about one space, lent as far as the desk says: the trusted one where that is named, else the ordinary one.
+// A question about one space.
 fn ask_of_space(desk: &Desk, tokens: &Tokens, store: &Store) -> bool {
-    let space = spaces::lent(desk, store, base_asked(tokens::word(tokens, 1)));
+    let space = space_of(desk, tokens, store);
     match tokens::word(tokens, 0) {
         vocabulary::WALK => walking::ask(desk, tokens, space),
         vocabulary::DVSEC => reading::ask_dvsec(desk, tokens, space),
-        _ => reading::ask_dual(desk, tokens, space),
+        vocabulary::DUAL => reading::ask_dual(desk, tokens, space),
+        _ => capabilities::ask(desk, tokens, space),
     }
+}
+
+// The space that a question is about, as far as the desk lends it: the trusted one where that is named, else the ordinary one.
+fn space_of<'a>(desk: &Desk, tokens: &Tokens, store: &'a Store) -> &'a [u8] {
+    spaces::lent(desk, store, base_asked(tokens::word(tokens, 1)))
 }
 
 fn base_asked(name: usize) -> usize {

@@ -39,7 +39,10 @@ const ASKING: usize = 6;
 // And 1 where a packet is served: a list or a record has not all of its causes.
 const BAD_BOARD: usize = 13;
 
-const BOARD: usize = 14;
+// And where an address is judged.
+pub const BAD_RECORDS: usize = 14;
+
+const BOARD: usize = 15;
 
 // An answer number and what it means.
 pub fn put_number(number: u8) {
@@ -80,6 +83,7 @@ the first byte is neither 4A nor 0A
 the completion's length does not fit its first byte: 16 bytes after 4A, 12 after 0A
 a byte that no reply with this first byte has at its place
 badly described: a buffer of another size than 1000, a number or an offset out of range, or a bit that is writable and marked
+badly described: too many records, no such port, or a record that no capability gives
 answered
 badly described: a space of another size than 1000, or a number or an offset out of range
 no room: the reply's buffer or the list room is too small
@@ -93,6 +97,7 @@ the structure's length is wrong, or it does not fit
 its function vector has not exactly one bit
 a pointer below the floor
 a pointer to an offset that is in the chain already
+Num Group is over Max Group, or the index is under C while enabled
 ",
         number,
     ));

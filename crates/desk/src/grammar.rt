@@ -24,7 +24,7 @@ const NAMES: usize = 36;
 
 const QUESTIONS: usize = 40;
 
-const ROW: usize = 50;
+const ROW: usize = 53;
 
 // What a limit reads as that is none.
 const ANY: usize = 0xfffff;
@@ -44,63 +44,73 @@ const UNMARKED: usize = 16;
 
 // What follows each word, in the order of their numbers: how many numbers at least and at most; how large the first and the others may be;
 // which kind of name comes before them, of a list (0), a buffer (1) or a space (2); of which of these kinds it is a name itself; and of
-// which questions it may be expected: packet, reset, merge, walk, dvsec, dual, route, ask, completion. A token that is no word has no row, and
-// reads as 0.
+// which questions it may be expected: packet, reset, merge, walk, dvsec, dual, route, ask, completion, multicast, keep, judge. A token that is no
+// word has no row, and reads as 0.
 fn column(word: usize, from: usize, size: usize) -> usize {
-    let row = std::num::wrapping_sub_usize(word, HELP) % 64;
+    let row = std::num::wrapping_sub_usize(word, HELP) % 128;
     tokens::number_of(pieces::part(
-        b"help            00 00 00000 00000 - --- ---------
-echo            00 00 00000 00000 - --- ---------
-sheet           00 00 00000 00000 - --- ---------
-end             00 00 00000 00000 - --- ---------
-fresh           00 00 00000 00000 - --- ---------
-open            00 00 00000 00000 - --- ---------
-blank           00 00 00000 00000 - --- ---------
-function        01 01 000FF 000FF - --- ---------
-A               01 01 FFFFF FFFFF - --- ---------
-B               01 01 FFFFF FFFFF - --- ---------
-captured        02 02 000FF 000FF - --- 11-----1-
-forgotten       00 00 00000 00000 - --- 11-----1-
-ordinary        02 41 00FFF 000FF - -11 1------1-
-trusted         02 41 00FFF 000FF - 111 1------1-
-ordinary-rules  02 41 00FFF 000FF - -1- ---------
-trusted-rules   02 41 00FFF 000FF - -1- ---------
-ordinary-marks  02 41 00FFF 000FF - -1- ---------
-trusted-marks   02 41 00FFF 000FF - -1- ---------
-chain           04 04 0FFFF 0FFFF 0 --- ---------
-ports           00 7E 000FF 000FF - --- ---------
-sizes           06 06 01001 01001 - --- ---------
-room            01 01 FFFFF FFFFF - --- ---------
-show            02 02 01000 01000 1 --- ---------
-packet          00 40 000FF 000FF - --- ---------
-reset           00 00 00000 00000 - --- ---------
-merge           11 11 000FF 000FF - --- ---------
-walk            00 00 00000 00000 0 --- ---------
-dvsec           01 01 FFFFF FFFFF 2 --- ---------
-dual            01 01 FFFFF FFFFF 2 --- ---------
-route           00 40 000FF 000FF - --- ---------
-ask             09 0D 000FF 000FF - --- ---------
-completion      00 40 000FF 000FF - --- ---------
-number          01 01 00012 00012 - --- 1--111111
-reply           01 14 000FF 000FF - --- 1------1-
-bytes           04 04 000FF 000FF - --- --1------
-offsets         01 40 0FFFF 0FFFF - --- ---1-----
-steps           03 03 003FE 0FFFF - --- ---1-----
-place           01 01 00FFF 00FFF - --- ---1-----
-header          04 04 0FFFF 0FFFF - --- ----1----
-body            02 02 01000 01000 - --- ----1----
-alternate       02 02 000FF 000FF - --- -----1---
-port            01 01 000FF 000FF - --- ------1--
-leaves          01 14 000FF 000FF - --- ------1--
-writes          01 14 000FF 000FF - --- -------1-
-completer       02 02 000FF 000FF - --- --------1
-requester       02 02 000FF 000FF - --- --------1
-tag             01 01 000FF 000FF - --- --------1
-shown           04 04 000FF 000FF - --- --------1
-done            00 00 00000 00000 - --- --------1
-unsupported     00 00 00000 00000 - --- --------1
-compatible      00 00 00000 00000 - 1-- ---------
-extended        00 00 00000 00000 - 1-- ---------
+        b"help            00 00 00000 00000 - --- ------------
+echo            00 00 00000 00000 - --- ------------
+sheet           00 00 00000 00000 - --- ------------
+end             00 00 00000 00000 - --- ------------
+fresh           00 00 00000 00000 - --- ------------
+open            00 00 00000 00000 - --- ------------
+blank           00 00 00000 00000 - --- ------------
+function        01 01 000FF 000FF - --- ------------
+A               01 01 FFFFF FFFFF - --- ------------
+B               01 01 FFFFF FFFFF - --- ------------
+captured        02 02 000FF 000FF - --- 11-----1----
+forgotten       00 00 00000 00000 - --- 11-----1----
+ordinary        02 41 00FFF 000FF - -11 1------1----
+trusted         02 41 00FFF 000FF - 111 1------1----
+ordinary-rules  02 41 00FFF 000FF - -1- ------------
+trusted-rules   02 41 00FFF 000FF - -1- ------------
+ordinary-marks  02 41 00FFF 000FF - -1- ------------
+trusted-marks   02 41 00FFF 000FF - -1- ------------
+chain           04 04 0FFFF 0FFFF 0 --- ------------
+ports           00 7E 000FF 000FF - --- ------------
+records         01 01 00021 00021 - --- ------------
+record          08 08 00020 FFFFF - --- ------------
+sizes           06 06 01001 01001 - --- ------------
+room            01 01 FFFFF FFFFF - --- ------------
+show            02 02 01000 01000 1 --- ------------
+packet          00 40 000FF 000FF - --- ------------
+reset           00 00 00000 00000 - --- ------------
+merge           11 11 000FF 000FF - --- ------------
+walk            00 00 00000 00000 0 --- ------------
+dvsec           01 01 FFFFF FFFFF 2 --- ------------
+dual            01 01 FFFFF FFFFF 2 --- ------------
+route           00 40 000FF 000FF - --- ------------
+ask             09 0D 000FF 000FF - --- ------------
+completion      00 40 000FF 000FF - --- ------------
+multicast       01 01 FFFFF FFFFF 2 --- ------------
+keep            02 02 FFFFF 00020 2 --- ------------
+judge           02 02 FFFFF FFFFF - --- ------------
+number          01 01 00013 00013 - --- 1--111111111
+reply           01 14 000FF 000FF - --- 1------1----
+bytes           04 04 000FF 000FF - --- --1---------
+offsets         01 40 0FFFF 0FFFF - --- ---1--------
+steps           03 03 003FE 0FFFF - --- ---1--------
+place           01 01 00FFF 00FFF - --- ---1--------
+header          04 04 0FFFF 0FFFF - --- ----1-------
+body            02 02 01000 01000 - --- ----1-------
+alternate       02 02 000FF 000FF - --- -----1------
+port            01 01 000FF 000FF - --- ------1-----
+leaves          01 14 000FF 000FF - --- ------1-----
+writes          01 14 000FF 000FF - --- -------1----
+completer       02 02 000FF 000FF - --- --------1---
+requester       02 02 000FF 000FF - --- --------1---
+tag             01 01 000FF 000FF - --- --------1---
+shown           04 04 000FF 000FF - --- --------1---
+done            00 00 00000 00000 - --- --------1---
+unsupported     00 00 00000 00000 - --- --------1---
+fields          07 07 FFFFF FFFFF - --- ---------11-
+group           01 01 0003F 0003F - --- -----------1
+leaves-by       00 20 0001F 0001F - --- -----------1
+dropped         00 00 00000 00000 - --- -----------1
+no-hit          00 00 00000 00000 - --- -----------1
+compatible      00 00 00000 00000 - 1-- ------------
+extended        00 00 00000 00000 - 1-- ------------
 ",
         std::num::wrapping_add_usize(ROW * row, from),
         size,
@@ -341,7 +351,7 @@ fn fault_of_mark(tokens: &Tokens, head: usize, place: usize) -> usize {
     if arrow < place {
         return faults::ARROW_AGAIN;
     }
-    if is_within(tokens::word(tokens, 0), PACKET, COMPLETION) {
+    if is_within(tokens::word(tokens, 0), PACKET, JUDGE) {
         faults::NONE
     } else {
         faults::NO_QUESTION
@@ -366,7 +376,7 @@ fn fault_of_head(tokens: &Tokens, place: usize) -> usize {
     if place != 0 {
         return fault_of_clause(tokens, place);
     }
-    if is_within(tokens::word(tokens, 0), HELP, COMPLETION) {
+    if is_within(tokens::word(tokens, 0), HELP, JUDGE) {
         faults::NONE
     } else {
         faults::NO_STATEMENT
@@ -422,6 +432,9 @@ fn other_of(word: usize) -> usize {
         SHOWN => DONE,
         DONE => UNSUPPORTED,
         UNSUPPORTED => SHOWN,
+        LEAVES_BY => DROPPED,
+        DROPPED => NO_HIT,
+        NO_HIT => LEAVES_BY,
         _ => word,
     }
 }

@@ -20,6 +20,10 @@ The board:
 The switch:
   ports S U T ..     its ports in order, three numbers each: secondary, subordinate, and 0 where it does not support TCS routing
                      (without numbers it has none, as when a session begins; a new board leaves them as they are)
+  records C          a list of records for C ports, up to 21, each with seven zeros; addresses are judged by it. A session begins with
+                     records 0, and a new board leaves them as they are
+  record P M N E I B R A
+                     the record of port P: Max Group, Num Group, Enable, index, base, Receive, Block All; also such as no capability gives
 Lent to the next question only:
   sizes O R M T S N  so many bytes of the ordinary space, its rules, its marks, the trusted space, its rules, its marks
   room N             so many bytes of the reply's buffer, of the one for what leaves or for what ask writes, or entries of the list room
@@ -34,12 +38,14 @@ Questions:
   completion b b ..  a completion is read back
   reset              the board is reset
   walk LIST          compatible, extended or trusted
-  dvsec SPACE N      the record at offset N; SPACE is ordinary or trusted; also: dual
+  dvsec SPACE N      the record at offset N; SPACE is ordinary or trusted; also: dual, multicast
+  keep SPACE N P     as multicast, and what is found becomes the record of port P
+  judge P A          what becomes of a packet for address A that enters by port P
   merge b b ..       four old bytes, four rules, four marks, four data bytes, the enables
 A question with an expectation is a check, and everything that is not said is expected to stay.
 A refusal has no reply, no port, no offsets and no fields; that of a broken list, 11 or 12, has the place of the fault, 0 for the start.
 A request that cannot be written has no bytes and is not sent.
-Only the answer numbers, 0 to 12, are decimal:
+Only the answer numbers, 0 to 13, are decimal:
   packet .. -> number N, reply b b .., captured BUS DEVICE, ordinary N b b .., trusted N b b ..
   route .. -> number N, port P, leaves b b ..      UR is number 0 without a port
   ask .. -> number N, writes b b .., and behind it as for packet
@@ -49,6 +55,8 @@ Only the answer numbers, 0 to 12, are decimal:
   walk LIST -> number N, place P
   dvsec SPACE N -> number N, header VENDOR REVISION ID LENGTH, body N C
   dual SPACE N -> number N, alternate FUNCTION DEVICE
+  multicast SPACE N -> number N, fields M N E I B R A      the same of keep
+  judge P A -> number N, group G, leaves-by P P ..      without numbers for no port; or: group G, dropped; or no-hit alone
   merge .. -> bytes b b b b
 Sheets: sheet begins one and end ends it; echo writes out each line as it is read. help writes this.
 ",

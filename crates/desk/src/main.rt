@@ -1,5 +1,6 @@
 // The desk: statements from standard input, each answered at once. `help` lists them. What decides is the proved code of the crates
 // below; here only safety is promised, and that every session ends.
+mod capabilities;
 mod chaining;
 mod completions;
 mod doing;
@@ -9,8 +10,10 @@ mod grammar;
 mod helping;
 mod input;
 mod judging;
+mod keeping;
 mod leaving;
 mod marking;
+mod missing;
 mod packets;
 mod pieces;
 mod reading;
@@ -22,10 +25,12 @@ mod slots;
 mod spaces;
 mod texts;
 mod tokens;
+mod verdicts;
 mod vocabulary;
 mod walking;
 mod wording;
 
+use keeping::MOST;
 use session::PIECE;
 use slots::SLOTS;
 use spaces::STORE;
@@ -34,5 +39,6 @@ fn main() {
     let mut desk = [0; SLOTS];
     let mut piece = [0; PIECE];
     let mut store = [0; STORE];
-    session::run(&mut desk, &mut piece, &mut store);
+    let mut records = [[0; 7]; MOST];
+    session::run(&mut desk, &mut piece, &mut store, &mut records);
 }

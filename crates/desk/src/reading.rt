@@ -1,5 +1,6 @@
 // A DVSEC or a Dual-BDF record of the board at the desk is asked for. Its number, its fields and its body are told, or held against what
 // is expected.
+use crate::capabilities;
 use crate::explaining;
 use crate::judging;
 use crate::pieces;
@@ -60,12 +61,12 @@ fn alternate_found(desk: &Desk, tokens: &Tokens, alternate: Alternate, body: &[u
 }
 
 // A refusal has no fields.
-fn refused(desk: &Desk, tokens: &Tokens, number: u8, body: &[u8]) -> bool {
+pub fn refused(desk: &Desk, tokens: &Tokens, number: u8, body: &[u8]) -> bool {
     answer(desk, tokens, number, &[], body)
 }
 
 // A record as it was found, or a refusal. Says whether this is a check that was right.
-fn answer(desk: &Desk, tokens: &Tokens, number: u8, fields: &[usize], body: &[u8]) -> bool {
+pub fn answer(desk: &Desk, tokens: &Tokens, number: u8, fields: &[usize], body: &[u8]) -> bool {
     if tokens::is_check(tokens) {
         if judge(desk, tokens, number, fields, body) {
             return true;
@@ -90,7 +91,8 @@ fn tell(fields: &[usize], body: &[u8]) {
             pieces::number_at(fields, 0),
             pieces::number_at(fields, 1),
         ),
-        _ => tell_header(fields, body),
+        4 => tell_header(fields, body),
+        _ => capabilities::tell(fields),
     }
 }
 
@@ -118,10 +120,10 @@ fn judge_fields(desk: &Desk, tokens: &Tokens, fields: &[usize]) -> bool {
 }
 
 fn fields_word(question: usize) -> usize {
-    if question == vocabulary::DVSEC {
-        vocabulary::HEADER
-    } else {
-        vocabulary::ALTERNATE
+    match question {
+        vocabulary::DVSEC => vocabulary::HEADER,
+        vocabulary::DUAL => vocabulary::ALTERNATE,
+        _ => vocabulary::FIELDS,
     }
 }
 

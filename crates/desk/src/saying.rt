@@ -38,7 +38,7 @@ fn put_number(form: u8, number: usize) {
         b'p' => put_port(number),
         b's' => put_said(number),
         b'_' => put(b" "),
-        b'v' => put_hex(number, digits_of(number)),
+        b'v' => put_value(number),
         _ => put_hex(number, (form % 16) as usize),
     }
 }
@@ -47,13 +47,17 @@ fn put_port(number: usize) {
     if number == slots::NO_PORT {
         put(b"none");
     } else {
-        put_hex(number, digits_of(number));
+        put_value(number);
     }
 }
 
-// What a completion says of the access, by the numbers of completions.rt.
+// What a completion says of the access, and what becomes of a packet for an address; by the numbers of completions.rt and verdicts.rt. And whether a
+// port is enabled, by those of capabilities.rt.
 fn put_said(number: usize) {
-    put(texts::entry(b"nothing\nshown\ndone\nunsupported\n", number));
+    put(texts::entry(
+        b"nothing\nshown\ndone\nunsupported\nno-hit\ndropped\nleaves-by\nnot enabled\nenabled\n",
+        number,
+    ));
 }
 
 // Four bits, byte 3's first.
@@ -80,6 +84,29 @@ fn put_hex(number: usize, digits: usize) {
         }
     }
     put_digit(number);
+}
+
+// As many digits as a number has.
+fn put_value(number: usize) {
+    let upper = number >> 32;
+    if upper == 0 {
+        put_half(number);
+        return;
+    }
+    put_half(upper);
+    put_hex(number >> 16, 4);
+    put_hex(number, 4);
+}
+
+// The same of a number of 32 bits.
+fn put_half(number: usize) {
+    let upper = number >> 16;
+    if upper == 0 {
+        put_hex(number, digits_of(number));
+        return;
+    }
+    put_hex(upper, digits_of(upper));
+    put_hex(number, 4);
 }
 
 fn digits_of(number: usize) -> usize {

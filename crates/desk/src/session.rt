@@ -4,6 +4,7 @@ use crate::doing;
 use crate::faults;
 use crate::grammar;
 use crate::input;
+use crate::keeping::Records;
 use crate::pieces;
 use crate::saying::put_plain;
 use crate::slots;
@@ -21,13 +22,13 @@ use crate::wording::say_three;
 pub const PIECE: usize = 4000;
 
 // A line is understood and done, or its first fault is told.
-fn take(desk: &mut Desk, line: &[u8], store: &mut Store) {
+fn take(desk: &mut Desk, line: &[u8], store: &mut Store, records: &mut Records) {
     let mut tokens = [0usize; WIDTH];
     slots::count(desk, slots::LINE);
     echo(desk, line);
     tokens::read(line, &mut tokens);
     if is_understood(desk, line, &tokens) {
-        doing::perform(desk, &tokens, store);
+        doing::perform(desk, &tokens, store, records);
     }
 }
 
@@ -71,9 +72,9 @@ fn fits(desk: &mut Desk, line: &[u8], tokens: &Tokens, count: usize) -> bool {
 }
 
 // A whole line, or the end of one whose beginning was given up.
-fn take_whole(desk: &mut Desk, line: &[u8], store: &mut Store) {
+fn take_whole(desk: &mut Desk, line: &[u8], store: &mut Store, records: &mut Records) {
     if slots::at(desk, slots::SKIPPING) == 0 {
-        take(desk, input::without_return(line), store);
+        take(desk, input::without_return(line), store, records);
         return;
     }
     slots::set(desk, slots::SKIPPING, 0);
@@ -82,14 +83,20 @@ fn take_whole(desk: &mut Desk, line: &[u8], store: &mut Store) {
 }
 
 // Takes the lines that stand whole before `end`, and answers where the first one that does not begins.
-fn take_lines(desk: &mut Desk, piece: &[u8; PIECE], end: usize, store: &mut Store) -> usize {
+fn take_lines(
+    desk: &mut Desk,
+    piece: &[u8; PIECE],
+    end: usize,
+    store: &mut Store,
+    records: &mut Records,
+) -> usize {
     let mut from = 0;
     while from < end {
         let to = pieces::place_of(piece, from, end, b'\n');
         if end <= to {
             return from;
         }
-        take_whole(desk, pieces::between(piece, from, to), store);
+        take_whole(desk, pieces::between(piece, from, to), store, records);
         from = to + 1;
     }
     from
@@ -106,13 +113,18 @@ fn give_up(desk: &mut Desk, rest: usize) {
 }
 
 // More of the input is read, and the lines in it are taken. Says whether there was more.
-fn go_on(desk: &mut Desk, piece: &mut [u8; PIECE], store: &mut Store) -> bool {
+fn go_on(
+    desk: &mut Desk,
+    piece: &mut [u8; PIECE],
+    store: &mut Store,
+    records: &mut Records,
+) -> bool {
     let rest = slots::at(desk, slots::REST);
     let end = input::read_more(desk, piece, rest);
     if end <= rest {
         return false;
     }
-    let from = take_lines(desk, piece, end, store);
+    let from = take_lines(desk, piece, end, store, records);
     give_up(desk, input::keep_rest(piece, from, end));
     true
 }
@@ -126,7 +138,7 @@ fn is_between(desk: &Desk) -> bool {
 }
 
 // A line without a line end, where the input ends; what an input that could not be read breaks off is no line.
-fn take_last(desk: &mut Desk, piece: &[u8; PIECE], store: &mut Store) {
+fn take_last(desk: &mut Desk, piece: &[u8; PIECE], store: &mut Store, records: &mut Records) {
     if is_between(desk) {
         return;
     }
@@ -135,24 +147,25 @@ fn take_last(desk: &mut Desk, piece: &[u8; PIECE], store: &mut Store) {
             desk,
             pieces::between(piece, 0, slots::at(desk, slots::REST)),
             store,
+            records,
         );
     }
 }
 
 // The whole input. A proved loop has to end, and nothing says that the input does: so the turns are counted down, from a number that no
 // session uses up.
-pub fn run(desk: &mut Desk, piece: &mut [u8; PIECE], store: &mut Store) {
+pub fn run(desk: &mut Desk, piece: &mut [u8; PIECE], store: &mut Store, records: &mut Records) {
     let mut turns = u64::MAX;
     begin(desk);
     while turns > 0 {
         turns -= 1;
         prompt(desk);
-        if !go_on(desk, piece, store) {
+        if !go_on(desk, piece, store, records) {
             break;
         }
     }
     end_typing(desk);
-    take_last(desk, piece, store);
+    take_last(desk, piece, store, records);
     tell_end(desk);
 }
 

@@ -1,5 +1,5 @@
 // What the desk keeps in numbers from line to line, each at a place of its own.
-pub const SLOTS: usize = 23;
+pub const SLOTS: usize = 24;
 
 // The line's number; how many statements had an expectation, and how many of them were right; how many lines were not understood.
 pub const LINE: usize = 0;
@@ -58,10 +58,13 @@ pub const PORTS: usize = 21;
 // How many bytes the packet has that stands in the store, or the completion.
 pub const SENT: usize = 22;
 
+// How many of the switch's ports have a record.
+pub const RECORDS: usize = 23;
+
 // The capture while there is none: over every bus and device.
 pub const NOTHING: usize = 0x10000;
 
-// The port of a packet that does not leave: over every number that a line can expect.
+// The port of a packet that does not leave, and the group of an address that hits none: over every number that a line can expect.
 pub const NO_PORT: usize = 0x100;
 
 // All of a reply's buffer, of what leaves, of what is written, and of a list's.

@@ -15,7 +15,7 @@ pub const SHEET: usize = 4;
 
 pub const END: usize = 5;
 
-// Statements that set the board, and the ports of the switch; some of them are expected too.
+// Statements that set the board, and the ports of the switch with their records; some of them are expected too.
 pub const FRESH: usize = 6;
 
 pub const OPEN: usize = 7;
@@ -48,77 +48,97 @@ pub const CHAIN: usize = 20;
 
 pub const PORTS: usize = 21;
 
-pub const SIZES: usize = 22;
+pub const RECORDS: usize = 22;
 
-pub const ROOM: usize = 23;
+pub const RECORD: usize = 23;
+
+pub const SIZES: usize = 24;
+
+pub const ROOM: usize = 25;
 
 // To look, and the questions.
-pub const SHOW: usize = 24;
+pub const SHOW: usize = 26;
 
-pub const PACKET: usize = 25;
+pub const PACKET: usize = 27;
 
-pub const RESET: usize = 26;
+pub const RESET: usize = 28;
 
-pub const MERGE: usize = 27;
+pub const MERGE: usize = 29;
 
-pub const WALK: usize = 28;
+pub const WALK: usize = 30;
 
-pub const DVSEC: usize = 29;
+pub const DVSEC: usize = 31;
 
-pub const DUAL: usize = 30;
+pub const DUAL: usize = 32;
 
-pub const ROUTE: usize = 31;
+pub const ROUTE: usize = 33;
 
-pub const ASK: usize = 32;
+pub const ASK: usize = 34;
 
-pub const COMPLETION: usize = 33;
+pub const COMPLETION: usize = 35;
+
+pub const MULTICAST: usize = 36;
+
+pub const KEEP: usize = 37;
+
+pub const JUDGE: usize = 38;
 
 // What is only expected.
-pub const NUMBER: usize = 34;
+pub const NUMBER: usize = 39;
 
-pub const REPLY: usize = 35;
+pub const REPLY: usize = 40;
 
-pub const BYTES: usize = 36;
+pub const BYTES: usize = 41;
 
-pub const OFFSETS: usize = 37;
+pub const OFFSETS: usize = 42;
 
-pub const STEPS: usize = 38;
+pub const STEPS: usize = 43;
 
-pub const PLACE: usize = 39;
+pub const PLACE: usize = 44;
 
-pub const HEADER: usize = 40;
+pub const HEADER: usize = 45;
 
-pub const BODY: usize = 41;
+pub const BODY: usize = 46;
 
-pub const ALTERNATE: usize = 42;
+pub const ALTERNATE: usize = 47;
 
-pub const PORT: usize = 43;
+pub const PORT: usize = 48;
 
-pub const LEAVES: usize = 44;
+pub const LEAVES: usize = 49;
 
-pub const WRITES: usize = 45;
+pub const WRITES: usize = 50;
 
-pub const COMPLETER: usize = 46;
+pub const COMPLETER: usize = 51;
 
-pub const REQUESTER: usize = 47;
+pub const REQUESTER: usize = 52;
 
-pub const TAG: usize = 48;
+pub const TAG: usize = 53;
 
-pub const SHOWN: usize = 49;
+pub const SHOWN: usize = 54;
 
-pub const DONE: usize = 50;
+pub const DONE: usize = 55;
 
-pub const UNSUPPORTED: usize = 51;
+pub const UNSUPPORTED: usize = 56;
+
+pub const FIELDS: usize = 57;
+
+pub const GROUP: usize = 58;
+
+pub const LEAVES_BY: usize = 59;
+
+pub const DROPPED: usize = 60;
+
+pub const NO_HIT: usize = 61;
 
 // The lists, beside the trusted one.
-pub const COMPATIBLE: usize = 52;
+pub const COMPATIBLE: usize = 62;
 
-pub const EXTENDED: usize = 53;
+pub const EXTENDED: usize = 63;
 
 // The marks of an expectation.
-pub const ARROW: usize = 54;
+pub const ARROW: usize = 64;
 
-pub const COMMA: usize = 55;
+pub const COMMA: usize = 65;
 
 // The table has the words in the order of their numbers, from HELP on.
 pub fn word_of(text: &[u8]) -> usize {
@@ -144,6 +164,8 @@ ordinary-marks
 trusted-marks
 chain
 ports
+records
+record
 sizes
 room
 show
@@ -156,6 +178,9 @@ dual
 route
 ask
 completion
+multicast
+keep
+judge
 number
 reply
 bytes
@@ -174,6 +199,11 @@ tag
 shown
 done
 unsupported
+fields
+group
+leaves-by
+dropped
+no-hit
 compatible
 extended
 ->

@@ -1,5 +1,5 @@
 // What the desk says, a line for each text: %1 to %4 stand for so many hexadecimal digits of the next number, %v for as many as it has,
-// %d for the number in decimal, %e for four enables, %p for a port or none, %s for what a completion says, and behind the last number %n for a
+// %d for the number in decimal, %e for four enables, %p for a port, a group or none, %s for a word of saying.rt, and behind the last number %n for a
 // line end and %_ for a blank. Help, faults, what numbers, requests and completions mean, and the names of buffers have tables of their own.
 use crate::saying;
 use crate::texts;
@@ -71,85 +71,123 @@ pub const HEADER: usize = 29;
 
 pub const BODY: usize = 30;
 
-// What leaves the switch.
-pub const LEAVES: usize = 31;
+// A Multicast capability.
+pub const GROUPS: usize = 31;
 
-pub const TURNED: usize = 32;
+pub const WINDOWS: usize = 32;
+
+pub const RECEIVE: usize = 33;
+
+pub const BLOCK_ALL: usize = 34;
+
+pub const CLASH: usize = 35;
+
+pub const KEPT: usize = 36;
+
+// What leaves the switch.
+pub const LEAVES: usize = 37;
+
+pub const TURNED: usize = 38;
+
+// An address that is judged at the switch.
+pub const NOT_ENABLED: usize = 39;
+
+pub const BELOW_BASE: usize = 40;
+
+pub const PAST_LAST: usize = 41;
+
+pub const DROPPED: usize = 42;
+
+pub const LEAVES_BY: usize = 43;
+
+pub const LEAVES_NOWHERE: usize = 44;
+
+pub const TOO_MANY_RECORDS: usize = 45;
+
+pub const NO_SUCH_PORT: usize = 46;
+
+pub const NO_RECORD: usize = 47;
 
 // What the asking side writes, and what it reads.
-pub const WRITES: usize = 33;
+pub const WRITES: usize = 48;
 
-pub const READS: usize = 34;
+pub const READS: usize = 49;
 
-pub const READS_DATA: usize = 35;
+pub const READS_DATA: usize = 50;
 
-pub const READS_DONE: usize = 36;
+pub const READS_DONE: usize = 51;
 
-pub const READS_UR: usize = 37;
+pub const READS_UR: usize = 52;
 
 // What is not as expected.
-pub const DIFFERENCE: usize = 38;
+pub const DIFFERENCE: usize = 53;
 
-pub const WRONG_NUMBER: usize = 39;
+pub const WRONG_NUMBER: usize = 54;
 
-pub const WRONG_LENGTH: usize = 40;
+pub const WRONG_LENGTH: usize = 55;
 
-pub const WRONG_BYTE: usize = 41;
+pub const WRONG_BYTE: usize = 56;
 
-pub const WRONG_CAPTURE: usize = 42;
+pub const WRONG_CAPTURE: usize = 57;
 
-pub const EXPECTED_CAPTURE: usize = 43;
+pub const EXPECTED_CAPTURE: usize = 58;
 
-pub const WRONG_BYTES: usize = 44;
+pub const WRONG_BYTES: usize = 59;
 
-pub const WRONG_COUNT: usize = 45;
+pub const WRONG_COUNT: usize = 60;
 
-pub const WRONG_PLACE: usize = 46;
+pub const WRONG_PLACE: usize = 61;
 
-pub const WRONG_ENTRY: usize = 47;
+pub const WRONG_ENTRY: usize = 62;
 
-pub const WRONG_FIELDS: usize = 48;
+pub const WRONG_FIELDS: usize = 63;
 
-pub const WRONG_FIELD: usize = 49;
+pub const WRONG_FIELD: usize = 64;
 
-pub const WRONG_BODY: usize = 50;
+pub const WRONG_BODY: usize = 65;
 
-pub const WRONG_BODY_PLACE: usize = 51;
+pub const WRONG_BODY_PLACE: usize = 66;
 
-pub const WRONG_PORT: usize = 52;
+pub const WRONG_PORT: usize = 67;
 
-pub const WRONG_LEAVING: usize = 53;
+pub const WRONG_LEAVING: usize = 68;
 
-pub const WRONG_LEAVING_BYTE: usize = 54;
+pub const WRONG_LEAVING_BYTE: usize = 69;
 
-pub const WRONG_WRITTEN: usize = 55;
+pub const WRONG_WRITTEN: usize = 70;
 
-pub const WRONG_WRITTEN_BYTE: usize = 56;
+pub const WRONG_WRITTEN_BYTE: usize = 71;
 
-pub const WRONG_SAID: usize = 57;
+pub const WRONG_SAID: usize = 72;
 
-pub const WRONG_COMPLETER: usize = 58;
+pub const WRONG_COMPLETER: usize = 73;
 
-pub const WRONG_REQUESTER: usize = 59;
+pub const WRONG_REQUESTER: usize = 74;
 
-pub const WRONG_TAG: usize = 60;
+pub const WRONG_TAG: usize = 75;
 
-pub const WRONG_SHOWN: usize = 61;
+pub const WRONG_SHOWN: usize = 76;
 
-pub const NONE: usize = 62;
+pub const WRONG_GROUP: usize = 77;
+
+pub const WRONG_PORTS: usize = 78;
+
+pub const NONE: usize = 79;
+
+pub const ONE: usize = 80;
 
 // The session.
-pub const LINE: usize = 63;
+pub const LINE: usize = 81;
 
-pub const PROMPT: usize = 64;
+pub const PROMPT: usize = 82;
 
-pub const QUOTE: usize = 65;
+pub const QUOTE: usize = 83;
 
-pub const UNQUOTE: usize = 66;
+pub const UNQUOTE: usize = 84;
 
-pub const LINE_END: usize = 67;
+pub const LINE_END: usize = 85;
 
-pub const TALLY: usize = 68;
+pub const TALLY: usize = 86;
 
 // A text with its numbers, as many as it has places for.
 pub fn say_all(
@@ -192,8 +230,23 @@ nothing
   alternate: function %1 device %2%n
   vendor %4 revision %1 ID %4 length %3%n
   body:
+  Max Group %v, Num Group %v, %s%n
+  base %v, index %v: the window of a group has %v bytes%n
+  Receive %v, groups:
+  Block All %v, groups:
+  Max Group %v, Num Group %v, %s, index %v%n
+  kept: the record of port %v%n
   leaves: port %v, unchanged:
   leaves: port %v, as Type 0:
+  no hit: port %v is not enabled%n
+  no hit: the address is below %v, the base of port %v%n
+  no hit: it would be in group %v, and the last one of port %v is %v%n
+  group %v, dropped where it enters: the Block All bit of port %v is 1%n
+  group %v, leaves by ports:
+  group %v, leaves by no port%n
+  the list has %v records, and may have 20%n
+  no port %v: the list has %v records, counted from port 0%n
+  port %v:%_
 writes:
   reads:%_
 success with data
@@ -223,7 +276,10 @@ completer
 requester
 tag
 shown
+group %p, expected %p%n
+ports
  none
+ %v
 line %d:%_
 >%_
 '
