@@ -3,18 +3,24 @@
 //! Were one of these not caught, a library with the same fault would not be caught either.
 
 mod accessing;
+mod admitting;
 mod answering;
 mod asker;
 mod blanking;
 mod bounding;
 mod broken;
 mod capturing;
+mod caster;
+mod casting;
 mod clearer;
 mod clearing;
 mod doubling;
+mod dropping;
 mod emptying;
 mod exceeding;
 mod finding;
+mod gatherer;
+mod gathering;
 mod harness;
 mod hearing;
 mod judging;
@@ -116,5 +122,26 @@ fn a_difference_of_a_walk_is_told_in_full() {
             "number: ",
             "place: 0",
         ],
+    );
+}
+
+#[test]
+fn a_difference_of_the_multicast_entries_is_told_in_full() {
+    let failure = expect_caught(gathering::without_the_base(), "multicast");
+    expect_told(
+        &failure,
+        &[
+            "entry: multicast",
+            "at: ",
+            "words at the offset",
+            "as lent",
+            "of the subject",
+            "numbers, place 0",
+        ],
+    );
+    let failure = expect_caught(casting::with_the_group_lost(), "judge");
+    expect_told(
+        &failure,
+        &["entry: judge", "address: ", "entering: ", "records:", "group: 0"],
     );
 }
