@@ -162,7 +162,7 @@ pub enum Group {
     JudgeLengths,
     JudgeRecords,
     JudgeRecordBits,
-    JudgeRecordLows,
+    JudgeRecordEdges,
     JudgeRecordPlaces,
     JudgeLists,
     JudgeEntering,

@@ -39,22 +39,27 @@ pub fn record_causes(ports: &[Groups]) -> Vec<(usize, usize)> {
 /// How many bits there are that Max Group, Num Group, Enable, index and base cannot have.
 const BITS_BEYOND: [usize; 5] = [58, 58, 63, 58, 12];
 
-/// Counts the value of a cause that stands alone: one bit that the number cannot have, the index, or the Max Group that is
-/// exceeded by one.
+/// Counts the value of a cause that stands alone: one bit that the number cannot have, a number just over its bound, the
+/// index that is too low, or the Max Group that is exceeded by one.
 pub fn count_value(record: &Groups, cause: usize, tally: &mut Tally) {
     let (number, beyond) = match cause {
         MAX_GROUP => (0, record.max_group >> 6),
         NUM_GROUP => (1, record.num_group >> 6),
         ENABLE => (2, record.enable >> 1),
         INDEX_OVER => (3, record.index >> 6),
-        INDEX_UNDER => return tally.add(Group::JudgeRecordLows, record.index as usize),
+        INDEX_UNDER => return tally.add(Group::JudgeRecordEdges, record.index as usize),
         _ => (4, record.base & 0xFFF),
     };
     let before: usize = BITS_BEYOND[..number].iter().sum();
     if beyond.is_power_of_two() {
         tally.add(Group::JudgeRecordBits, before + beyond.ilog2() as usize);
     }
-    if cause == NUM_GROUP && record.max_group < 63 && record.num_group == record.max_group + 1 {
-        tally.add(Group::JudgeRecordLows, 12 + record.max_group as usize);
-    }
+    let just_over = match cause {
+        NUM_GROUP if record.num_group == record.max_group + 1 => record.max_group as usize,
+        MAX_GROUP if record.max_group == 64 => 64,
+        ENABLE if record.enable == 2 => 65,
+        INDEX_OVER if record.index == 64 => 66,
+        _ => return,
+    };
+    tally.add(Group::JudgeRecordEdges, 12 + just_over);
 }

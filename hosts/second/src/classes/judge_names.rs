@@ -165,7 +165,7 @@ pub enum Other {
     LowNumGroup,
     LowMaxGroup,
     BaseAbove,
-    OtherIndex,
+    UnlikeIndex,
     Blocking,
     AllAlike,
     DroppedWhileReceived,

@@ -104,7 +104,7 @@ fn count_other(own: &Groups, port: &Groups, address: u64, group: u8, is_left_by:
     add_if(is_under(port.num_group), Other::LowNumGroup);
     add_if(is_under(port.max_group), Other::LowMaxGroup);
     add_if(port.base > address, Other::BaseAbove);
-    add_if(port.index != own.index, Other::OtherIndex);
+    add_if(port.index != own.index, Other::UnlikeIndex);
     add_if(blocks, Other::Blocking);
     let numbers = |record: &Groups| [record.enable, record.num_group, record.index, record.base];
     add_if(numbers(port) == numbers(own), Other::AllAlike);

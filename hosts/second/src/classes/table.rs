@@ -59,7 +59,7 @@ pub const TABLE: [Line; 175] = [
         Group::DoubledBytes,
         "serve: one bit marked doubly, every byte of both spaces",
         8192,
-        2,
+        1,
     ),
     numbered(
         Group::DoubledBits,
@@ -196,7 +196,7 @@ pub const TABLE: [Line; 175] = [
     named(Group::Correlation, "serve: the correlation word", CORRELATION, 100),
     named(Group::Captures, "serve and reset: captures", CAPTURES, 100),
     named(Group::KeptForms, "serve: forms of the kept capture", KEPT_FORMS, 100),
-    numbered(Group::CapturedBuses, "serve: captures of every bus", 256, 100),
+    numbered(Group::CapturedBuses, "serve: captures of every bus", 256, 90),
     numbered(Group::CapturedDevices, "serve: captures of every device", 32, 100),
     numbered(
         Group::Functions,
@@ -249,8 +249,8 @@ pub const TABLE: [Line; 175] = [
     ),
     numbered(Group::Rooms, "walks: rooms of 0, max - 1, max, max + 1, more", 15, 100),
     numbered(Group::CompatibleChains, "walks: compatible chains of 0 to 48", 49, 50),
-    numbered(Group::ExtendedChains, "walks: extended chains of 0 to 960", 961, 5),
-    numbered(Group::TrustedChains, "walks: trusted chains of 0 to 1,022", 1023, 5),
+    numbered(Group::ExtendedChains, "walks: extended chains of 0 to 960", 961, 4),
+    numbered(Group::TrustedChains, "walks: trusted chains of 0 to 1,022", 1023, 4),
     named(
         Group::CompatibleTurns,
         "walks: compatible, where the last header points",
@@ -407,7 +407,7 @@ pub const TABLE: [Line; 175] = [
         DUAL_ORDER,
         10,
     ),
-    numbered(Group::DualVectors, "dual_bdf: every vector", 256, 5),
+    numbered(Group::DualVectors, "dual_bdf: every vector", 256, 4),
     numbered(Group::DualFunctions, "dual_bdf: eight functions, both vendors", 16, 100),
     numbered(Group::DualDevices, "dual_bdf: 32 devices, both vendors", 64, 10),
     numbered(
@@ -770,14 +770,14 @@ pub const TABLE: [Line; 175] = [
         JUDGE_ANSWERS,
         1000,
     ),
-    named(Group::JudgeCauses, "judge: each cause of 1 alone", JUDGE_CAUSES, 50),
+    named(Group::JudgeCauses, "judge: each cause of 1 alone", JUDGE_CAUSES, 12),
     named(Group::JudgeTogether, "judge: causes of 1 together", JUDGE_TOGETHER, 20),
     numbered(Group::JudgeLengths, "judge: lists of 0 to 34 ports, and more", 36, 100),
     numbered(
         Group::JudgeRecords,
         "judge: each of six causes in each of 32 records alone",
         192,
-        20,
+        8,
     ),
     numbered(
         Group::JudgeRecordBits,
@@ -786,9 +786,9 @@ pub const TABLE: [Line; 175] = [
         10,
     ),
     numbered(
-        Group::JudgeRecordLows,
-        "judge: indexes under 12, Num Group over by 1, alone",
-        75,
+        Group::JudgeRecordEdges,
+        "judge: indexes under 12, numbers just over, alone",
+        79,
         3,
     ),
     numbered(
@@ -807,13 +807,13 @@ pub const TABLE: [Line; 175] = [
         Group::JudgeEntering,
         "judge: a hit by each port of lists of 1 to 32",
         528,
-        5,
+        3,
     ),
     numbered(
         Group::JudgeIndexes,
         "judge: each index, three places of hits and of others",
         312,
-        10,
+        8,
     ),
     numbered(
         Group::JudgeQuotients,
@@ -845,15 +845,15 @@ pub const TABLE: [Line; 175] = [
         Group::JudgePorts,
         "judge: each port left by or not, each entered by",
         1984,
-        20,
+        5,
     ),
     numbered(
         Group::JudgeOwn,
         "judge: the own Receive bit of each port entered by",
         64,
-        50,
+        30,
     ),
-    named(Group::JudgeSets, "judge: sets of ports that are left by", PORT_SETS, 50),
+    named(Group::JudgeSets, "judge: sets of ports that are left by", PORT_SETS, 15),
     named(Group::JudgeOthers, "judge: what else other ports have", OTHERS, 500),
     named(Group::Noise, "all: plain noise (as the generator meant it)", NOISE, 100),
 ];

@@ -17,7 +17,7 @@ use crate::generate::{Random, SHAPES};
 
 /// How often each entry is called: serve, reset, the three walks, dvsec, dvsec_body, dual_bdf, route, write_request,
 /// read_completion. Then how often a circle is gone through. Then multicast and judge.
-const WEIGHTS: [usize; 14] = [76, 3, 6, 8, 8, 5, 3, 4, 25, 10, 11, 6, 10, 25];
+const WEIGHTS: [usize; 14] = [82, 3, 7, 9, 9, 6, 3, 5, 27, 10, 11, 6, 8, 20];
 
 /// Where a run met a difference.
 #[derive(Debug)]

@@ -50,6 +50,7 @@ enum Receivers {
     All,
     Some,
     One(usize),
+    AllBut(usize),
 }
 
 /// Makes calls.
@@ -120,11 +121,14 @@ fn sound_case(aim: &Aim, random: &mut Random) -> JudgeCase {
     let count = random.pick(&[1, 2, 3, 31, 32, any, any, any, any, any, any, any]);
     let any = random.below(count);
     let entering = random.pick(&[0, count - 1, any, any, any, any]);
-    let receivers = match random.weighted(&[15, 15, 60, 10]) {
+    let any = random.below(count);
+    let one = random.pick(&[0, count - 1, any, any]);
+    let receivers = match random.weighted(&[14, 14, 56, 8, 8]) {
         0 => Receivers::None,
         1 => Receivers::All,
         2 => Receivers::Some,
-        _ => Receivers::One(random.below(count)),
+        3 => Receivers::One(one),
+        _ => Receivers::AllBut(one),
     };
     let mut ports: Vec<Groups> = (0..count).map(|place| other(aim, receivers, place, random)).collect();
     ports[entering] = Groups {
@@ -146,6 +150,7 @@ fn other(aim: &Aim, receivers: Receivers, place: usize, random: &mut Random) -> 
         Receivers::All => true,
         Receivers::Some => random.percent(50),
         Receivers::One(one) => place == one,
+        Receivers::AllBut(one) => place != one,
     };
     let any = sound_groups(random);
     let like = if random.percent(50) { aim.entered } else { any };
@@ -174,6 +179,7 @@ fn too_many(case: &mut JudgeCase, random: &mut Random) {
 fn no_port(case: &JudgeCase, random: &mut Random) -> usize {
     let (length, entering) = (case.ports.len(), case.entering);
     let further = random.within(length, length + 40);
+    let one = 1 << random.within(8, 63) | entering;
     let high = usize::MAX << random.within(8, 63) | entering;
     let places = [
         length,
@@ -183,6 +189,8 @@ fn no_port(case: &JudgeCase, random: &mut Random) -> usize {
         further,
         entering | 0x20,
         entering | 0x100,
+        entering | 0x100,
+        one,
         entering | 1 << 16,
         entering | 1 << 32,
         entering | 1 << 63,

@@ -41,16 +41,20 @@ impl RecordFaultMaker {
     /// Puts a fault into a record.
     pub fn put(&mut self, fault: RecordFault, in_turn: bool, record: &mut Groups, random: &mut Random) {
         let high = random.bits() << random.within(6, 63);
-        let mostly = random.percent(75);
+        let mostly = random.percent(70);
+        let barely = random.percent(40);
         let mut one_of = |bits: &mut Cursor, lowest: usize| 1_u64 << (lowest + bits.draw(in_turn, random));
         match fault {
             RecordFault::MaxGroup if mostly => record.max_group |= one_of(&mut self.max_group_bits, 6),
+            RecordFault::MaxGroup if barely => record.max_group = 64,
             RecordFault::MaxGroup => record.max_group |= high | 64,
             RecordFault::NumGroup if mostly => record.num_group |= one_of(&mut self.num_group_bits, 6),
             RecordFault::NumGroup => over(record, random),
             RecordFault::Enable if mostly => record.enable |= one_of(&mut self.enable_bits, 1),
+            RecordFault::Enable if barely => record.enable = 2,
             RecordFault::Enable => record.enable |= high | 2,
             RecordFault::IndexOver if mostly => record.index |= one_of(&mut self.index_bits, 6),
+            RecordFault::IndexOver if barely => record.index = 64,
             RecordFault::IndexOver => record.index |= high | 64,
             RecordFault::IndexUnder => {
                 record.enable = 1;
@@ -62,9 +66,9 @@ impl RecordFaultMaker {
     }
 }
 
-/// A Num Group over Max Group, and not over 63.
+/// A Num Group over Max Group, by one or by some, and not over 64.
 fn over(record: &mut Groups, random: &mut Random) {
-    record.max_group = random.below(63) as u64;
-    let any = random.within(record.max_group as usize + 1, 63) as u64;
+    record.max_group = random.below(64) as u64;
+    let any = random.within(record.max_group as usize + 1, 64) as u64;
     record.num_group = random.pick(&[record.max_group + 1, record.max_group + 1, any]);
 }

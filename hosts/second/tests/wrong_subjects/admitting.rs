@@ -132,8 +132,10 @@ fn each_place_refused() {
     }
 }
 
-/// The causes why no reading gives a record: whether it has one, and the record without it.
-const CAUSES: [(fn(&Groups) -> bool, fn(Groups) -> Groups); 6] = [
+/// A cause why no reading gives a record: whether it has it, and the record without it.
+type Cause = (fn(&Groups) -> bool, fn(Groups) -> Groups);
+
+const CAUSES: [Cause; 6] = [
     (
         |record| record.max_group > 63,
         |record| Groups {

@@ -65,6 +65,17 @@ fn groups_by_division_are_not_caught() {
     expect_group_not_caught(|call| numbered(call, |record, address| (address - record.base) / (1 << record.index)));
 }
 
+/// A base has no bits below a page's, and windows have whole pages.
+#[test]
+fn pages_in_place_of_addresses_are_not_caught() {
+    expect_group_not_caught(|call| {
+        let record = call.entered();
+        let [page, first] = [call.address >> 12, record.base >> 12];
+        let number = page.wrapping_sub(first) >> record.index.saturating_sub(12);
+        up_to(number, record.num_group).filter(|_| record.enable == 1 && page >= first)
+    });
+}
+
 #[test]
 fn an_end_in_128_bits_is_not_caught() {
     expect_group_not_caught(|call| {
@@ -244,7 +255,7 @@ fn a_number_without_one_bit() {
 fn a_distance_cut_to_fewer_bits() {
     expect_group_caught(|call| {
         numbered(call, |record, address| {
-            (address - record.base & 0xFFFF_FFFF) >> record.index
+            ((address - record.base) & 0xFFFF_FFFF) >> record.index
         })
     });
     expect_group_caught(|call| {
@@ -289,55 +300,39 @@ fn addresses_compared_as_signed_numbers() {
 }
 
 #[test]
-fn the_base_and_the_address_compared_by_their_high_parts() {
-    for bits in [12, 32] {
-        expect_judge_caught(or_else(move |call, judged| {
-            let record = call.ports.get(call.entering)?;
-            let is_from_the_base_on = record.enable == 1 && call.address >> 32 >= record.base >> 32;
-            let number = (call.address >> bits).wrapping_sub(record.base >> bits) >> record.index.saturating_sub(bits);
-            let group = up_to(number, record.num_group).filter(|_| is_from_the_base_on);
-            (judged.number == 0).then(|| told(call, group))
-        }));
-    }
+fn the_base_and_the_address_compared_by_their_high_halves() {
+    expect_group_caught(|call| {
+        let record = call.entered();
+        let [address, base] = [call.address >> 32, record.base >> 32];
+        let number = (address.wrapping_sub(base) << 32) >> record.index;
+        up_to(number, record.num_group).filter(|_| record.enable == 1 && address >= base)
+    });
+}
+
+/// How many addresses all windows have, in 64 bits.
+const fn span(record: &Groups) -> u64 {
+    (record.num_group + 1).wrapping_mul(1 << record.index)
+}
+
+/// As [`span`], and the most that 64 bits hold where it is more.
+const fn at_most(record: &Groups) -> u64 {
+    (record.num_group + 1).saturating_mul(1 << record.index)
 }
 
 /// An end of all windows in 64 bits, where it may be past 2^64.
 #[test]
 fn an_end_that_overflows() {
-    let span = |record: &Groups| (record.num_group + 1).wrapping_mul(1 << record.index);
-    let ends: [fn(&Groups, u64) -> bool; 7] = [
-        |record, address| {
-            address
-                < record
-                    .base
-                    .wrapping_add((record.num_group + 1).wrapping_mul(1 << record.index))
-        },
-        |record, address| {
-            address
-                < record
-                    .base
-                    .saturating_add((record.num_group + 1).wrapping_mul(1 << record.index))
-        },
-        |record, address| address - record.base < (record.num_group + 1).wrapping_mul(1 << record.index),
-        |record, address| address - record.base < (record.num_group + 1).saturating_mul(1 << record.index),
-        |record, address| {
-            address - record.base <= ((record.num_group + 1).wrapping_mul(1 << record.index)).wrapping_sub(1)
-        },
-        |record, address| {
-            address
-                <= record
-                    .base
-                    .wrapping_add((record.num_group + 1).wrapping_mul(1 << record.index))
-                    .wrapping_sub(1)
-        },
-        |record, address| {
-            let end = (record.num_group + 1)
-                .checked_mul(1 << record.index)
-                .and_then(|span| record.base.checked_add(span));
-            end.is_some_and(|end| address < end)
-        },
+    let ends: [fn(&Groups, u64) -> bool; 9] = [
+        |record, address| address < record.base.wrapping_add(span(record)),
+        |record, address| address < record.base.saturating_add(span(record)),
+        |record, address| address < record.base.saturating_add(at_most(record)),
+        |record, address| address - record.base < span(record),
+        |record, address| address - record.base < at_most(record),
+        |record, address| address - record.base <= span(record).wrapping_sub(1),
+        |record, address| address <= record.base.wrapping_add(span(record)).wrapping_sub(1),
+        |record, address| address <= record.base.wrapping_add(at_most(record)).wrapping_sub(1),
+        |record, address| record.base.checked_add(span(record)).is_some_and(|end| address < end),
     ];
-    let _ = span;
     for is_before in ends {
         expect_judge_caught(or_else(move |call, judged| {
             (judged.number == 0).then(|| told(call, before_an_end(call, is_before)))
