@@ -37,7 +37,10 @@ pub struct Multicast {
 /// Reads the Multicast capability at an offset.
 pub fn multicast(space: &[u8], at: usize) -> Multicast {
     match whole(space).and_then(|space| read(space, at)) {
-        Ok(groups) => Multicast { number: 0, groups },
+        Ok(groups) => {
+            debug_assert_eq!(groups, fields_bit_by_bit(&space[at..at + LEAST_BYTES]));
+            Multicast { number: 0, groups }
+        }
         Err(refusal) => Multicast {
             number: refusal.number(),
             groups: Groups::default(),
@@ -57,7 +60,6 @@ fn read(space: &Space, at: usize) -> Result<Groups, Refusal> {
         return Err(Refusal::StructureLength);
     }
     let groups = fields(space, at);
-    debug_assert_eq!(groups, fields_bit_by_bit(&space[at..at + LEAST_BYTES]));
     let index_is_low = groups.enable == 1 && groups.index < LEAST_INDEX;
     if groups.num_group > groups.max_group || index_is_low {
         return Err(Refusal::Groups);

@@ -67,49 +67,36 @@ const NO_HIT: Judged = Judged {
     verdict: Some(Verdict::NoHit),
 };
 
-#[test]
-fn each_bit_of_the_structure_counts_in_its_field_or_not_at_all() {
-    let sound = Groups {
+/// What is read where one bit of a sound structure is turned round, or the number of the refusal.
+fn with_bit_turned(bit: usize) -> Result<Groups, u8> {
+    let mut groups = Groups {
         max_group: 63,
         ..NOTHING
     };
+    match bit {
+        0..=19 => return Err(8),
+        63 => return Err(13),
+        32..=37 => groups.max_group ^= 1 << (bit - 32),
+        48..=53 => groups.num_group = 1 << (bit - 48),
+        64..=69 => groups.index = 1 << (bit - 64),
+        76..=127 => groups.base = 1 << (bit - 64),
+        128..=191 => groups.receive = 1 << (bit - 128),
+        192..=255 => groups.block_all = 1 << (bit - 192),
+        _ => {}
+    }
+    Ok(groups)
+}
+
+#[test]
+fn each_bit_of_the_structure_counts_in_its_field_or_not_at_all() {
     for at in [0x100, 0x7A4, 0xFD8] {
         for bit in 0..8 * 0x28 {
             let mut space = space_with(at, &[]);
             space[at + bit / 8] ^= 1 << (bit % 8);
-            let expected = match bit {
-                0..=19 => None,
-                32..=37 => Some(Groups {
-                    max_group: 63 ^ 1 << (bit - 32),
-                    ..sound
-                }),
-                48..=53 => Some(Groups {
-                    num_group: 1 << (bit - 48),
-                    ..sound
-                }),
-                63 => None,
-                64..=69 => Some(Groups {
-                    index: 1 << (bit - 64),
-                    ..sound
-                }),
-                76..=127 => Some(Groups {
-                    base: 1 << (bit - 64),
-                    ..sound
-                }),
-                128..=191 => Some(Groups {
-                    receive: 1 << (bit - 128),
-                    ..sound
-                }),
-                192..=255 => Some(Groups {
-                    block_all: 1 << (bit - 192),
-                    ..sound
-                }),
-                _ => Some(sound),
-            };
             let read = multicast(&space, at);
+            let expected = with_bit_turned(bit);
+            assert_eq!(read.number, expected.err().unwrap_or(0), "bit {bit}");
             assert_eq!(read.groups, expected.unwrap_or(NOTHING), "bit {bit}");
-            let refusal = if bit < 20 { 8 } else { 13 };
-            assert_eq!(read.number, if expected.is_some() { 0 } else { refusal }, "bit {bit}");
         }
     }
 }
@@ -174,44 +161,20 @@ fn an_index_under_12_is_13_while_enabled_only() {
 
 /// Records that no space gives, each by one of its numbers: such as have a bit beyond it, and such as are 13.
 fn records_that_no_space_gives() -> Vec<Groups> {
-    let mut records = vec![
-        Groups {
-            num_group: 4,
-            max_group: 3,
-            ..RADAR
-        },
-        Groups {
-            num_group: 4,
-            max_group: 3,
-            enable: 0,
-            ..RADAR
-        },
-    ];
-    records.extend((0..12).map(|index| Groups { index, ..RADAR }));
-    records.extend((6..64).map(|bit| Groups {
-        max_group: 1 << bit | 63,
-        ..RADAR
-    }));
-    records.extend((6..64).map(|bit| Groups {
-        num_group: 1 << bit,
-        ..RADAR
-    }));
-    records.extend((1..64).map(|bit| Groups {
-        enable: 1 << bit | 1,
-        ..RADAR
-    }));
-    records.extend((1..64).map(|bit| Groups {
-        enable: 1 << bit,
-        ..RADAR
-    }));
-    records.extend((6..64).map(|bit| Groups {
-        index: 1 << bit | 12,
-        ..RADAR
-    }));
-    records.extend((0..12).map(|bit| Groups {
-        base: 1 << bit,
-        ..RADAR
-    }));
+    let with = |change: &dyn Fn(&mut Groups)| {
+        let mut groups = RADAR;
+        change(&mut groups);
+        groups
+    };
+    let mut records = vec![with(&|groups| groups.max_group = 2)];
+    records.push(with(&|groups| (groups.max_group, groups.enable) = (2, 0)));
+    records.extend((0..12).map(|index| with(&|groups| groups.index = index)));
+    records.extend((6..64).map(|bit| with(&|groups| groups.max_group |= 1 << bit)));
+    records.extend((6..64).map(|bit| with(&|groups| groups.num_group = 1 << bit)));
+    records.extend((1..64).map(|bit| with(&|groups| groups.enable |= 1 << bit)));
+    records.extend((1..64).map(|bit| with(&|groups| groups.enable = 1 << bit)));
+    records.extend((6..64).map(|bit| with(&|groups| groups.index |= 1 << bit)));
+    records.extend((0..12).map(|bit| with(&|groups| groups.base |= 1 << bit)));
     records
 }
 

@@ -55,9 +55,9 @@ pub const RIGHT: Habits = Habits {
     is_left_by: |call, place, group| place != call.entering && has(call.ports[place].receive, group),
 };
 
-/// Whether a register has the bit of a group.
-pub const fn has(register: u64, group: u64) -> bool {
-    register << (63 - group) >> 63 == 1
+/// Whether a register has the bit of a group. It has none for a group over 63, which a wrong judge may find.
+pub fn has(register: u64, group: u64) -> bool {
+    register.checked_shr(group as u32).is_some_and(|rest| rest & 1 == 1)
 }
 
 /// Whether some space gives a record.
@@ -69,17 +69,38 @@ pub const fn is_given(record: &Groups) -> bool {
         && (record.enable == 0 || record.enable == 1 && record.index >= 12)
 }
 
-/// The group of a record that an address hits.
-pub const fn group(record: &Groups, address: u64) -> Option<u64> {
+/// The group of a record that an address hits. An index over 63, which a wrong judge may let through, has one group.
+pub fn group(record: &Groups, address: u64) -> Option<u64> {
     if record.enable == 0 || address < record.base {
         return None;
     }
-    up_to((address - record.base) >> record.index, record.num_group)
+    let distance = address - record.base;
+    up_to(distance.checked_shr(record.index as u32).unwrap_or(0), record.num_group)
 }
 
 /// A number that is not over a bound.
 pub const fn up_to(number: u64, bound: u64) -> Option<u64> {
     if number <= bound { Some(number) } else { None }
+}
+
+/// Whether the port that is entered by is enabled and the address is not below its base.
+pub fn is_from_the_base_on(call: &Call<'_>) -> bool {
+    call.entered().enable == 1 && call.address >= call.entered().base
+}
+
+/// What the port that is entered by makes of a group.
+pub fn told(call: &Call<'_>, group: Option<u64>) -> Judged {
+    let Some(group) = group else {
+        return NO_HIT;
+    };
+    let is_dropped = (RIGHT.is_dropped)(call, group);
+    let places = (0..call.ports.len()).filter(|&place| !is_dropped && (RIGHT.is_left_by)(call, place, group));
+    Judged {
+        number: 0,
+        verdict: if is_dropped { DROPPED } else { LEAVES },
+        group: group as u8,
+        ports: places.fold(0, |set, place| set | 1 << place),
+    }
 }
 
 /// Judges by habits.
@@ -159,6 +180,12 @@ pub fn mended(record: Groups) -> Groups {
         base: record.base & !0xFFF,
         ..record
     }
+}
+
+/// What becomes of the packet while all records are mended.
+pub fn otherwise(call: &Call<'_>) -> Judged {
+    let ports: Vec<Groups> = call.ports.iter().map(|&record| mended(record)).collect();
+    Reference.judge(&ports, call.entering, call.address)
 }
 
 /// Fails unless a judge is caught.

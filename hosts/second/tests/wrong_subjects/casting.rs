@@ -1,20 +1,15 @@
-//! Ways to find the group that an address hits, by request 8/13: right ones and wrong ones, and what is told of it.
+//! Ways to find the group that an address hits, by request 8/13: right ones and wrong ones.
 
-use thawribbon::raw::{Groups, Judged};
+use thawribbon::raw::Groups;
 
 use crate::caster::{
-    Call, DROPPED, Habits, LEAVES, NO_HIT, RIGHT, expect_group_caught, expect_judge_caught, group, has, judged_by,
-    or_else, up_to, with_told,
+    Call, Habits, RIGHT, expect_group_caught, expect_judge_caught, group, is_from_the_base_on, judged_by, or_else,
+    told, up_to,
 };
-use crate::harness::{Wrong, expect_not_caught};
+use crate::harness::expect_not_caught;
 
 fn expect_group_not_caught(group: fn(&Call<'_>) -> Option<u64>) {
     expect_not_caught(judged_by(Habits { group, ..RIGHT }));
-}
-
-/// Whether the port that is entered by is enabled and the address is not below its base.
-fn is_from_the_base_on(call: &Call<'_>) -> bool {
-    call.entered().enable == 1 && call.address >= call.entered().base
 }
 
 /// Where the address is from the base on, the number that is found for it in a way, if that is not over Num Group.
@@ -88,53 +83,22 @@ fn an_end_in_128_bits_is_not_caught() {
 
 #[test]
 fn enable_not_asked_or_asked_otherwise() {
-    expect_group_caught(|call| {
-        group(
-            &Groups {
-                enable: 1,
-                ..*call.entered()
-            },
-            call.address,
-        )
-    });
-    expect_group_caught(|call| {
-        group(
-            &Groups {
-                enable: 1 - call.entered().enable,
-                ..*call.entered()
-            },
-            call.address,
-        )
-    });
-    expect_group_caught(|call| {
-        group(
-            &Groups {
-                enable: call.ports[0].enable,
-                ..*call.entered()
-            },
-            call.address,
-        )
-    });
-    expect_group_caught(|call| {
-        let enable = call.ports.iter().map(|port| port.enable).max().unwrap_or(0);
-        group(
-            &Groups {
+    let others: [fn(&Call<'_>) -> u64; 5] = [
+        |_| 1,
+        |call| 1 - call.entered().enable,
+        |call| call.ports[0].enable,
+        |call| call.ports.iter().map(|port| port.enable).max().unwrap_or(0),
+        |call| call.ports.iter().map(|port| port.enable).min().unwrap_or(0),
+    ];
+    for enable in others {
+        expect_judge_caught(or_else(move |call, judged| {
+            let record = |enable| Groups {
                 enable,
                 ..*call.entered()
-            },
-            call.address,
-        )
-    });
-    expect_group_caught(|call| {
-        let enable = call.ports.iter().map(|port| port.enable).min().unwrap_or(0);
-        group(
-            &Groups {
-                enable,
-                ..*call.entered()
-            },
-            call.address,
-        )
-    });
+            };
+            (judged.number == 0).then(|| told(call, group(&record(enable(call)), call.address)))
+        }));
+    }
 }
 
 /// A number of the record is taken from another port: from the first, the last or the next one.
@@ -170,21 +134,6 @@ fn a_number_of_another_port() {
     }
 }
 
-/// What the port that is entered by makes of a group.
-fn told(call: &Call<'_>, group: Option<u64>) -> Judged {
-    let Some(group) = group else {
-        return NO_HIT;
-    };
-    let is_dropped = (RIGHT.is_dropped)(call, group);
-    let places = (0..call.ports.len()).filter(|&place| !is_dropped && (RIGHT.is_left_by)(call, place, group));
-    Judged {
-        number: 0,
-        verdict: if is_dropped { DROPPED } else { LEAVES },
-        group: group as u8,
-        ports: places.fold(0, |set, place| set | 1 << place),
-    }
-}
-
 #[test]
 fn the_base_left_out_or_the_address_before_it_taken() {
     expect_group_caught(|call| group(call.entered(), call.address).filter(|_| call.address > call.entered().base));
@@ -207,14 +156,14 @@ fn another_bound_for_the_group() {
     ];
     for bound in bounds {
         expect_judge_caught(or_else(move |call, judged| {
-            let record = call.ports.get(call.entering)?;
+            let record = call.ports.get(call.entering).filter(|_| judged.number == 0)?;
             let any = Groups {
                 max_group: 63,
                 num_group: 63,
                 ..*record
             };
             let group = bound(record).and_then(|bound| group(&any, call.address).filter(|&group| group <= bound));
-            (judged.number == 0).then(|| told(call, group))
+            Some(told(call, group))
         }));
     }
 }
@@ -411,125 +360,4 @@ fn a_distance_in_floating_point() {
             (((address - record.base) as f32) / 2_f32.powi(record.index as i32)) as u64
         })
     });
-}
-
-#[test]
-fn each_group_taken_for_no_hit() {
-    for missed in 0..64 {
-        expect_judge_caught(or_else(move |_, judged| {
-            (judged.verdict >= DROPPED && judged.group == missed).then_some(NO_HIT)
-        }));
-    }
-}
-
-#[test]
-fn each_index_taken_for_no_hit() {
-    for missed in 12..64 {
-        expect_judge_caught(or_else(move |call, judged| {
-            (judged.verdict >= DROPPED && call.entered().index == missed).then_some(NO_HIT)
-        }));
-    }
-}
-
-/// A subject that tells no group, which the harness shows in full.
-pub fn with_the_group_lost() -> Wrong {
-    with_told(LEAVES, |_, judged| Judged { group: 0, ..judged })
-}
-
-#[test]
-fn the_group_not_told_where_it_is_dropped() {
-    expect_judge_caught(with_told(DROPPED, |_, judged| Judged { group: 0, ..judged }));
-}
-
-#[test]
-fn another_group_told() {
-    for verdict in [DROPPED, LEAVES] {
-        let changes: [fn(u8) -> u8; 4] = [
-            |group| group + 1,
-            |group| 63 - group,
-            |group| group & 31,
-            |group| group & 15,
-        ];
-        for change in changes {
-            expect_judge_caught(with_told(verdict, move |_, judged| Judged {
-                group: change(judged.group),
-                ..judged
-            }));
-        }
-    }
-}
-
-#[test]
-fn a_group_told_with_no_hit() {
-    for group in [1, 63, 255] {
-        expect_judge_caught(with_told(1, move |_, judged| Judged { group, ..judged }));
-    }
-    expect_judge_caught(with_told(1, |call, judged| {
-        let record = call.entered();
-        let number = call.address.wrapping_sub(record.base) >> record.index;
-        Judged {
-            group: number as u8,
-            ..judged
-        }
-    }));
-}
-
-#[test]
-fn no_hit_told_as_something_else() {
-    for verdict in [0, DROPPED, LEAVES] {
-        expect_judge_caught(with_told(1, move |_, judged| Judged { verdict, ..judged }));
-    }
-    expect_judge_caught(with_told(1, |_, judged| Judged {
-        number: 1,
-        verdict: 0,
-        ..judged
-    }));
-}
-
-/// No hit in one of the three ways is told as leaving by all ports that receive group 0.
-#[test]
-fn one_way_to_hit_nothing_told_as_a_hit() {
-    let ways: [fn(&Call<'_>) -> bool; 3] = [
-        |call| call.entered().enable == 0,
-        |call| call.entered().enable == 1 && call.address < call.entered().base,
-        |call| is_from_the_base_on(call),
-    ];
-    for way in ways {
-        expect_judge_caught(with_told(
-            1,
-            move |call, judged| if way(call) { told(call, Some(0)) } else { judged },
-        ));
-    }
-}
-
-#[test]
-fn a_hit_told_as_another_verdict() {
-    expect_judge_caught(with_told(DROPPED, |_, _| NO_HIT));
-    expect_judge_caught(with_told(
-        LEAVES,
-        |_, judged| if judged.ports == 0 { NO_HIT } else { judged },
-    ));
-    expect_judge_caught(with_told(DROPPED, |_, judged| Judged {
-        verdict: LEAVES,
-        ..judged
-    }));
-    let emptied = |_: &Call<'_>, judged: Judged| match judged.ports {
-        0 => Judged {
-            verdict: DROPPED,
-            ..judged
-        },
-        _ => judged,
-    };
-    expect_judge_caught(with_told(LEAVES, emptied));
-}
-
-/// Addresses at an edge by themselves.
-#[test]
-fn one_address_missed() {
-    for missed in [0, u64::MAX, !0xFFF, 1 << 63, (1 << 63) - 1] {
-        expect_judge_caught(or_else(move |call, judged| {
-            let hits = judged.verdict >= DROPPED && call.address == missed;
-            (hits && has(u64::MAX, judged.group.into())).then_some(NO_HIT)
-        }));
-    }
 }

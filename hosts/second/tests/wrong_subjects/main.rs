@@ -4,6 +4,7 @@
 
 mod accessing;
 mod admitting;
+mod announcing;
 mod answering;
 mod asker;
 mod blanking;
@@ -29,6 +30,7 @@ mod looping;
 mod marking;
 mod measuring;
 mod ordering;
+mod picking;
 mod placing;
 mod reading;
 mod refusing;
@@ -39,6 +41,7 @@ mod router;
 mod routing;
 mod serving;
 mod telling;
+mod vetting;
 mod walker;
 mod walking;
 mod widening;
@@ -127,7 +130,7 @@ fn a_difference_of_a_walk_is_told_in_full() {
 
 #[test]
 fn a_difference_of_the_multicast_entries_is_told_in_full() {
-    let failure = expect_caught(gathering::without_the_base(), "multicast");
+    let failure = expect_caught(picking::without_the_base(), "multicast");
     expect_told(
         &failure,
         &[
@@ -139,7 +142,7 @@ fn a_difference_of_the_multicast_entries_is_told_in_full() {
             "numbers, place 0",
         ],
     );
-    let failure = expect_caught(casting::with_the_group_lost(), "judge");
+    let failure = expect_caught(announcing::with_the_group_lost(), "judge");
     expect_told(
         &failure,
         &["entry: judge", "address: ", "entering: ", "records:", "group: 0"],
