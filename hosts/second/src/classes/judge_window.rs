@@ -169,3 +169,43 @@ fn count_above(record: &Groups, address: u64, last: u64, tally: &mut Tally) {
         tally.add(Group::JudgeQuotients, high.ilog2() as usize);
     }
 }
+
+#[cfg(test)]
+mod tests {
+    use super::{Hit, Window};
+    use thawribbon::raw::Groups;
+
+    fn record(num_group: u64, index: u64, base: u64) -> Groups {
+        Groups {
+            max_group: 63,
+            num_group,
+            enable: 1,
+            index,
+            base,
+            ..Groups::default()
+        }
+    }
+
+    fn window(group: u8, first: u64, last: u64) -> Hit {
+        Hit::Group(Window { group, first, last })
+    }
+
+    #[test]
+    fn windows_follow_one_another_up_to_the_last() {
+        let record = record(1, 12, 0x5000);
+        assert_eq!(Hit::of(&record, 0x4FFF), Hit::Below);
+        assert_eq!(Hit::of(&record, 0x5FFF), window(0, 0x5000, 0x5FFF));
+        assert_eq!(Hit::of(&record, 0x6000), window(1, 0x6000, 0x6FFF));
+        assert_eq!(Hit::of(&record, 0x7000), Hit::Above(0x6FFF));
+        assert_eq!(Hit::of(&Groups { enable: 0, ..record }, 0x5000), Hit::Disabled);
+    }
+
+    #[test]
+    fn a_window_that_would_end_past_2_to_the_64_has_what_is_left() {
+        let first = 0xC000_0000_0000_1000;
+        assert_eq!(Hit::of(&record(63, 62, 0x1000), u64::MAX), window(3, first, u64::MAX));
+        assert_eq!(Hit::of(&record(63, 63, !0xFFF), u64::MAX), window(0, !0xFFF, u64::MAX));
+        assert_eq!(Hit::of(&record(1, 63, 0), u64::MAX), window(1, 1 << 63, u64::MAX));
+        assert_eq!(Hit::of(&record(0, 63, 0), u64::MAX), Hit::Above((1 << 63) - 1));
+    }
+}

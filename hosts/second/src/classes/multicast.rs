@@ -100,15 +100,29 @@ fn count_alone(cause: usize, bytes: &[u8], at: usize, tally: &mut Tally) {
 
 /// Counts two causes that come together, with no other.
 fn count_two(causes: &[bool; CAUSES], tally: &mut Tally) {
-    let pairs = OF_PAIRS
+    if causes.iter().filter(|&&present| present).count() != 2 {
+        return;
+    }
+    let place = pairs().position(|(first, second)| causes[first] && causes[second]);
+    if let Some(place) = place {
+        tally.add(Group::MulticastTogether, place);
+    }
+}
+
+/// The pairs of causes that can be, the earlier one first.
+fn pairs() -> impl Iterator<Item = (usize, usize)> {
+    let all = OF_PAIRS
         .into_iter()
         .flat_map(|first| OF_PAIRS.map(|second| (first, second)));
-    let mut that_can_be = pairs.filter(|&pair| pair.0 < pair.1 && pair != NEVER);
-    let present = causes.iter().filter(|&&present| present).count();
-    if present == 2 {
-        let place = that_can_be.position(|(first, second)| causes[first] && causes[second]);
-        if let Some(place) = place {
-            tally.add(Group::MulticastTogether, place);
-        }
+    all.filter(|&pair| pair.0 < pair.1 && pair != NEVER)
+}
+
+#[cfg(test)]
+mod tests {
+    use super::pairs;
+
+    #[test]
+    fn there_are_27_pairs() {
+        assert_eq!(pairs().count(), 27);
     }
 }

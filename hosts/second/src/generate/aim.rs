@@ -167,3 +167,30 @@ fn edge_or_any(lowest: u64, highest: u64, random: &mut Random) -> u64 {
     let any = lowest + random.bits() % (highest - lowest + 1);
     random.pick(&[lowest, highest, any, any, any])
 }
+
+#[cfg(test)]
+mod tests {
+    use super::AimMaker;
+    use crate::generate::Random;
+
+    #[test]
+    fn an_aim_at_a_group_hits_it() {
+        let (mut maker, mut random) = (AimMaker::new(), Random::new(1));
+        for _ in 0..20_000 {
+            let aim = maker.hit(true, &mut random);
+            let distance = aim.address.checked_sub(aim.entered.base).expect("from the base on");
+            assert_eq!(distance >> aim.entered.index, aim.group);
+            assert!(aim.group <= aim.entered.num_group && aim.entered.num_group <= aim.entered.max_group);
+        }
+    }
+
+    #[test]
+    fn an_aim_above_the_last_group_is_above_it() {
+        let (mut maker, mut random) = (AimMaker::new(), Random::new(1));
+        for _ in 0..20_000 {
+            let aim = maker.above(true, &mut random);
+            let distance = aim.address.checked_sub(aim.entered.base).expect("from the base on");
+            assert!(distance >> aim.entered.index > aim.entered.num_group);
+        }
+    }
+}

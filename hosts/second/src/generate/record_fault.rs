@@ -72,3 +72,38 @@ fn over(record: &mut Groups, random: &mut Random) {
     let any = random.within(record.max_group as usize + 1, 64) as u64;
     record.num_group = random.pick(&[record.max_group + 1, record.max_group + 1, any]);
 }
+
+#[cfg(test)]
+mod tests {
+    use super::{RecordFault, RecordFaultMaker};
+    use crate::generate::Random;
+    use crate::generate::groups::sound_groups;
+    use thawribbon::raw::Groups;
+
+    fn is_sound(groups: &Groups) -> bool {
+        let index_is_high = groups.enable == 0 || groups.index >= 12;
+        let are_bits = groups.max_group < 64 && groups.index < 64 && groups.enable < 2 && groups.base % 4096 == 0;
+        are_bits && index_is_high && groups.num_group <= groups.max_group
+    }
+
+    #[test]
+    fn a_record_is_sound_until_a_fault_is_put_into_it() {
+        let mut random = Random::new(1);
+        let mut maker = RecordFaultMaker::new();
+        let faults = [
+            RecordFault::MaxGroup,
+            RecordFault::NumGroup,
+            RecordFault::Enable,
+            RecordFault::IndexOver,
+            RecordFault::IndexUnder,
+            RecordFault::Base,
+        ];
+        for fault in faults.into_iter().cycle().take(30_000) {
+            let mut record = sound_groups(&mut random);
+            assert!(is_sound(&record), "{record:?}");
+            let in_turn = random.percent(50);
+            maker.put(fault, in_turn, &mut record, &mut random);
+            assert!(!is_sound(&record), "{record:?}");
+        }
+    }
+}
