@@ -163,6 +163,7 @@ pub enum Group {
     JudgeRecords,
     JudgeRecordBits,
     JudgeRecordEdges,
+    JudgeRecordEnables,
     JudgeRecordPlaces,
     JudgeLists,
     JudgeEntering,

@@ -3,7 +3,7 @@
 use thawribbon::raw::Judged;
 
 use super::group::Group;
-use super::judge_causes::{RECORD_CAUSES, count_value, record_causes};
+use super::judge_causes::{RECORD_CAUSES, count_enable, count_value, record_causes};
 use super::judge_names::{JudgeCause, JudgeTogether};
 use super::judge_ports::{count_ports, due};
 use super::judge_window::{Hit, count_address};
@@ -93,11 +93,12 @@ fn no_port(case: &JudgeCase) -> JudgeCause {
     }
 }
 
-/// Counts the cause of one record: by the record's place, by its value, and by what would become of the packet.
+/// Counts the cause of one record: by the record's place, by its value, by Enable, and by what would become of the packet.
 fn count_record(case: &JudgeCase, place: usize, cause: usize, tally: &mut Tally) {
     tally.add(Group::JudgeCauses, JudgeCause::FirstOfRecords as usize + cause);
     tally.add(Group::JudgeRecords, RECORD_CAUSES * place + cause);
     count_value(&case.ports[place], cause, tally);
+    count_enable(&case.ports[place], cause, tally);
     let otherwise = if place == case.entering {
         0
     } else {

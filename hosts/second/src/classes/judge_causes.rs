@@ -13,6 +13,7 @@ const NUM_GROUP: usize = 1;
 const ENABLE: usize = 2;
 const INDEX_OVER: usize = 3;
 const INDEX_UNDER: usize = 4;
+const BASE: usize = 5;
 
 /// The causes of one record.
 const fn causes(record: &Groups) -> [bool; RECORD_CAUSES] {
@@ -38,6 +39,16 @@ pub fn record_causes(ports: &[Groups]) -> Vec<(usize, usize)> {
 
 /// How many bits there are that Max Group, Num Group, Enable, index and base cannot have.
 const BITS_BEYOND: [usize; 5] = [58, 58, 63, 58, 12];
+
+/// The causes that a record may have with Enable clear and with Enable set.
+const WITH_ANY_ENABLE: [usize; 4] = [MAX_GROUP, NUM_GROUP, INDEX_OVER, BASE];
+
+/// Counts a cause that stands alone, and is none of Enable, by Enable.
+pub fn count_enable(record: &Groups, cause: usize, tally: &mut Tally) {
+    if let Some(place) = WITH_ANY_ENABLE.iter().position(|&other| other == cause) {
+        tally.add(Group::JudgeRecordEnables, 2 * place + record.enable as usize);
+    }
+}
 
 /// Counts the value of a cause that stands alone: one bit that the number cannot have, a number just over its bound, the
 /// index that is too low, or the Max Group that is exceeded by one.

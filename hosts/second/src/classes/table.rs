@@ -35,7 +35,7 @@ const fn named(group: Group, title: &'static str, names: &'static [&'static str]
 }
 
 /// All groups. "Alone" means that the call has no other cause for a refusal, or for Unsupported Request.
-pub const TABLE: [Line; 175] = [
+pub const TABLE: [Line; 176] = [
     numbered(Group::ServeAnswers, "serve: answers 0 to 6", 7, 1000),
     named(
         Group::ServeCauses,
@@ -790,6 +790,12 @@ pub const TABLE: [Line; 175] = [
         "judge: indexes under 12, numbers just over, alone",
         79,
         3,
+    ),
+    numbered(
+        Group::JudgeRecordEnables,
+        "judge: four causes of a record alone, Enable",
+        8,
+        100,
     ),
     numbered(
         Group::JudgeRecordPlaces,

@@ -129,6 +129,20 @@ fn no_cause_noticed_at_one_port() {
 }
 
 #[test]
+fn causes_noticed_only_in_records_that_are_enabled_or_that_are_not() {
+    for passed in [0, 1] {
+        for cause in [0, 1, 3, 5] {
+            let is_passed_over = move |call: &Call<'_>, place: usize| call.ports[place].enable == passed;
+            expect_judge_caught(unnoticed(cause, is_passed_over));
+        }
+        expect_judge_caught(with_records(move |_, _, record| match record.enable == passed {
+            true => mended(record),
+            false => record,
+        }));
+    }
+}
+
+#[test]
 fn causes_noticed_only_up_to_the_port_that_is_entered_by_or_from_it_on() {
     expect_judge_caught(with_records(|call, place, record| match place > call.entering {
         true => mended(record),
