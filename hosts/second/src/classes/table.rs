@@ -161,7 +161,7 @@ pub const TABLE: [Line; 176] = [
         Group::ClearedWords,
         "serve: every word with a bit cleared, both spaces",
         2048,
-        2,
+        1,
     ),
     numbered(
         Group::WholeEnables,
@@ -196,7 +196,7 @@ pub const TABLE: [Line; 176] = [
     named(Group::Correlation, "serve: the correlation word", CORRELATION, 100),
     named(Group::Captures, "serve and reset: captures", CAPTURES, 100),
     named(Group::KeptForms, "serve: forms of the kept capture", KEPT_FORMS, 100),
-    numbered(Group::CapturedBuses, "serve: captures of every bus", 256, 90),
+    numbered(Group::CapturedBuses, "serve: captures of every bus", 256, 75),
     numbered(Group::CapturedDevices, "serve: captures of every device", 32, 100),
     numbered(
         Group::Functions,
@@ -452,7 +452,7 @@ pub const TABLE: [Line; 176] = [
         32,
         20,
     ),
-    numbered(Group::RoutePairs, "route: each pair of 32 ports meets alone", 496, 4),
+    numbered(Group::RoutePairs, "route: each pair of 32 ports meets alone", 496, 3),
     named(Group::Meetings, "route: how two ranges meet, alone", MEETINGS, 50),
     named(
         Group::MetBuses,
