@@ -3,17 +3,18 @@
 use std::time::{SystemTime, UNIX_EPOCH};
 
 /// The cases of a run that names no number.
-const DEFAULT_CASES: u64 = 2_400_000;
+const DEFAULT_CASES: u64 = 3_000_000;
 
 /// What `--help` prints.
 pub const HELP: &str = "\
 usage: second [--cases N] [--seed N]
 
 Compares the linked library with an independent model of document 01 and of the
-requests 1/13 to 3/13 and 5/13 to 7/13 on random packets, lists, records, ports,
-requests and completions, and counts the classes of calls that were reached.
+requests 1/13 to 3/13 and 5/13 to 8/13 on random packets, lists, records, ports,
+requests, completions and addresses, and counts the classes of calls that were
+reached.
 
-  --cases N   how many calls are compared (2400000)
+  --cases N   how many calls are compared (3000000)
   --seed N    the seed of the run (from the clock); the same seed gives the same run
   --help      this text
 

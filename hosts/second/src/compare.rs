@@ -5,6 +5,8 @@ mod asks;
 mod bench;
 mod circles;
 mod difference;
+mod judges;
+mod multicasts;
 mod packets;
 mod records;
 mod reference;

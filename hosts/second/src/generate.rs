@@ -3,6 +3,7 @@
 //!
 //! What a call is counted as is decided afterwards, from its inputs and the model's answer.
 
+mod aim;
 mod ask;
 mod board;
 mod case;
@@ -13,9 +14,12 @@ mod dvsec;
 mod fault;
 mod fault_words;
 mod first_word;
+mod groups;
+mod judge;
 mod lengths;
 mod loops;
 mod marks;
+mod multicast;
 mod nulls;
 mod packet;
 mod packet_fault;
@@ -25,6 +29,7 @@ mod port_fault;
 mod ports;
 mod random;
 mod record;
+mod record_fault;
 mod reply;
 mod route;
 mod route_packet;
@@ -38,7 +43,10 @@ pub use completion::CompletionMaker;
 pub use dual_bdf::DualMaker;
 pub use dvsec::DvsecMaker;
 pub use fault::FaultMaker;
+pub use groups::{any_groups, sound_groups};
+pub use judge::{JudgeCase, JudgeMaker, LONGEST_RECORDS};
 pub use lengths::{MARKS_LENGTHS, NAMED_LENGTHS, WrongLengths, marks_length_place, named_length_place};
+pub use multicast::MulticastMaker;
 pub use packet::{LONGEST_PACKET, Packet, PacketMaker};
 pub use parts::{KINDS, PartsMaker, is_write};
 pub use port_fault::{LONGEST_LIST, any_port};

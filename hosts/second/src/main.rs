@@ -1,4 +1,5 @@
-//! `second`: compares the linked library with the model on random packets, spaces, ports, requests and completions.
+//! `second`: compares the linked library with the model on random packets, spaces, ports, requests, completions and
+//! addresses.
 //!
 //! Status 0: no difference, and every class was met often enough. Status 1: otherwise. Status 2: bad arguments.
 

@@ -1,5 +1,5 @@
 //! Document 01's rules, one module for each of its sections: packets, lists and records, as the requests 2/13, 3/13,
-//! 6/13 and 7/13 change them. And the requests 1/13, the router, and 5/13, the asking side.
+//! 6/13 and 7/13 change them. And the requests 1/13, the router, 5/13, the asking side, and 8/13, Multicast.
 //!
 //! Every function answers every input. A number other than 0 leaves all that was lent as it was.
 
@@ -9,8 +9,10 @@ mod description;
 mod dual_bdf;
 mod dvsec;
 mod hear;
+mod judge;
 mod marks;
 mod merge;
+mod multicast;
 mod ports;
 mod refusal;
 mod request;
@@ -33,6 +35,8 @@ mod checked;
 #[cfg(test)]
 mod null;
 #[cfg(test)]
+mod radar;
+#[cfg(test)]
 mod shapes;
 #[cfg(test)]
 mod status_bits;
@@ -44,7 +48,9 @@ pub use description::Description;
 pub use dual_bdf::{Alternate, dual_bdf};
 pub use dvsec::{Dvsec, dvsec, dvsec_body};
 pub use hear::{Heard, Said, read_completion};
+pub use judge::{Judged, Verdict, judge};
 pub use merge::merged;
+pub use multicast::{Groups, Multicast, multicast};
 pub use ports::Port;
 pub use route::{Routed, route};
 pub use serve::{Served, serve};

@@ -293,4 +293,6 @@ pub const NOISE: &[&str] = &[
     "route",
     "write_request",
     "read_completion",
+    "multicast",
+    "judge",
 ];

@@ -5,7 +5,9 @@ use super::ask_names::{
 };
 use super::fault_names::{ELSEWHERE, END_PLACES, LOOP_PLACES, WALK_TOGETHER};
 use super::group::{Classes, Group, Line};
+use super::judge_names::{EDGES, JUDGE_ANSWERS, JUDGE_CAUSES, JUDGE_TOGETHER, NO_HITS, OTHERS, PORT_SETS};
 use super::marked_names::{DOUBLED_PLACES, MARKED, MARKED_UNSUPPORTED, MARKS_FORMS};
+use super::multicast_names::{MULTICAST_CAUSES, MULTICAST_FORMS};
 use super::names::{
     BOTTOM_BITS, CAPTURES, CORRELATION, DECLARED_EMPTY, DUAL_CAUSES, DUAL_IGNORED, DUAL_ORDER, DVSEC_BODIES,
     DVSEC_CAUSES, FIRST_NULLS, KEPT_FORMS, NOISE, NULL_FORMS, RULES, SERVE_CAUSES, SERVE_TOGETHER, UNSUPPORTED,
@@ -33,7 +35,7 @@ const fn named(group: Group, title: &'static str, names: &'static [&'static str]
 }
 
 /// All groups. "Alone" means that the call has no other cause for a refusal, or for Unsupported Request.
-pub const TABLE: [Line; 140] = [
+pub const TABLE: [Line; 176] = [
     numbered(Group::ServeAnswers, "serve: answers 0 to 6", 7, 1000),
     named(
         Group::ServeCauses,
@@ -57,7 +59,7 @@ pub const TABLE: [Line; 140] = [
         Group::DoubledBytes,
         "serve: one bit marked doubly, every byte of both spaces",
         8192,
-        2,
+        1,
     ),
     numbered(
         Group::DoubledBits,
@@ -159,7 +161,7 @@ pub const TABLE: [Line; 140] = [
         Group::ClearedWords,
         "serve: every word with a bit cleared, both spaces",
         2048,
-        2,
+        1,
     ),
     numbered(
         Group::WholeEnables,
@@ -194,7 +196,7 @@ pub const TABLE: [Line; 140] = [
     named(Group::Correlation, "serve: the correlation word", CORRELATION, 100),
     named(Group::Captures, "serve and reset: captures", CAPTURES, 100),
     named(Group::KeptForms, "serve: forms of the kept capture", KEPT_FORMS, 100),
-    numbered(Group::CapturedBuses, "serve: captures of every bus", 256, 100),
+    numbered(Group::CapturedBuses, "serve: captures of every bus", 256, 75),
     numbered(Group::CapturedDevices, "serve: captures of every device", 32, 100),
     numbered(
         Group::Functions,
@@ -224,7 +226,7 @@ pub const TABLE: [Line; 140] = [
     numbered(
         Group::SpaceLengths,
         "all: spaces of 0 to 20 and 4,090 to 4,100",
-        320,
+        352,
         10,
     ),
     numbered(
@@ -247,8 +249,8 @@ pub const TABLE: [Line; 140] = [
     ),
     numbered(Group::Rooms, "walks: rooms of 0, max - 1, max, max + 1, more", 15, 100),
     numbered(Group::CompatibleChains, "walks: compatible chains of 0 to 48", 49, 50),
-    numbered(Group::ExtendedChains, "walks: extended chains of 0 to 960", 961, 5),
-    numbered(Group::TrustedChains, "walks: trusted chains of 0 to 1,022", 1023, 5),
+    numbered(Group::ExtendedChains, "walks: extended chains of 0 to 960", 961, 4),
+    numbered(Group::TrustedChains, "walks: trusted chains of 0 to 1,022", 1023, 4),
     named(
         Group::CompatibleTurns,
         "walks: compatible, where the last header points",
@@ -405,7 +407,7 @@ pub const TABLE: [Line; 140] = [
         DUAL_ORDER,
         10,
     ),
-    numbered(Group::DualVectors, "dual_bdf: every vector", 256, 5),
+    numbered(Group::DualVectors, "dual_bdf: every vector", 256, 4),
     numbered(Group::DualFunctions, "dual_bdf: eight functions, both vendors", 16, 100),
     numbered(Group::DualDevices, "dual_bdf: 32 devices, both vendors", 64, 10),
     numbered(
@@ -450,7 +452,7 @@ pub const TABLE: [Line; 140] = [
         32,
         20,
     ),
-    numbered(Group::RoutePairs, "route: each pair of 32 ports meets alone", 496, 4),
+    numbered(Group::RoutePairs, "route: each pair of 32 ports meets alone", 496, 3),
     named(Group::Meetings, "route: how two ranges meet, alone", MEETINGS, 50),
     named(
         Group::MetBuses,
@@ -688,6 +690,177 @@ pub const TABLE: [Line; 140] = [
         EFFECTS,
         50,
     ),
+    named(
+        Group::MulticastAnswers,
+        "multicast: answers 0, 1, 8, 9 and 13",
+        &["0", "1", "8", "9", "13"],
+        1000,
+    ),
+    named(
+        Group::MulticastCauses,
+        "multicast: each cause of 1, 8, 9 and 13 alone",
+        MULTICAST_CAUSES,
+        20,
+    ),
+    numbered(
+        Group::MulticastTogether,
+        "multicast: each two of eight causes together",
+        27,
+        2,
+    ),
+    numbered(
+        Group::MulticastIds,
+        "multicast: each bit of the ID off alone, and others",
+        17,
+        10,
+    ),
+    numbered(Group::MulticastVersions, "multicast: every other version alone", 15, 10),
+    numbered(
+        Group::MulticastShort,
+        "multicast: 9 at each offset from FDCh to FFCh",
+        9,
+        20,
+    ),
+    numbered(
+        Group::MulticastOver,
+        "multicast: Num Group over each Max Group by 1, Enable",
+        126,
+        2,
+    ),
+    numbered(
+        Group::MulticastUnder,
+        "multicast: each index under 12 while enabled alone",
+        12,
+        20,
+    ),
+    numbered(
+        Group::MulticastOffsets,
+        "multicast: read at every offset from 100h to FD8h",
+        951,
+        4,
+    ),
+    numbered(
+        Group::MulticastNumbers,
+        "multicast: every Max Group and Num Group, Enable",
+        256,
+        5,
+    ),
+    numbered(Group::MulticastIndexes, "multicast: every index, Enable", 116, 20),
+    numbered(
+        Group::MulticastBits,
+        "multicast: each bit of Receive, Block All and base",
+        360,
+        500,
+    ),
+    numbered(
+        Group::MulticastFree,
+        "multicast: each bit that belongs to no field",
+        202,
+        500,
+    ),
+    named(
+        Group::MulticastForms,
+        "multicast: forms of what is read",
+        MULTICAST_FORMS,
+        20,
+    ),
+    named(
+        Group::JudgeAnswers,
+        "judge: leaves, dropped, no hit, 1",
+        JUDGE_ANSWERS,
+        1000,
+    ),
+    named(Group::JudgeCauses, "judge: each cause of 1 alone", JUDGE_CAUSES, 12),
+    named(Group::JudgeTogether, "judge: causes of 1 together", JUDGE_TOGETHER, 20),
+    numbered(Group::JudgeLengths, "judge: lists of 0 to 34 ports, and more", 36, 100),
+    numbered(
+        Group::JudgeRecords,
+        "judge: each of six causes in each of 32 records alone",
+        192,
+        8,
+    ),
+    numbered(
+        Group::JudgeRecordBits,
+        "judge: each bit that a number cannot have alone",
+        249,
+        10,
+    ),
+    numbered(
+        Group::JudgeRecordEdges,
+        "judge: indexes under 12, numbers just over, alone",
+        79,
+        3,
+    ),
+    numbered(
+        Group::JudgeRecordEnables,
+        "judge: four causes of a record alone, Enable",
+        8,
+        100,
+    ),
+    numbered(
+        Group::JudgeRecordPlaces,
+        "judge: six causes, whose record, what would become",
+        24,
+        50,
+    ),
+    numbered(
+        Group::JudgeLists,
+        "judge: leaves, dropped, no hit, lists of 1 to 32",
+        96,
+        50,
+    ),
+    numbered(
+        Group::JudgeEntering,
+        "judge: a hit by each port of lists of 1 to 32",
+        528,
+        3,
+    ),
+    numbered(
+        Group::JudgeIndexes,
+        "judge: each index, three places of hits and of others",
+        312,
+        8,
+    ),
+    numbered(
+        Group::JudgeQuotients,
+        "judge: no hit by each bit above a group number",
+        46,
+        20,
+    ),
+    named(Group::JudgeNoHits, "judge: why there is no hit", NO_HITS, 50),
+    named(Group::JudgeEdges, "judge: edges of addresses that hit", EDGES, 50),
+    numbered(
+        Group::JudgeGroups,
+        "judge: each group, dropped, left by none, left by some",
+        192,
+        20,
+    ),
+    numbered(
+        Group::JudgeBlockBits,
+        "judge: Block All with all but the bit, with it alone",
+        128,
+        10,
+    ),
+    numbered(
+        Group::JudgeReceiveBits,
+        "judge: Receive with all but the bit, with it alone",
+        128,
+        50,
+    ),
+    numbered(
+        Group::JudgePorts,
+        "judge: each port left by or not, each entered by",
+        1984,
+        5,
+    ),
+    numbered(
+        Group::JudgeOwn,
+        "judge: the own Receive bit of each port entered by",
+        64,
+        30,
+    ),
+    named(Group::JudgeSets, "judge: sets of ports that are left by", PORT_SETS, 15),
+    named(Group::JudgeOthers, "judge: what else other ports have", OTHERS, 500),
     named(Group::Noise, "all: plain noise (as the generator meant it)", NOISE, 100),
 ];
 

@@ -2,7 +2,7 @@
 
 use std::fmt::{self, Debug, Write};
 
-use thawribbon::raw::Port;
+use thawribbon::raw::{Groups, Port};
 
 use crate::twin::{Twin, word};
 
@@ -57,6 +57,22 @@ impl Difference {
         for port in ports {
             let support = if port.tcs { "+" } else { "" };
             let _ = write!(text, " {:02x}-{:02x}{support}", port.secondary, port.subordinate);
+        }
+        self.inputs.push(text);
+        self
+    }
+
+    /// Adds the records of a list of ports: of each its numbers, in their order.
+    pub fn records(mut self, name: &str, records: &[Groups]) -> Self {
+        let mut text = format!("{name}: {} records:", records.len());
+        for (place, record) in records.iter().enumerate() {
+            let [max_group, num_group] = [record.max_group, record.num_group];
+            let [enable, index, base] = [record.enable, record.index, record.base];
+            let [receive, block_all] = [record.receive, record.block_all];
+            let _ = write!(
+                text,
+                "\n    {place:x}: {max_group:x} {num_group:x} {enable:x} {index:x} {base:016x} {receive:016x} {block_all:016x}"
+            );
         }
         self.inputs.push(text);
         self

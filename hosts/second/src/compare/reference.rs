@@ -7,11 +7,17 @@
 //!
 //! A completion says by 1 that it is a success with data, by 2 one without, by 3 Unsupported Request, and nothing by 0.
 //! The data are 0 where there are none.
+//!
+//! The numbers of a Multicast capability are written with every answer. Of an address it is told by 1 that there is no
+//! hit, by 2 that the packet is dropped, by 3 that it leaves, and nothing by 0; the group is 0 with 0 and 1, and there are
+//! ports with 3 only.
 
-use thawribbon::raw::{Alternate, Capture, Dvsec, Heard, Part, Parts, Port, Routed, Served, Walked, Written};
+use thawribbon::raw::{
+    Alternate, Capture, Dvsec, Groups, Heard, Judged, Part, Parts, Port, Routed, Served, Walked, Written,
+};
 
 use super::subject::{ServeCall, Subject};
-use crate::model::{self, List, Said};
+use crate::model::{self, List, Said, Verdict};
 
 /// The model as a subject.
 pub struct Reference;
@@ -49,6 +55,18 @@ const fn model_parts(parts: Parts) -> model::Parts {
         offset: parts.offset,
         enables: parts.enables,
         data: parts.data,
+    }
+}
+
+const fn model_groups(groups: &Groups) -> model::Groups {
+    model::Groups {
+        max_group: groups.max_group,
+        num_group: groups.num_group,
+        enable: groups.enable,
+        index: groups.index,
+        base: groups.base,
+        receive: groups.receive,
+        block_all: groups.block_all,
     }
 }
 
@@ -177,6 +195,36 @@ impl Subject for Reference {
             requester: heard.requester,
             tag: heard.tag,
             data,
+        }
+    }
+    fn multicast(&mut self, space: &[u8], at: usize, groups: &mut Groups) -> u8 {
+        let read = model::multicast(space, at);
+        *groups = Groups {
+            max_group: read.groups.max_group,
+            num_group: read.groups.num_group,
+            enable: read.groups.enable,
+            index: read.groups.index,
+            base: read.groups.base,
+            receive: read.groups.receive,
+            block_all: read.groups.block_all,
+        };
+        read.number
+    }
+
+    fn judge(&mut self, ports: &[Groups], entering: usize, address: u64) -> Judged {
+        let ports: Vec<model::Groups> = ports.iter().map(model_groups).collect();
+        let judged = model::judge(&ports, entering, address);
+        let (verdict, group, ports) = match judged.verdict {
+            None => (0, 0, 0),
+            Some(Verdict::NoHit) => (1, 0, 0),
+            Some(Verdict::Dropped { group }) => (2, group, 0),
+            Some(Verdict::Leaves { group, ports }) => (3, group, ports),
+        };
+        Judged {
+            ports,
+            number: judged.number,
+            verdict,
+            group,
         }
     }
 }

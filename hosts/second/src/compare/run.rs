@@ -5,6 +5,8 @@ use std::fmt;
 use super::asks::Asks;
 use super::circles::Circles;
 use super::difference::Difference;
+use super::judges::Judges;
+use super::multicasts::Multicasts;
 use super::packets::Packets;
 use super::records::Records;
 use super::routes::Routes;
@@ -14,8 +16,8 @@ use crate::classes::Tally;
 use crate::generate::{Random, SHAPES};
 
 /// How often each entry is called: serve, reset, the three walks, dvsec, dvsec_body, dual_bdf, route, write_request,
-/// read_completion. Then how often a circle is gone through.
-const WEIGHTS: [usize; 12] = [76, 3, 6, 8, 8, 5, 3, 4, 25, 10, 11, 6];
+/// read_completion. Then how often a circle is gone through. Then multicast and judge.
+const WEIGHTS: [usize; 14] = [82, 3, 7, 9, 9, 6, 3, 5, 27, 10, 11, 6, 8, 20];
 
 /// Where a run met a difference.
 #[derive(Debug)]
@@ -42,6 +44,8 @@ pub fn run(subject: &mut impl Subject, seed: u64, cases: u64) -> Result<Tally, F
     let mut routes = Routes::new();
     let mut asks = Asks::new();
     let mut circles = Circles::new();
+    let mut multicasts = Multicasts::new();
+    let mut judges = Judges::new();
     let mut tally = Tally::new();
     for case in 0..cases {
         tally.call();
@@ -55,7 +59,9 @@ pub fn run(subject: &mut impl Subject, seed: u64, cases: u64) -> Result<Tally, F
             8 => routes.route(subject, &mut random, &mut tally),
             9 => asks.write(subject, &mut random, &mut tally),
             10 => asks.read(subject, &mut random, &mut tally),
-            _ => circles.circle(subject, &mut random, &mut tally),
+            11 => circles.circle(subject, &mut random, &mut tally),
+            12 => multicasts.multicast(subject, &mut random, &mut tally),
+            _ => judges.judge(subject, &mut random, &mut tally),
         };
         compared.map_err(|difference| Failure { seed, case, difference })?;
     }

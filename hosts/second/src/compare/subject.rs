@@ -1,7 +1,8 @@
 //! What is compared with the model: anything with the library's entries, and the linked library itself.
 
 use thawribbon::raw::{
-    self, Alternate, Capture, Description, Dvsec, Heard, Part, Parts, Port, Routed, Served, Walked, Written,
+    self, Alternate, Capture, Description, Dvsec, Groups, Heard, Judged, Part, Parts, Port, Routed, Served, Walked,
+    Written,
 };
 
 /// All that a call of `serve` is given.
@@ -31,6 +32,8 @@ pub trait Subject {
     fn route(&mut self, ports: &[Port], packet: &[u8], leaving: &mut [u8]) -> Routed;
     fn write_request(&mut self, parts: Parts, buffer: &mut [u8]) -> Written;
     fn read_completion(&mut self, completion: &[u8]) -> Heard;
+    fn multicast(&mut self, space: &[u8], at: usize, groups: &mut Groups) -> u8;
+    fn judge(&mut self, ports: &[Groups], entering: usize, address: u64) -> Judged;
 }
 
 /// The linked library.
@@ -90,5 +93,13 @@ impl Subject for Library {
 
     fn read_completion(&mut self, completion: &[u8]) -> Heard {
         raw::read_completion(completion)
+    }
+
+    fn multicast(&mut self, space: &[u8], at: usize, groups: &mut Groups) -> u8 {
+        raw::multicast(space, at, groups)
+    }
+
+    fn judge(&mut self, ports: &[Groups], entering: usize, address: u64) -> Judged {
+        raw::judge(ports, entering, address)
     }
 }

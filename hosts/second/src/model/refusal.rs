@@ -1,6 +1,6 @@
-//! The answer numbers 1 to 12, each with the documents' cause: document 01's 1 to 10, with the causes that the requests
-//! 1/13, 5/13 and 6/13 add, and the 11 and 12 into which request 3/13 splits 7. Number 0 is the absence of a refusal,
-//! and "7 is no longer given".
+//! The answer numbers 1 to 13, each with the documents' cause: document 01's 1 to 10, with the causes that the requests
+//! 1/13, 5/13, 6/13 and 8/13 add, the 11 and 12 into which request 3/13 splits 7, and the 13 of request 8/13. Number 0 is
+//! the absence of a refusal, and "7 is no longer given".
 
 /// Why a call is refused. The lowest number that applies is given.
 #[derive(Clone, Copy, Debug, PartialEq, Eq)]
@@ -10,7 +10,8 @@ pub(super) enum Refusal {
     /// outside its range"; of the marks of 6/13, "A bit marked both here and as writable", and "another buffer length";
     /// for a list of ports, "if it is longer than 32, if a secondary exceeds its subordinate, or if two ranges, ends
     /// included, meet"; for one who asks, "a kind outside the six, a device over 31, a function over 7, an offset over
-    /// FFCh or not a multiple of 4, or enables over 15"
+    /// FFCh or not a multiple of 4, or enables over 15"; for the records of ports, "a longer list, no such port, or a
+    /// record the reading can't give"
     Outside = 1,
     /// "the reply is under 16 bytes, or the list room is under the list's maximum"; for the router, "What leaves is
     /// written into a lent buffer; under 20 bytes it is 2"; for one who asks, "a buffer shorter than those bytes"
@@ -26,9 +27,9 @@ pub(super) enum Refusal {
     /// "a fixed header field has another value"; of a completion, "any other byte that no reply of document 01 with that
     /// first byte has at its place"
     FixedField = 6,
-    /// "not the structure asked for"
+    /// "not the structure asked for"; of 8/13, "Not this structure"
     Structure = 8,
-    /// "a wrong length, or the structure runs out of its space"
+    /// "a wrong length, or the structure runs out of its space"; of 8/13, "fewer than 28h bytes left"
     StructureLength = 9,
     /// "function vector without exactly one bit"
     Vector = 10,
@@ -36,6 +37,8 @@ pub(super) enum Refusal {
     Below = 11,
     /// Document 02, 3/13: "12 for a pointer to an offset already in the chain"
     Again = 12,
+    /// Document 02, 8/13: "Num Group over Max Group, or index under 12 while enabled"
+    Groups = 13,
 }
 
 impl Refusal {

@@ -2,12 +2,14 @@
 
 use second::compare::{Failure, Reference, ServeCall, Subject, Tally, run};
 use second::model::List;
-use thawribbon::raw::{Alternate, Capture, Dvsec, Heard, Part, Parts, Port, Routed, Served, Walked, Written};
+use thawribbon::raw::{
+    Alternate, Capture, Dvsec, Groups, Heard, Judged, Part, Parts, Port, Routed, Served, Walked, Written,
+};
 
 /// The seed of every run here.
 const SEED: u64 = 20_050_701;
 /// The calls within which a wrong subject must be caught, and a right one must not.
-const CALLS: u64 = 80_000;
+const CALLS: u64 = 120_000;
 
 type ServeEntry = Box<dyn FnMut(ServeCall<'_>) -> Served>;
 type ResetEntry = Box<dyn FnMut(Capture) -> Capture>;
@@ -18,6 +20,8 @@ type DualEntry = Box<dyn FnMut(&[u8], usize) -> Alternate>;
 type RouteEntry = Box<dyn FnMut(&[Port], &[u8], &mut [u8]) -> Routed>;
 type WriteEntry = Box<dyn FnMut(Parts, &mut [u8]) -> Written>;
 type ReadEntry = Box<dyn FnMut(&[u8]) -> Heard>;
+type MulticastEntry = Box<dyn FnMut(&[u8], usize, &mut Groups) -> u8>;
+type JudgeEntry = Box<dyn FnMut(&[Groups], usize, u64) -> Judged>;
 
 /// The model, with entries that may be wrong.
 pub struct Wrong {
@@ -30,6 +34,8 @@ pub struct Wrong {
     route: RouteEntry,
     write: WriteEntry,
     read: ReadEntry,
+    multicast: MulticastEntry,
+    judge: JudgeEntry,
 }
 
 impl Wrong {
@@ -45,6 +51,8 @@ impl Wrong {
             route: Box::new(|ports, packet, leaving| Reference.route(ports, packet, leaving)),
             write: Box::new(|parts, buffer| Reference.write_request(parts, buffer)),
             read: Box::new(|completion| Reference.read_completion(completion)),
+            multicast: Box::new(|space, at, groups| Reference.multicast(space, at, groups)),
+            judge: Box::new(|ports, entering, address| Reference.judge(ports, entering, address)),
         }
     }
 
@@ -110,6 +118,20 @@ impl Wrong {
             ..Self::nothing()
         }
     }
+
+    pub fn multicast(entry: impl FnMut(&[u8], usize, &mut Groups) -> u8 + 'static) -> Self {
+        Self {
+            multicast: Box::new(entry),
+            ..Self::nothing()
+        }
+    }
+
+    pub fn judge(entry: impl FnMut(&[Groups], usize, u64) -> Judged + 'static) -> Self {
+        Self {
+            judge: Box::new(entry),
+            ..Self::nothing()
+        }
+    }
 }
 
 impl Subject for Wrong {
@@ -155,6 +177,14 @@ impl Subject for Wrong {
 
     fn read_completion(&mut self, completion: &[u8]) -> Heard {
         (self.read)(completion)
+    }
+
+    fn multicast(&mut self, space: &[u8], at: usize, groups: &mut Groups) -> u8 {
+        (self.multicast)(space, at, groups)
+    }
+
+    fn judge(&mut self, ports: &[Groups], entering: usize, address: u64) -> Judged {
+        (self.judge)(ports, entering, address)
     }
 }
 

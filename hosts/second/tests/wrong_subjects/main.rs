@@ -3,18 +3,25 @@
 //! Were one of these not caught, a library with the same fault would not be caught either.
 
 mod accessing;
+mod admitting;
+mod announcing;
 mod answering;
 mod asker;
 mod blanking;
 mod bounding;
 mod broken;
 mod capturing;
+mod caster;
+mod casting;
 mod clearer;
 mod clearing;
 mod doubling;
+mod dropping;
 mod emptying;
 mod exceeding;
 mod finding;
+mod gatherer;
+mod gathering;
 mod harness;
 mod hearing;
 mod judging;
@@ -23,6 +30,7 @@ mod looping;
 mod marking;
 mod measuring;
 mod ordering;
+mod picking;
 mod placing;
 mod reading;
 mod refusing;
@@ -33,6 +41,7 @@ mod router;
 mod routing;
 mod serving;
 mod telling;
+mod vetting;
 mod walker;
 mod walking;
 mod widening;
@@ -116,5 +125,26 @@ fn a_difference_of_a_walk_is_told_in_full() {
             "number: ",
             "place: 0",
         ],
+    );
+}
+
+#[test]
+fn a_difference_of_the_multicast_entries_is_told_in_full() {
+    let failure = expect_caught(picking::without_the_base(), "multicast");
+    expect_told(
+        &failure,
+        &[
+            "entry: multicast",
+            "at: ",
+            "words at the offset",
+            "as lent",
+            "of the subject",
+            "numbers, place 0",
+        ],
+    );
+    let failure = expect_caught(announcing::with_the_group_lost(), "judge");
+    expect_told(
+        &failure,
+        &["entry: judge", "address: ", "entering: ", "records:", "group: 0"],
     );
 }
