@@ -1,23 +1,24 @@
 -- THEOREMS. What else holds of a judged address, of any answer that meets the promise. It never leaves by the port that it entered by. Another port is one that it
 -- leaves by exactly if its own Receive bit for the group is set, and a Receive register that is changed changes that port's membership and nothing else. Block
 -- All counts only where the packet enters. Of another port's record nothing but Receive counts, where both lists are good ones. With Enable clear at the
--- port that it enters by, there is no hit, whatever the rest holds. Assumes nothing.
+-- port that it enters by, there is no hit, whatever the rest of a good list holds; and by no list at all is it dropped then, or leaves. Assumes nothing.
 use Prim.Native.Nat.{ℕ, _<_}
-use mathlib.Core.Bool.{Bool, false}
+use mathlib.Core.Bool.{Bool, true, false}
 use mathlib.Core.List.{List}
-use mathlib.Core.Logic.{⊎-elim}
+use mathlib.Core.Logic.{_⊎_, inl, inr, ⊎-elim}
 use mathlib.Core.Path.{_≡_, refl, sym, ap, ap₂, _∙_}
 use native.Mathlib.Omega.{arith}
 use borrow.Author.Tests.{eq-eqb}
 use lib.ListN.{length, getD}
+use Rattle.answers.specs.declared.Refusal.the-variants.{BadDescription}
 use Rattle.words.specs.Fields.{bit}
 use Rattle.multicast.specs.declared.Judged.{Judged}
-use Rattle.multicast.specs.declared.Judged.the-variants.{NoHit, Leaves}
+use Rattle.multicast.specs.declared.Judged.the-variants.{Refused, NoHit, Leaves}
 use Rattle.multicast.specs.Capability.{enable, receive}
 use Rattle.multicast.specs.Judging.{portAt, isBad, isHit, Verdict, unsaid, noHit, dropped, leaves, JudgedTold, judged, isMember, leavesBit, leavesBy, tellsJudged, portsOf, Judges}
 use Rattle.multicast.proofs.Alike.{Sound, bad-alike, entering-alike, judged-alike, member-alike, member-itself}
 use Rattle.multicast.proofs.Held.{member-other}
-use Rattle.multicast.proofs.Judgments.{judges-no-hit, leaves-good, good-length}
+use Rattle.multicast.proofs.Judgments.{judges-bad, judges-no-hit, leaves-good, good-length}
 use Rattle.multicast.proofs.Sets.{below-or-from, bit-above, same-bits}
 use Rattle.multicast.proofs.Unique.{told-apart, judge-unique}
 
@@ -63,6 +64,12 @@ abbrev pub NotEnabledNoHit : Type 0
 NotEnabledNoHit =
     (ports : List (List ℕ)) (entering address : ℕ) (r : Judged) → Judges ports entering address r → isBad ports entering ≡ false
     → enable (portAt ports entering) ≡ 0 → r ≡ NoHit
+
+-- also by a list that is refused
+abbrev pub NotEnabledNotHit : Type 0
+NotEnabledNotHit =
+    (ports : List (List ℕ)) (entering address : ℕ) (r : Judged) → Judges ports entering address r → enable (portAt ports entering) ≡ 0
+    → (r ≡ NoHit) ⊎ (r ≡ Refused BadDescription)
 
 -- ---- the port that it entered by
 
@@ -149,3 +156,10 @@ not-hit r address e = rw (eq-eqb (enable r) 0 e)
 pub not-enabled-no-hit : NotEnabledNoHit
 not-enabled-no-hit ports entering address r j good e =
     judge-unique ports entering address r NoHit j (judges-no-hit ports entering address good (not-hit (portAt ports entering) address e))
+
+pub not-enabled-not-hit : NotEnabledNotHit
+not-enabled-not-hit ports entering address r j e = go (isBad ports entering) refl
+  where
+    go : (b : Bool) → isBad ports entering ≡ b → (r ≡ NoHit) ⊎ (r ≡ Refused BadDescription)
+    go true bad = inr (judge-unique ports entering address r (Refused BadDescription) j (judges-bad ports entering address bad))
+    go false good = inl (not-enabled-no-hit ports entering address r j good e)

@@ -1,9 +1,13 @@
 -- Examples. What is said of addresses at the edges, computed from the definitions: one under the base, at it, the last address of the last group and the next;
--- index 12 and 63; a base at FFFF_FFFF_FFFF_F000h; windows that would end past 2^64; groups 32 to 63. Assumes nothing.
-use Prim.Native.Nat.{ℕ, _-_, _^_}
-use mathlib.Core.List.{List, [], _∷_}
+-- index 12 and 63; a base at FFFF_FFFF_FFFF_F000h; windows that would end past 2^64; groups 31, 32, 40 and 63; lists of 0, 32 and 33 ports. And what is read of
+-- capabilities, in bytes: each number, the order of two that apply, and each field. Assumes nothing.
+use Prim.Native.Nat.{ℕ, _+_, _-_, _^_}
+use mathlib.Core.List.{List, [], _∷_, _++_}
 use mathlib.Core.Path.{_≡_, refl}
-use Rattle.multicast.specs.Capability.{clashes}
+use lib.ListN.{length, replicate}
+use Rattle.words.specs.Places.{placed}
+use Rattle.records.specs.Required.{sized}
+use Rattle.multicast.specs.Capability.{isMulticast, recordAt, clashes, capabilityNumber, capabilitySays}
 use Rattle.multicast.specs.Records.{isRecord}
 use Rattle.multicast.specs.Judging.{isBad, isHit, told, noHit, dropped, leaves, unsaid, enteringBy, judged, isMember, leavesBy}
 
@@ -54,3 +58,50 @@ pub port-edges : (judged (three 63 12 0) 0 0x2000 ≡ told 0 leaves 2)
     × (judged (three 63 12 0) 3 0x2000 ≡ told 1 unsaid 0)
 unfolding judged isBad isRecord clashes enteringBy isHit isMember
 port-edges = (refl, refl, refl, refl, refl, refl, refl, refl, refl, refl, refl, refl)
+
+-- groups on both sides of the registers' middle, the last, and what would be the next
+pub group-edges : (judged (three 63 12 0) 0 0x1ffff ≡ told 0 leaves 31)
+    × (judged (three 63 12 0) 0 0x20000 ≡ told 0 leaves 32)
+    × (judged (three 63 12 0) 0 0x3ffff ≡ told 0 leaves 63)
+    × (judged (three 63 12 0) 0 0x40000 ≡ told 0 noHit 0)
+unfolding judged isBad isRecord clashes enteringBy isHit
+group-edges = (refl, refl, refl, refl)
+
+-- no port, 32 entered by the last and by none, and 33
+pub list-edges : (judged [] 0 0 ≡ told 1 unsaid 0)
+    × (judged (replicate 32 (port 63 12 0 0 0)) 31 0x3ffff ≡ told 0 leaves 63)
+    × (judged (replicate 32 (port 63 12 0 0 0)) 32 0 ≡ told 1 unsaid 0)
+    × (judged (replicate 33 (port 63 12 0 0 0)) 0 0 ≡ told 1 unsaid 0)
+unfolding judged isBad isRecord clashes enteringBy isHit
+list-edges = (refl, refl, refl, refl)
+
+-- a capability's first bytes: its version, Max Group, Num Group, the byte with Enable, and the index; and a space with some bytes at an offset and 00h else
+abbrev header : ℕ → ℕ → ℕ → ℕ → ℕ → List ℕ → List ℕ
+header version maximum num control index rest = 0x12 ∷ 0 ∷ version ∷ 0 ∷ maximum ∷ 0 ∷ num ∷ control ∷ index ∷ rest
+
+abbrev spaceAt : ℕ → List ℕ → List ℕ
+spaceAt at bytes = replicate at 0 ++ bytes ++ replicate (4096 - (at + length bytes)) 0
+
+abbrev numberAt : ℕ → List ℕ → ℕ → ℕ
+numberAt at bytes asked = capabilitySays (spaceAt at bytes) asked .number
+
+pub number-edges : (numberAt 0x100 (header 1 63 3 0x80 12 []) 0x100 ≡ 0)
+    × (numberAt 0x100 (header 1 63 3 0x80 12 []) 0x102 ≡ 1)
+    × (numberAt 0x0fc (header 1 63 3 0x80 12 []) 0x0fc ≡ 1)
+    × (numberAt 0x100 (header 2 63 3 0x80 12 []) 0x100 ≡ 8)
+    × (numberAt 0xfd8 (header 1 63 3 0x80 12 []) 0xfd8 ≡ 0)
+    × (numberAt 0xfdc (header 1 3 63 0x80 12 []) 0xfdc ≡ 9)
+    × (numberAt 0xfdc (header 2 63 3 0x80 12 []) 0xfdc ≡ 8)
+    × (numberAt 0x100 (header 1 3 4 0x00 12 []) 0x100 ≡ 13)
+    × (numberAt 0x100 (header 1 3 3 0x80 11 []) 0x100 ≡ 13)
+    × (numberAt 0x100 (header 1 3 3 0x7f 11 []) 0x100 ≡ 0)
+unfolding capabilitySays capabilityNumber sized placed isMulticast clashes recordAt
+number-edges = (refl, refl, refl, refl, refl, refl, refl, refl, refl, refl)
+
+-- every field by a number of its own, with the bits beside it set
+pub field-edges : capabilitySays (spaceAt 0x100 (0x12 ∷ 0x00 ∷ 0xf1 ∷ 0xff ∷ 0xe5 ∷ 0xff ∷ 0xc4 ∷ 0xff
+    ∷ 0xcd ∷ 0x2f ∷ 0x43 ∷ 0x65 ∷ 0x87 ∷ 0xa9 ∷ 0xcb ∷ 0xed
+    ∷ 1 ∷ 2 ∷ 3 ∷ 4 ∷ 5 ∷ 6 ∷ 7 ∷ 8 ∷ 0x11 ∷ 0x12 ∷ 0x13 ∷ 0x14 ∷ 0x15 ∷ 0x16 ∷ 0x17 ∷ 0x18 ∷ [])) 0x100
+    ≡ record { number = 0; fields = 0x25 ∷ 4 ∷ 1 ∷ 0x0d ∷ 0xedcba98765432000 ∷ 0x0807060504030201 ∷ 0x1817161514131211 ∷ [] }
+unfolding capabilitySays capabilityNumber sized placed isMulticast clashes recordAt
+field-edges = refl

@@ -35,6 +35,9 @@ HitsExactly = (r : List ℕ) (g address : ℕ) → ((isHit r address ≡ true) �
 abbrev pub WindowExactly : Type 0
 WindowExactly = (r : List ℕ) (g address : ℕ) → Window r g address ↔ ((k : ℕ) × (k < 2 ^ index r) × (address ≡ start r g + k))
 
+abbrev pub OneWindow : Type 0
+OneWindow = (r : List ℕ) (g h address : ℕ) → Window r g address → Window r h address → g ≡ h
+
 abbrev pub OneGroup : Type 0
 OneGroup = (r : List ℕ) (g h address : ℕ) → HitsGroup r g address → HitsGroup r h address → g ≡ h
 
@@ -81,3 +84,8 @@ window-exactly r g address = (
 
 pub one-group : OneGroup
 one-group r g h address a b = sym (hits-exactly r g address .1 a .1) ∙ hits-exactly r h address .1 b .1
+
+pub one-window : OneWindow
+one-window r g h address a b =
+    sym (quotient-of (base r) (2 ^ index r) g address (pow-pos (index r)) (a .from) (a .below))
+    ∙ quotient-of (base r) (2 ^ index r) h address (pow-pos (index r)) (b .from) (b .below)

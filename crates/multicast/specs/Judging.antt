@@ -18,7 +18,8 @@ use Rattle.multicast.specs.declared.Judged.the-variants.{Refused, NoHit,
 abbrev pub portAt : List (List ℕ) → ℕ → List ℕ
 portAt ports k = getD ports k []
 
--- "a longer list, no such port, or a record the reading can't give is 1"
+-- "a longer list, no such port, or a record the reading can't give is 1": the last as a test. Of rows of seven numbers of 64 bits, which is what the type of a list lets
+-- through, it is what the reading gives, by proofs/Given; proofs/Refusals says it of the answer, over the reading
 unfoldable pub isBad : List (List ℕ) → ℕ → Bool
 isBad ports entering = any (ltb 32 (length ports) ∷ leb (length ports) entering ∷ not (areRecords ports) ∷ [])
 
