@@ -89,7 +89,8 @@ enum thawribbon_number {
        subordinate bus, or two ranges of buses meet (rule 10.2); at thawribbon_ports_route, also where what leaves overlaps the ports or the
        packet; of a request to be written, its kind is none of the six, its device is over 31, its function over 7, its offset over FFCh or
        not a multiple of 4, or its enables over 15; at thawribbon_board_ask, also where what is heard overlaps the board; of an address to
-       be judged, the list has over 32 ports, the packet enters by none of them, or a port's fields are such as no reading gives */
+       be judged, the list has over 32 ports, the packet enters by none of them, or a port's fields are such as no reading gives (rule
+       12.4) */
     THAWRIBBON_BAD_DESCRIPTION = 1,
     /* the reply is under 16 bytes, the list room is under the list's maximum, the buffer for what leaves is under 20 bytes, or the buffer
        for a request is shorter than the request */
@@ -113,7 +114,7 @@ enum thawribbon_number {
     THAWRIBBON_BELOW_FLOOR = 11,
     /* a pointer of the list leads to an offset that is already in the chain (rule 6.8) */
     THAWRIBBON_COMES_BACK = 12,
-    /* of a Multicast capability, Num Group is over Max Group, or it is enabled with an Index Position under 12 */
+    /* of a Multicast capability, Num Group is over Max Group, or it is enabled with an Index Position under 12 (rule 12.2) */
     THAWRIBBON_WRONG_GROUPS = 13
 };
 
