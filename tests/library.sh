@@ -194,8 +194,8 @@ page_notices() {
         'port 1 cannot be read: this is not the structure asked for'
     other_page_c "C program 7 of $page notices that there are more groups than there may be" 7 's/0x3F, 0x00, 0x03/0x02, 0x00, 0x03/' \
         'port 0 cannot be read: the Multicast capability has a Num Group over its Max Group'
-    other_page_c "C program 7 of $page notices that an address hits nothing" 7 's/0x800002FFF/0x800004000/' '800004000: no hit: '
-    other_page_c "C program 7 of $page notices that a port is not enabled" 7 's/0x03, 0x80/0x03, 0x00/' '800001000: no hit: '
+    other_page_c "C program 7 of $page notices that an address hits nothing" 7 's/0x800002FFF/0x800004000/' '800004000: no hit: the address is in no group of the port that the packet enters by, or that port is not enabled'
+    other_page_c "C program 7 of $page notices that a port is not enabled" 7 's/0x03, 0x80/0x03, 0x00/' '800001000: no hit: the address is in no group of the port that the packet enters by, or that port is not enabled'
     other_page_c "C program 7 of $page notices that nobody receives a group" 7 's/{0x00, 0x06, 0x04}/{0x06, 0x04, 0x04}/' \
         '800001000: the packet leaves by no port'
     other_page_c "C program 7 of $page notices that a group is blocked" 7 's/spaces\[port\]\.at\[0x110\]/spaces[port].at[0x118] = 0x07, &/' \

@@ -124,10 +124,12 @@ answers_are_not_dropped() {
     fi
 }
 
-# What the page says of the crate besides: a match needs a last arm, and unsafe stands in one file.
+# What the page says of the crate besides: a match needs a last arm, a port's fields have no default, and unsafe stands in one file.
 crate_is_as_told() {
     package no_last_arm <hosts/thawribbon/tests/wrong/no_last_arm.rs
     ends 'rustc wants a last arm of a match on a refusal' 101 'non-exhaustive patterns: `_` not covered' within "$work/no_last_arm" cargo check --offline
+    package no_default <hosts/thawribbon/tests/wrong/no_default.rs
+    ends 'rustc has no default for the fields of a port that was not read' 101 'the trait bound `Groups: Default` is not satisfied' within "$work/no_default" cargo check --offline
     if [ "$(grep -lw unsafe hosts/thawribbon/build.rs $sources/*)" = $sources/raw.rs ]; then
         echo 'ok unsafe stands only in raw.rs'
     else

@@ -225,7 +225,8 @@ static void sets_of_ports(void)
 static void judged_texts(void)
 {
     thawribbon_judged judged = {0, 0, THAWRIBBON_JUDGED_NO_HIT, 0};
-    expect(strncmp(thawribbon_judged_text(judged), "no hit: ", 8) == 0, "another text of no hit", 0);
+    expect(strcmp(thawribbon_judged_text(judged),
+                  "no hit: the address is in no group of the port that the packet enters by, or that port is not enabled") == 0, "another text of no hit", 0);
     judged.verdict = THAWRIBBON_JUDGED_DROPPED;
     expect(strcmp(thawribbon_judged_text(judged), "the packet is dropped where it enters") == 0, "another text of what is dropped", 0);
     judged.verdict = THAWRIBBON_JUDGED_LEAVES;

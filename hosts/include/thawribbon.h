@@ -1050,7 +1050,7 @@ THAWRIBBON_MUST_USE static inline const char *thawribbon_judged_text(thawribbon_
 {
     switch (thawribbon_judgement_of(judged)) {
     case THAWRIBBON_JUDGED_NO_HIT:
-        return "no hit: the address is in no group of the port that the packet enters by";
+        return "no hit: the address is in no group of the port that the packet enters by, or that port is not enabled";
     case THAWRIBBON_JUDGED_DROPPED:
         return "the packet is dropped where it enters";
     case THAWRIBBON_JUDGED_LEAVES:

@@ -49,15 +49,17 @@ pub port-edges : (judged (three 63 12 0) 0 0x2000 ≡ told 0 leaves 2)
     × (leavesBy (three 63 12 0) 0 (told 0 leaves 2) 1 ≡ 1)
     × (leavesBy (three 63 12 0) 0 (told 0 leaves 2) 2 ≡ 0)
     × (judged (three 63 12 0) 0 0x28000 ≡ told 0 leaves 40)
+    × (leavesBy (three 63 12 0) 0 (told 0 leaves 40) 0 ≡ 0)
     × (leavesBy (three 63 12 0) 0 (told 0 leaves 40) 1 ≡ 0)
     × (leavesBy (three 63 12 0) 0 (told 0 leaves 40) 2 ≡ 1)
     × (judged (three 63 12 0) 0 0x29000 ≡ told 0 leaves 41)
+    × (leavesBy (three 63 12 0) 0 (told 0 leaves 41) 0 ≡ 0)
     × (leavesBy (three 63 12 0) 0 (told 0 leaves 41) 1 ≡ 0)
     × (leavesBy (three 63 12 0) 0 (told 0 leaves 41) 2 ≡ 0)
     × (leavesBy (three 63 12 0) 0 (told 0 leaves 41) 3 ≡ 0)
     × (judged (three 63 12 0) 3 0x2000 ≡ told 1 unsaid 0)
 unfolding judged isBad isRecord clashes enteringBy isHit isMember
-port-edges = (refl, refl, refl, refl, refl, refl, refl, refl, refl, refl, refl, refl)
+port-edges = (refl, refl, refl, refl, refl, refl, refl, refl, refl, refl, refl, refl, refl, refl)
 
 -- groups on both sides of the registers' middle, the last, and what would be the next
 pub group-edges : (judged (three 63 12 0) 0 0x1ffff ≡ told 0 leaves 31)

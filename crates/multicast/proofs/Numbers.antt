@@ -37,7 +37,7 @@ pub read-number : ReadNumber
 read-number s at r e =
     subst (λ (n : ℕ). First (capabilityChecks s at) n × List·Memᴰ n (0 ∷ 1 ∷ 8 ∷ 9 ∷ 13 ∷ [])) (sym (ap (λ (t : CapabilityTold). t .number) e)) (number-says s at)
 
-says-nothing : (s : List ℕ) (at : ℕ) → (capabilitySays s at .number ≡ 0 → ⊥) → capabilitySays s at .fields ≡ noFields
+pub says-nothing : (s : List ℕ) (at : ℕ) → (capabilitySays s at .number ≡ 0 → ⊥) → capabilitySays s at .fields ≡ noFields
 unfolding capabilitySays
 says-nothing s at n = rw (ne-eqb (capabilityNumber s at) 0 n)
 

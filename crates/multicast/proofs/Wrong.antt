@@ -10,6 +10,7 @@ use native.Mathlib.Nat.{mod-self, sub-zero}
 use native.Mathlib.Omega.{arith}
 use borrow.Author.Tests.{le-leb, lt-leb, eqb-true, eqb-false}
 use lib.Pow.{pow-pos, shl-shr}
+use Rattle.answers.specs.declared.Answer.the-variants.{Done}
 use Rattle.words.specs.Fields.{bit}
 use Rattle.multicast.specs.declared.Capability.{Capability}
 use Rattle.multicast.specs.declared.Judged.{Judged}
@@ -163,7 +164,7 @@ abbrev always : Judged → Judge
 always answer ports entering address = answer
 
 pub such-judges-exist : BlocksWhereItLeaves (always (Leaves 0 0)) (two 0 12 0 1 1) 0 0
-    × LosesGroupBits 8 (always (Leaves 0 0)) (two 0 12 0 0 0) 0 (2 ^ 8 * 2 ^ 12)
+    × ((width : ℕ) → LosesGroupBits width (always (Leaves 0 0)) (two 0 12 0 0 0) 0 (2 ^ width * 2 ^ 12))
     × LosesEndBits (always NoHit) (two 1 63 0 0 0) 0 0
     × TakesNumGroupAsCount (always NoHit) (two 0 12 0 0 0) 0 0
     × LeavesByEntering (always (Leaves 0 3)) (two 0 12 0 1 0) 0 0
@@ -171,7 +172,7 @@ pub such-judges-exist : BlocksWhereItLeaves (always (Leaves 0 0)) (two 0 12 0 1 
     × ForgetsHighBlocks (always (Leaves 40 0)) (two 40 12 (2 ^ 40) 0 0) 0 0x28000
 such-judges-exist = (
   (λ k e. no-bit k),
-  (λ a b c. refl),
+  (λ width a b c. refl),
   (λ e. absurd (never e)),
   (λ e. absurd (never e)),
   (λ e. refl),
@@ -244,3 +245,13 @@ module _ (f : Reader) (right : ReadsRightAt f (spaceWith example) 0x100) where
 
   pub no-forgets-high-word-of-block-all : ForgetsHighWord blockAll f (spaceWith example) 0x100 → ⊥
   no-forgets-high-word-of-block-all wrong = let low = wrong found in let e = field-read blockAll in omega arith
+
+-- what each of these readers answers there: one that always answers so is wrong in this way
+abbrev readsAlways : List ℕ → Reader
+readsAlways fields s at = record { answer = Done; fields = fields }
+
+pub such-readers-exist : KeepsLowBits (readsAlways (63 ∷ 40 ∷ 1 ∷ 12 ∷ (2 ^ 40 + 12) ∷ 2 ^ 40 ∷ 2 ^ 40 ∷ [])) (spaceWith example) 0x100
+    × ForgetsHighWord base (readsAlways (63 ∷ 40 ∷ 1 ∷ 12 ∷ 0 ∷ 2 ^ 40 ∷ 2 ^ 40 ∷ [])) (spaceWith example) 0x100
+    × ForgetsHighWord receive (readsAlways (63 ∷ 40 ∷ 1 ∷ 12 ∷ 2 ^ 40 ∷ 0 ∷ 2 ^ 40 ∷ [])) (spaceWith example) 0x100
+    × ForgetsHighWord blockAll (readsAlways (63 ∷ 40 ∷ 1 ∷ 12 ∷ 2 ^ 40 ∷ 2 ^ 40 ∷ 0 ∷ [])) (spaceWith example) 0x100
+such-readers-exist = ((λ e. sym example-window), (λ e. omega arith), (λ e. omega arith), (λ e. omega arith))

@@ -1,16 +1,16 @@
--- THEOREMS. What a host is told, number by number. Of a capability the number is that of the first requirement that is not met, and no other is given. Of an
--- address: the number, the verdict and the group are those that are said of it, and bit k of the ports is 1 exactly if it leaves by port k. Where the number is
--- not 0, all else is 0. Assumes nothing.
+-- THEOREMS. What a host is told, number by number. Of a capability the number is that of the first requirement that is not met, and no other is given; where it is not 0,
+-- the seven numbers that were lent are 0 afterwards. Of an address: the number, the verdict and the group are those that are said of it, and bit k of the ports is 1
+-- exactly if it leaves by port k; where the number is not 0, all else is 0. Assumes nothing.
 use Prim.Native.Nat.{ℕ, _<_}
 use mathlib.Core.List.{List, [], _∷_, List·Memᴰ}
 use mathlib.Core.Path.{_≡_, refl, sym, ap, subst, _∙_}
 use Rattle.answers.proofs.Checks.{First}
 use Rattle.words.specs.Fields.{bit}
-use Rattle.multicast.specs.Capability.{CapabilityTold, capabilityChecks}
+use Rattle.multicast.specs.Capability.{CapabilityTold, capabilityChecks, noFields}
 use Rattle.multicast.specs.Judging.{Verdict, unsaid, noHit, dropped, leaves, JudgedTold, judged, leavesBy, tellsJudged, portsOf}
 use Rattle.multicast.specs.declared.Judged.{Judged}
 use Rattle.multicast.specs.declared.Judged.the-variants.{Refused, NoHit, Dropped, Leaves}
-use Rattle.multicast.proofs.Numbers.{number-says}
+use Rattle.multicast.proofs.Numbers.{number-says, says-nothing}
 use Rattle.multicast.proofs.Refusals.{refused-tells-nothing}
 use Rattle.offload.specs.declared.HostJudged.{HostJudged}
 use Rattle.offload.specs.Judges.{HostReads, toldJudged, HostJudges}
@@ -27,6 +27,9 @@ abbrev pub HostMulticastNumber : Type 0
 HostMulticastNumber =
     (s : List ℕ) (at r : ℕ) (lent after : List ℕ) → HostReads s at lent r after
     → First (capabilityChecks s at) r × List·Memᴰ r (0 ∷ 1 ∷ 8 ∷ 9 ∷ 13 ∷ [])
+
+abbrev pub HostMulticastNothing : Type 0
+HostMulticastNothing = (s : List ℕ) (at r : ℕ) (lent after : List ℕ) → HostReads s at lent r after → (r ≡ 0 → ⊥) → after ≡ noFields
 
 pub record HostTold (ports : List (List ℕ)) (entering address : ℕ) (r : HostJudged) : Type 0 where
   pub number : r .number ≡ judged ports entering address .number
@@ -45,6 +48,10 @@ HostRefusedNothing =
 pub host-multicast-number : HostMulticastNumber
 host-multicast-number s at r lent after e =
     subst (λ (n : ℕ). First (capabilityChecks s at) n × List·Memᴰ n (0 ∷ 1 ∷ 8 ∷ 9 ∷ 13 ∷ [])) (sym (ap (λ (t : CapabilityTold). t .number) e)) (number-says s at)
+
+pub host-multicast-nothing : HostMulticastNothing
+host-multicast-nothing s at r lent after e n =
+    ap (λ (t : CapabilityTold). t .fields) e ∙ says-nothing s at (λ z. n (ap (λ (t : CapabilityTold). t .number) e ∙ z))
 
 -- ---- an answer, as a host is told it
 

@@ -9,7 +9,7 @@ impl Groups {
     /// Reads the Multicast capability at an offset of a port's space of 4,096 bytes.
     ///
     /// What is refused gives no fields at all. In C it gives seven zeros, which are also the fields of a capability that is
-    /// not enabled: so take a port's fields from here, and not from [`raw::multicast`] or `Groups::default()`.
+    /// not enabled: so take a port's fields from here, and not from [`raw::multicast`] or [`Groups::ZEROS`].
     ///
     /// ```
     /// use thawribbon::{Groups, Refusal};
@@ -40,7 +40,7 @@ impl Groups {
     /// - [`Refusal::WrongGroups`]: Num Group is over Max Group, or Index Position is under 12 and Enable is set.
     #[inline]
     pub fn read(space: &[u8], at: Offset) -> Result<Self, Refusal> {
-        let mut groups = Groups::default();
+        let mut groups = Groups::ZEROS;
         served(raw::multicast(space, at.into(), &mut groups))?;
         Ok(groups)
     }

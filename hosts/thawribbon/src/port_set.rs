@@ -10,7 +10,7 @@ use std::iter::FusedIterator;
 /// use thawribbon::{Groups, Judged, PORTS, Refusal, judge};
 ///
 /// // 32 ports with one group, from address 0 on; of them 3 and 31 receive it.
-/// let mut ports = [Groups { enable: 1, index: 12, ..Groups::default() }; PORTS];
+/// let mut ports = [Groups { enable: 1, index: 12, ..Groups::ZEROS }; PORTS];
 /// (ports[3].receive, ports[31].receive) = (1, 1);
 ///
 /// let Judged::Leaves { ports: by, .. } = judge(&ports, 0, 0)? else { panic!("it does not leave") };

@@ -189,7 +189,7 @@ pub struct Heard {
 ///
 /// Any values may be given; [`judge`] refuses those that [`multicast`] gives for no space and offset.
 #[repr(C)]
-#[derive(Clone, Copy, Debug, Default, PartialEq, Eq, Hash)]
+#[derive(Clone, Copy, Debug, PartialEq, Eq, Hash)]
 pub struct Groups {
     /// Max Group, 0 to 63.
     pub max_group: u64,
@@ -205,6 +205,20 @@ pub struct Groups {
     pub receive: u64,
     /// Block All: bit `g` is 1 where group `g` is dropped if it enters by this port.
     pub block_all: u64,
+}
+
+impl Groups {
+    /// Seven zeros, to be written over by [`multicast`]. They are also what a capability may hold that is not enabled, so
+    /// there is no `Default`: a reading that was refused is not to be made up for by them.
+    pub const ZEROS: Self = Self {
+        max_group: 0,
+        num_group: 0,
+        enable: 0,
+        index: 0,
+        base: 0,
+        receive: 0,
+        block_all: 0,
+    };
 }
 
 /// The answer about an address: the number, what becomes of the packet, its group, and the ports that it leaves by. Every
@@ -534,7 +548,7 @@ pub fn read_completion(completion: &[u8]) -> Heard {
 /// let mut space = [0; 4096]; // four groups of 4 KiB each from 8_0000_0000h on, of which group 2 is received
 /// space[0x100..0x10C].copy_from_slice(&[0x12, 0x00, 0x01, 0x00, 0x3F, 0x00, 0x03, 0x80, 0x0C, 0x00, 0x00, 0x00]);
 /// (space[0x10C], space[0x110]) = (0x08, 0x04);
-/// let mut groups = Groups::default();
+/// let mut groups = Groups::ZEROS;
 /// assert_eq!(multicast(&space, 0x100, &mut groups), 0);
 /// let base = 0x8_0000_0000;
 /// assert_eq!(groups, Groups { max_group: 63, num_group: 3, enable: 1, index: 12, base, receive: 0b100, block_all: 0 });
@@ -551,7 +565,7 @@ pub fn multicast(space: &[u8], at: usize, groups: &mut Groups) -> u8 {
 /// ```
 /// use thawribbon::raw::{Groups, Judged, judge};
 ///
-/// let (base, enters) = (0x8_0000_0000, Groups { max_group: 63, num_group: 3, enable: 1, index: 12, ..Groups::default() });
+/// let (base, enters) = (0x8_0000_0000, Groups { max_group: 63, num_group: 3, enable: 1, index: 12, ..Groups::ZEROS });
 /// let ports = [Groups { base, ..enters }, Groups { receive: 0b100, ..enters }];
 /// assert_eq!(judge(&ports, 0, base + 0x2FFF), Judged { number: 0, verdict: 3, group: 2, ports: 0b10 });
 /// assert_eq!(judge(&ports, 0, base + 0x4000), Judged { number: 0, verdict: 1, group: 0, ports: 0 });

@@ -171,7 +171,7 @@ fn what_is_judged_is_what_the_header_names() {
     let port = Groups {
         enable: 1,
         index: 12,
-        ..Groups::default()
+        ..Groups::ZEROS
     };
     let blocked = Groups { block_all: 1, ..port };
     let verdict = |ports: &[Groups], address| judge(ports, 0, address).verdict;

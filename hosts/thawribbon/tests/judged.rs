@@ -177,7 +177,7 @@ fn the_group_is_that_of_the_entering_port() {
     let other = Groups {
         base: 0xFFFF_FFFF_FFFF_F000,
         block_all: u64::MAX,
-        ..Groups::default()
+        ..Groups::ZEROS
     };
     let receiving = Groups {
         receive: 0b1000,
@@ -210,7 +210,7 @@ fn no_address_hits_where_it_is_not_enabled() {
             hits_nothing(&ports, 0, address);
         }
     }
-    hits_nothing(&[Groups::default()], 0, 0);
+    hits_nothing(&[Groups::ZEROS], 0, 0);
 }
 
 #[test]

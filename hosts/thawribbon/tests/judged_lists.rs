@@ -120,7 +120,7 @@ fn is_good(port: Groups, good: bool) {
 
 #[test]
 fn every_bit_of_a_field() {
-    let none = Groups::default();
+    let none = Groups::ZEROS;
     for (bit, value) in (0..64).map(|bit| (bit, 1 << bit)) {
         is_good(
             Groups {

@@ -182,7 +182,7 @@ mod tests {
             enable: 1,
             index,
             base,
-            ..Groups::default()
+            ..Groups::ZEROS
         }
     }
 

@@ -44,7 +44,7 @@ pub fn count_multicast(space: &[u8], at: usize, number: u8, groups: &Groups, tal
     if number == 0 {
         return count_read(bytes, at, groups, tally);
     }
-    assert_eq!(*groups, Groups::default(), "a refusal tells numbers");
+    assert_eq!(*groups, Groups::ZEROS, "a refusal tells numbers");
     match only(&causes) {
         Some(cause) => count_alone(cause, bytes, at, tally),
         None => count_two(&causes, tally),

@@ -7,7 +7,7 @@ use crate::harness::{Wrong, expect_caught, word};
 
 /// What the model answers: the number, and what it writes.
 pub fn read(space: &[u8], at: usize) -> (u8, Groups) {
-    let mut groups = Groups::default();
+    let mut groups = Groups::ZEROS;
     (Reference.multicast(space, at, &mut groups), groups)
 }
 

@@ -164,7 +164,7 @@ fn sound_capabilities_refused() {
     ];
     for refused in tests {
         expect_reading_caught(or_else(move |_, _, number, groups| {
-            (number == 0 && refused(&groups)).then_some((13, Groups::default()))
+            (number == 0 && refused(&groups)).then_some((13, Groups::ZEROS))
         }));
     }
 }
@@ -240,7 +240,7 @@ fn a_size_of_the_space_not_tested() {
 fn a_reading_wrong_at_one_offset() {
     for wrong in [0x100, 0x104, 0x7FC, 0xFD4, 0xFD8] {
         expect_reading_caught(or_else(move |_, at, number, _| {
-            (number == 0 && at == wrong).then_some((9, Groups::default()))
+            (number == 0 && at == wrong).then_some((9, Groups::ZEROS))
         }));
     }
     for wrong in (0xFDC..0x1000).step_by(4) {

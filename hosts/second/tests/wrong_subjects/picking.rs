@@ -306,5 +306,5 @@ fn enable_told_otherwise() {
 /// Where it is not enabled, the other numbers are told all the same.
 #[test]
 fn nothing_told_of_a_capability_that_is_not_enabled() {
-    expect_told_caught(|_, groups| if groups.enable == 0 { Groups::default() } else { groups });
+    expect_told_caught(|_, groups| if groups.enable == 0 { Groups::ZEROS } else { groups });
 }

@@ -90,7 +90,7 @@ fn by_safe_rust(space: &[u8], at: usize, _: &mut raw::Groups) -> Result<Port, u8
 /// Capabilities read by a side, one after the other.
 fn pass<Answer: 'static>(read: Read<Answer>, places: &Places) -> Pass {
     let read = black_box(read);
-    let mut groups = raw::Groups::default();
+    let mut groups = raw::Groups::ZEROS;
     order::pass(places, CALLS, move |place| {
         read(black_box(&place.space), black_box(place.at), black_box(&mut groups));
     })
@@ -100,12 +100,12 @@ fn pass<Answer: 'static>(read: Read<Answer>, places: &Places) -> Pass {
 fn check(kind: &Kind, Place { space, at }: &Place) -> Result<(), String> {
     let mut groups = raw::Groups {
         base: u64::MAX,
-        ..raw::Groups::default()
+        ..raw::Groups::ZEROS
     };
     let found = (by_library(space, *at, &mut groups), groups);
     let expected = match by_safe_rust(space, *at, &mut groups) {
         Ok(port) => (0, in_library_form(port)),
-        Err(number) => (number, raw::Groups::default()),
+        Err(number) => (number, raw::Groups::ZEROS),
     };
     if found != expected || expected.0 != kind.number {
         let what = kind.what;

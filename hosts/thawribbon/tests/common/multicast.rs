@@ -73,7 +73,7 @@ pub fn reads(space: &[u8], at: usize, number: u8, fields: Groups) {
     let space = lent(space);
     let guard = Groups { base: 0xA7A7, ..FOUR };
     let mut groups = Lent::new(&[guard], guard);
-    let told = if number == 0 { fields } else { Groups::default() };
+    let told = if number == 0 { fields } else { Groups::ZEROS };
     groups.expect(0, &[told]);
     assert_eq!(
         raw::multicast(space.part(), at, &mut groups.part_mut()[0]),
