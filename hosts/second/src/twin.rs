@@ -17,7 +17,14 @@ pub struct Twin<Cell> {
 impl<Cell: Copy + PartialEq + Default> Twin<Cell> {
     /// A buffer that can lend up to so many cells.
     pub fn new(most: usize) -> Self {
-        let cells = vec![Cell::default(); most + 2 * MARGIN];
+        Self::of(Cell::default(), most)
+    }
+}
+
+impl<Cell: Copy + PartialEq> Twin<Cell> {
+    /// A buffer that can lend up to so many cells, all of them like this one at first.
+    pub fn of(cell: Cell, most: usize) -> Self {
+        let cells = vec![cell; most + 2 * MARGIN];
         Self {
             before: cells.clone(),
             ours: cells.clone(),

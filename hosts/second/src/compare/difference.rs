@@ -118,7 +118,7 @@ impl Difference {
     }
 
     /// Looks for a cell that differs in a buffer, if none was found before.
-    pub fn look<Cell: Copy + PartialEq + Default + Debug>(mut self, name: &str, buffer: &Twin<Cell>) -> Self {
+    pub fn look<Cell: Copy + PartialEq + Debug>(mut self, name: &str, buffer: &Twin<Cell>) -> Self {
         let Some((place, ours, theirs)) = buffer.first_difference() else {
             return self;
         };

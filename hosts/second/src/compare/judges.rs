@@ -23,7 +23,7 @@ impl Judges {
     pub fn new() -> Self {
         Self {
             maker: JudgeMaker::new(),
-            ports: Twin::new(LONGEST_RECORDS),
+            ports: Twin::of(Groups::ZEROS, LONGEST_RECORDS),
             calls_left: 0,
         }
     }

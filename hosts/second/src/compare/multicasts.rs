@@ -25,7 +25,7 @@ impl Multicasts {
         Self {
             scene: RecordScene::spent(),
             maker: MulticastMaker::new(),
-            groups: Twin::new(1),
+            groups: Twin::of(Groups::ZEROS, 1),
             calls_left: 0,
         }
     }

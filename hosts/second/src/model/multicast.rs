@@ -43,7 +43,7 @@ pub fn multicast(space: &[u8], at: usize) -> Multicast {
         }
         Err(refusal) => Multicast {
             number: refusal.number(),
-            groups: Groups::ZEROS,
+            groups: Groups::default(),
         },
     }
 }
