@@ -81,7 +81,7 @@ impl Habits {
 pub fn read_by(habits: Habits) -> Wrong {
     Wrong::multicast(move |space, at, groups| {
         let answer = habits.answer(space, at);
-        *groups = answer.unwrap_or_default();
+        *groups = answer.unwrap_or(Groups::ZEROS);
         answer.err().unwrap_or(0)
     })
 }
