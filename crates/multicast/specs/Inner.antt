@@ -19,8 +19,8 @@ refusedWith refusal = record { answer = Refused refusal; fields = noFields }
 
 -- the group that an address hits, or none
 abbrev pub Hits : List ℕ → ℕ → Hit → Type 0
-Hits r address Nothing = isHit r address ≡ false
-Hits r address (Group g) = (isHit r address ≡ true) × (g ≡ groupOf r address) × (g ≤ 63)
+Hits port address Nothing = isHit port address ≡ false
+Hits port address (Group g) = (isHit port address ≡ true) × (g ≡ groupOf port address) × (g ≤ 63)
 
 -- 1 where a group leaves by port k, else 0
 abbrev pub memberBit : List (List ℕ) → ℕ → ℕ → ℕ → ℕ
