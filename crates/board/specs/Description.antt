@@ -1,7 +1,8 @@
--- Document 01, "What the board software covers": a board, and when it is well described; with document 02, 6/13, "Bits cleared by writing one".
+-- Document 01, "What the board software covers": a board, and when it is well described; with document 02, 6/13, "Bits cleared by writing one", and
+-- 9/13, "Two editions of byte 0".
 -- Assumes nothing.
 use Prim.Native.Nat.{ℕ}
-use mathlib.Core.Bool.{Bool, true, false, not, cond}
+use mathlib.Core.Bool.{Bool, true, false, not, _||_, cond}
 use mathlib.Core.List.{List, [], _∷_}
 use mathlib.Core.Path.{_≡_}
 use lib.Bits.{bitAnd}
@@ -25,21 +26,36 @@ abbrev pub withBytes : Space → List ℕ → Space
 withBytes s bytes = record { bytes = bytes; rules = s .rules; marks = s .marks }
 
 -- "A board has its function number (0 to 7), two spaces [with their rules and marks], and two offsets [A and B: `Description`]. The board also
--- keeps the captured bus and device number between packets, or the fact that none is captured."
+-- keeps the captured bus and device number between packets, or the fact that none is captured." 02, 9/13: "The board description gets an edition".
 pub record Board : Type 0 where
   pub description : Description
   pub capture : Capture
   pub ordinary : Space
   pub trusted : Space
 
+-- a board with another edition, and the same otherwise
+abbrev pub withEdition : Board → ℕ → Board
+withEdition d edition =
+    record {
+      description = record { function = d .description .function; a = d .description .a; b = d .description .b; edition = edition };
+      capture = d .capture;
+      ordinary = d .ordinary;
+      trusted = d .trusted;
+    }
+
+-- 02, 9/13: "Any other edition [than 1 and 2] is answer 1."
+abbrev pub otherEdition : ℕ → Bool
+otherEdition edition = not (eqb edition 1 || eqb edition 2)
+
 -- "a captured device is over 31, or a function number or offset is outside its range": "A [..] a multiple of 4 from 104h to FFCh", "B [..] from
--- 00Ch to FFCh"
+-- 00Ch to FFCh"; and the edition
 abbrev pub ranges : Description → Capture → List Bool
 ranges description kept =
     deviceOver kept
     ∷ ltb 7 (description .function)
     ∷ not (placed (description .a) 0x104 0xffc)
     ∷ not (placed (description .b) 0x00c 0xffc)
+    ∷ otherEdition (description .edition)
     ∷ []
 
 abbrev pub outOfRange : Description → Capture → Bool

@@ -8,7 +8,7 @@ use Rattle.answers.specs.Checks.{Check, check, firstThatApplies}
 use Rattle.packet.specs.declared.Id.{Id}
 use Rattle.packet.specs.declared.Request.{Request}
 use Rattle.packet.specs.Fields.{dataOf}
-use Rattle.packet.specs.Request.{requestOf, packetChecks}
+use Rattle.packet.specs.Request.{requestOf, checksUnder}
 use Rattle.packet.specs.declared.Status.{Status}
 use Rattle.packet.specs.declared.Status.the-variants.{Success, Unsupported}
 use Rattle.packet.specs.Completion.{withData, withoutData}
@@ -41,9 +41,9 @@ respond d q new =
     (replies d Unsupported q)
     (cond (q .writes) (replies (afterWrite d q new) Success q) (repliesData d q))
 
--- "1 [a badly described board]; 2 the reply is under 16 bytes", then the packet's own
+-- "1 [a badly described board]; 2 the reply is under 16 bytes", then the packet's own, under the board's edition (02, 9/13)
 abbrev pub serveChecks : Board → List ℕ → ℕ → List Check
-serveChecks d p size = check 1 (badlyDescribed d) ∷ check 2 (ltb size 16) ∷ packetChecks p
+serveChecks d p size = check 1 (badlyDescribed d) ∷ check 2 (ltb size 16) ∷ checksUnder (d .description .edition) p
 
 abbrev pub serveNumber : Board → List ℕ → ℕ → ℕ
 serveNumber d p size = firstThatApplies (serveChecks d p size)

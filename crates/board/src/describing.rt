@@ -1,6 +1,6 @@
 // Whether a board is badly described: its buffers, its numbers, and the bits that are marked.
 ghost use mathlib.Core.Path.{_≡_};
-ghost use Rattle.board.specs.Description.{outOfRange, wrongSize, wrongSizes, badlyDescribed};
+ghost use Rattle.board.specs.Description.{otherEdition, outOfRange, wrongSize, wrongSizes, badlyDescribed};
 ghost use Rattle.board.specs.Promise.{spaceOf, lent};
 ghost use Rattle.capture.specs.Kept.{deviceOver};
 use super::Description;
@@ -23,6 +23,18 @@ fn device_over(kept: Capture) -> bool
     }
 }
 
+fn is_other_edition(edition: u32) -> bool
+    ensures { λ r. ⌜ r ≡ otherEdition edition ⌝ }
+{
+    if edition < packet::EDITION_1 {
+        return true;
+    }
+    if packet::EDITION_2 < edition {
+        return true;
+    }
+    false
+}
+
 fn out_of_range(description: Description, kept: Capture) -> bool
     ensures { λ r. ⌜ r ≡ outOfRange description kept ⌝ }
 {
@@ -35,7 +47,10 @@ fn out_of_range(description: Description, kept: Capture) -> bool
     if !words::placed(description.a, LOWEST_A, HIGHEST) {
         return true;
     }
-    !words::placed(description.b, LOWEST_B, HIGHEST)
+    if !words::placed(description.b, LOWEST_B, HIGHEST) {
+        return true;
+    }
+    is_other_edition(description.edition)
 }
 
 fn is_wrong_size(buffer: &[u8]) -> bool

@@ -11,12 +11,13 @@ use capture::Capture;
 pub use serving::reset;
 pub use serving::serve;
 
-// What does not change while a board runs: its function number, and the places of the Device Correlation word in the
-// ordinary space (a) and in the trusted space (b).
+// What does not change while a board runs: its function number, the places of the Device Correlation word in the ordinary space
+// (a) and in the trusted space (b), and its edition of byte 0 (packet::EDITION_1 or packet::EDITION_2; with any other it answers 1).
 pub struct Description {
     pub function: u8,
     pub a: usize,
     pub b: usize,
+    pub edition: u32,
 }
 
 // The answer to a packet: how many bytes of the reply are written, and the capture to keep for the next packet.

@@ -142,7 +142,7 @@ pub fn serve(
     if reply.len() < REPLY {
         return refuse(kept, Refusal::NoRoom);
     }
-    match packet::decode(packet) {
+    match packet::decode_under(description.edition, packet) {
         Decoded::Refused(refusal) => refuse(kept, refusal),
         Decoded::Asks(request) => respond_to(
             description,

@@ -1,12 +1,12 @@
 -- Laws of the packet's fields and checks, for the proofs of this crate and above. Assumes nothing.
 use Prim.Native.Nat.{ℕ, _+_, _*_, _%_, _<_, _≤_}
-use mathlib.Core.Bool.{Bool, true, false, not, cond, _||_}
+use mathlib.Core.Bool.{Bool, true, false, not, cond, _||_, and-false}
 use mathlib.Core.List.{List, [], _∷_, List·Memᴰ.List·Memᴰ·head, List·Memᴰ.List·Memᴰ·tail}
 use mathlib.Core.Path.{_≡_, refl, sym, ap, ap₂, _∙_}
 use native.Mathlib.Nat.{mod-eq-of-lt}
 use native.Mathlib.Omega.{arith}
 use lib.Bits.{bitAnd, bitOr, and-mask, mask-lt, and-high, or-shifted}
-use lib.Dec.{eqb}
+use lib.Dec.{eqb, ltb}
 use lib.ListN.{length}
 use borrow.Author.Tests.{eq-eqb, ne-eqb, lt-ltb, le-ltb, eqb-true, not-false}
 use Rattle.answers.proofs.Checks.{Positive, none-applies}
@@ -14,8 +14,8 @@ use Rattle.packet.specs.declared.TypeCode.the-variants.{Known, Unknown}
 use Rattle.words.specs.Bytes.{byte}
 use Rattle.packet.specs.declared.Target.{Target}
 use Rattle.packet.specs.declared.Target.the-variants.{Type0, Type1, Trusted}
-use Rattle.packet.specs.Fields.{typeCode, typeOf, digest, lengthField, offsetOf, wholeLength, wrongField}
-use Rattle.packet.specs.Request.{typed, writesOf, packetChecks, packetNumber, requestOf, targetOf, isTrusted, trusted}
+use Rattle.packet.specs.Fields.{typeCode, bit7Set, refusesBit7, typeOf, digest, lengthField, offsetOf, wholeLength, wrongField}
+use Rattle.packet.specs.Request.{typed, writesOf, numberUnder, packetChecks, packetNumber, requestOf, targetOf, isTrusted, trusted, trustedUnder}
 use Rattle.packet.specs.Inner.{KnownHeader}
 
 -- byte 0 without bit 7 is the type code
@@ -69,6 +69,37 @@ module _ (p : List ℕ) where
         → packetNumber p ≡ cond wrong 6 0
     number-past wrong whole e =
         rw (le-ltb (length p) 12 (header .long), header .known, eq-eqb (length p) (wholeLength writes (byte p 2)) whole, e)
+
+-- ---- the edition: what is not refused for bit 7 is looked at as where the bit is ignored
+
+module _ (edition : ℕ) (p : List ℕ) where
+  pub number-bit-7 : 12 ≤ length p → refusesBit7 edition (byte p 0) ≡ true → numberUnder edition p ≡ 4
+  number-bit-7 long e = rw (le-ltb (length p) 12 long, e)
+
+  pub number-short-under : length p < 12 → numberUnder edition p ≡ 3
+  number-short-under h = rw (lt-ltb (length p) 12 h)
+
+  pub number-under : refusesBit7 edition (byte p 0) ≡ false → numberUnder edition p ≡ packetNumber p
+  number-under e = rw e
+
+  -- a packet without a fault is not refused for it
+  not-refused : (refuses : Bool) → refusesBit7 edition (byte p 0) ≡ refuses → numberUnder edition p ≡ 0 → refuses ≡ false
+  not-refused true e n = absurd (by-length (ltb (length p) 12) refl)
+    where
+      by-length : (short : Bool) → ltb (length p) 12 ≡ short → ⊥
+      by-length true h = let z : 3 ≡ 0 = rw h at n in omega (arith, z)
+      by-length false h = let z : 4 ≡ 0 = rw (h, e) at n in omega (arith, z)
+  not-refused false e n = refl
+
+  pub accepted : numberUnder edition p ≡ 0 → refusesBit7 edition (byte p 0) ≡ false
+  accepted n = not-refused _ refl n
+
+  pub sound-under : numberUnder edition p ≡ 0 → packetNumber p ≡ 0
+  sound-under n = sym (number-under (accepted n)) ∙ n
+
+-- with bit 7 clear, no edition refuses it
+pub clear-accepted : (edition first : ℕ) → bit7Set first ≡ false → refusesBit7 edition first ≡ false
+clear-accepted edition first e = rw (e, and-false)
 
 -- an offset is a multiple of 4 and its four bytes lie in a space; a device and a function number are in their ranges
 pub offset-inside : (p : List ℕ) → requestOf p .offset + 4 ≤ 4096
@@ -124,3 +155,7 @@ pub trusted-target : (p : List ℕ) → isTrusted (requestOf p .target) ≡ trus
 unfolding requestOf typeOf
 trusted-target [] = refl
 trusted-target (first ∷ rest) = type-trusted (typeCode first)
+
+-- under an edition, of a packet without a fault
+pub trusted-under : (edition : ℕ) (p : List ℕ) → numberUnder edition p ≡ 0 → isTrusted (requestOf p .target) ≡ trustedUnder edition p
+trusted-under edition p n = rw (accepted edition p n) (trusted-target p)

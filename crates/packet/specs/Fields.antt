@@ -1,6 +1,6 @@
 -- Document 01, "The packet": "Bytes as sent". Assumes nothing.
 use Prim.Native.Nat.{ℕ, _+_, _*_}
-use mathlib.Core.Bool.{Bool, true, false, not, cond}
+use mathlib.Core.Bool.{Bool, true, false, not, _&&_, cond}
 use mathlib.Core.List.{List, [], _∷_}
 use lib.Dec.{eqb}
 use Rattle.answers.specs.Checks.{any}
@@ -14,6 +14,14 @@ use Rattle.packet.specs.declared.TypeCode.the-variants.{Known, Unknown}
 -- "0: bit 7 reserved and ignored; bits 6 to 0 the type code."
 abbrev pub typeCode : ℕ → ℕ
 typeCode first = bits 6 0 first
+
+-- 02, 9/13, "The board description gets an edition", in the place of "ignored": "1 ignores bit 7 as now, 2 gives answer 4 when it is set.": whether
+-- byte 0 has the bit set; whether an edition refuses a packet for it
+abbrev pub bit7Set : ℕ → Bool
+bit7Set first = eqb (bit 7 first) 1
+
+abbrev pub refusesBit7 : ℕ → ℕ → Bool
+refusesBit7 edition first = eqb edition 2 && bit7Set first
 
 -- "1: bits 6:4 TC."
 abbrev pub traffic : ℕ → ℕ

@@ -1,6 +1,6 @@
 // The checks 3 to 6 in their order, and the request of a packet that passes them.
 ghost use mathlib.Core.Path.{_≡_};
-ghost use Rattle.packet.specs.Request.{Decodes, requestOf};
+ghost use Rattle.packet.specs.Request.{Decodes, DecodesUnder, requestOf};
 ghost use Rattle.packet.specs.Inner.{KnownHeader};
 use super::Decoded;
 use super::Id;
@@ -46,15 +46,26 @@ fn decode_known(packet: &[u8], writes: bool, target: Target) -> Decoded
     Decoded::Asks(request_of(packet, writes, target))
 }
 
-// What a packet of any length asks for, or the refusal with the lowest number.
-pub fn decode(packet: &[u8]) -> Decoded
-    ensures { λ r. ⌜ Decodes (now (packet .entry)) r ⌝ }
+// What a packet of any length asks for under an edition, or the refusal with the lowest number. Any edition but the second ignores bit 7 of byte 0.
+pub fn decode_under(edition: u32, packet: &[u8]) -> Decoded
+    ensures { λ r. ⌜ DecodesUnder edition (now (packet .entry)) r ⌝ }
 {
     if packet.len() < 12 {
         return Decoded::Refused(Refusal::ShortPacket);
     }
-    let TypeCode::Known(writes, target) = fields::type_of(packet[0]) else {
+    let first = packet[0];
+    if fields::refuses_bit_7(edition, first) {
+        return Decoded::Refused(Refusal::UnknownType);
+    }
+    let TypeCode::Known(writes, target) = fields::type_of(first) else {
         return Decoded::Refused(Refusal::UnknownType);
     };
     decode_known(packet, writes, target)
+}
+
+// The same, with bit 7 of byte 0 ignored.
+pub fn decode(packet: &[u8]) -> Decoded
+    ensures { λ r. ⌜ Decodes (now (packet .entry)) r ⌝ }
+{
+    decode_under(super::EDITION_1, packet)
 }

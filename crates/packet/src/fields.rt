@@ -1,7 +1,7 @@
 // Header fields by shift and mask, each from the bytes that hold it.
 ghost use mathlib.Core.Path.{_≡_};
 ghost use lib.Dec.{eqb};
-ghost use Rattle.packet.specs.Fields.{typeCode, typeOf, digest, poison, firstEnables, deviceOf, functionOf, lengthField, offsetOf, wrongField, wholeLength};
+ghost use Rattle.packet.specs.Fields.{typeCode, refusesBit7, typeOf, digest, poison, firstEnables, deviceOf, functionOf, lengthField, offsetOf, wrongField, wholeLength};
 use super::Target;
 use super::TypeCode;
 
@@ -17,6 +17,16 @@ const WRITE_TYPE_1: u8 = 0x45;
 const READ_TRUSTED: u8 = 0x1b;
 
 const WRITE_TRUSTED: u8 = 0x5b;
+
+// Whether an edition refuses a packet for bit 7 of its byte 0: the second does where it is set, and the first ignores it.
+pub(super) fn refuses_bit_7(edition: u32, first: u8) -> bool
+    ensures { λ r. ⌜ r ≡ refusesBit7 edition first ⌝ }
+{
+    if edition != super::EDITION_2 {
+        return false;
+    }
+    (first >> 7) & 1 == 1
+}
 
 // Byte 0 without bit 7 decides.
 pub(super) fn type_of(first: u8) -> TypeCode

@@ -10,8 +10,14 @@ mod reply;
 
 use answers::Refusal;
 pub use decoding::decode;
+pub use decoding::decode_under;
 pub use reply::with_data;
 pub use reply::without_data;
+
+// The editions of byte 0 that a board may have: the first ignores bit 7, and the second refuses what has it set.
+pub const EDITION_1: u32 = 1;
+
+pub const EDITION_2: u32 = 2;
 
 // A requester or completer ID, as its two bytes are sent.
 pub struct Id {

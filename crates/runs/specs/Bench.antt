@@ -4,6 +4,7 @@ use mathlib.Core.List.{List, [], _∷_}
 use lib.ListN.{replicate}
 use Rattle.words.specs.Bytes.{put}
 use Rattle.capture.specs.declared.Capture.the-variants.{Number}
+use Rattle.board.specs.declared.Description.{Description}
 use Rattle.board.specs.Description.{Space, Board}
 use Rattle.runs.specs.Run.{freshBoard}
 
@@ -22,18 +23,19 @@ benchRules = holding 0x004 (0xff ∷ 0xff ∷ 0xff ∷ 0xff ∷ [])
 abbrev pub benchSpace : List ℕ → Space
 benchSpace bytes = record { bytes = bytes; rules = benchRules; marks = zeros }
 
--- "Function 0", fresh, with the trusted space given; A and B at the lowest places they may have
+-- "Function 0"; A and B at the lowest places they may have; and edition 1, which ignores bit 7 as document 01 has it
+abbrev pub benchDescription : Description
+benchDescription = record { function = 0; a = 0x104; b = 0x00c; edition = 1 }
+
+-- fresh, with the trusted space given
 abbrev pub bench : List ℕ → Board
-bench trusted =
-    freshBoard (record { function = 0; a = 0x104; b = 0x00c })
-    (benchSpace zeros)
-    (benchSpace trusted)
+bench trusted = freshBoard benchDescription (benchSpace zeros) (benchSpace trusted)
 
 -- the same, once a write to bus 05h and device 3 has been captured, as P2's is
 abbrev pub benchAfter : List ℕ → List ℕ → Board
 benchAfter ordinary trusted =
     record {
-      description = record { function = 0; a = 0x104; b = 0x00c };
+      description = benchDescription;
       capture = Number 0x05 0x03;
       ordinary = benchSpace ordinary;
       trusted = benchSpace trusted;

@@ -17,7 +17,8 @@ use Rattle.thawribbon.specs.declared.HostServed.{HostServed}
 
 -- the description that a host gives
 abbrev pub described : HostDescription → Description
-described description = record { function = description .function; a = description .a; b = description .b }
+described description =
+    record { function = description .function; a = description .a; b = description .b; edition = description .edition }
 
 -- the capture that a host has kept: nothing where `captured` is 0, and the bus and device number with any other value
 abbrev pub keptBy : HostCapture → Capture

@@ -14,12 +14,13 @@ pub use walks::thawribbon_walk_compatible;
 pub use walks::thawribbon_walk_extended;
 pub use walks::thawribbon_walk_trusted;
 
-// The function number, and the places of the Device Correlation word: A and B.
+// The function number, the places of the Device Correlation word, A and B, and the edition of byte 0: 1 or 2, and no other.
 #[repr(C)]
 pub struct HostDescription {
     pub function: u8,
     pub a: u32,
     pub b: u32,
+    pub edition: u32,
 }
 
 // Nothing where `captured` is 0, else the captured bus and device number.

@@ -18,6 +18,7 @@ fn description_of(description: HostDescription) -> Description
         function: description.function,
         a: description.a as usize,
         b: description.b as usize,
+        edition: description.edition,
     }
 }
 

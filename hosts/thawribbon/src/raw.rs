@@ -23,6 +23,8 @@ pub struct Description {
     pub a: u32,
     /// The trusted place: a multiple of 4 from 00Ch to FFCh.
     pub b: u32,
+    /// The edition of byte 0: 1 ignores bit 7, 2 gives 4 when it is set; any other is answered 1.
+    pub edition: u32,
 }
 
 /// What a board has captured: nothing where `captured` is 0, else the bus and the device number.
