@@ -1,4 +1,4 @@
--- THEOREM. When the answer is 1, of the board alone and before all else: exactly if one of the six buffers has another length, a number or an offset is out of
+-- THEOREM. When the answer is 1, of the board alone and before all else: exactly if one of the six buffers has another length, a number, an offset or the edition is out of
 -- its range, or some bit of some byte of either space is marked both as writable and as cleared by writing 1. Assumes nothing.
 use Prim.Native.Nat.{ℕ}
 use mathlib.Core.Bool.{Bool, true, false, true≢false}
@@ -11,7 +11,7 @@ use lib.ListN.{length}
 use borrow.Author.Tests.{eqb-false, not-true}
 use Rattle.answers.specs.Checks.{check, firstThatApplies, any}
 use Rattle.answers.proofs.Checks.{gives-one-of}
-use Rattle.packet.specs.Request.{packetChecks}
+use Rattle.packet.specs.Request.{checksUnder}
 use Rattle.board.specs.Description.{Space, Board, outOfRange, wrongSize, wrongSizes, doublyMarked, badlyDescribed}
 use Rattle.board.specs.Serving.{serve}
 use Rattle.board.proofs.MarkedTwice.{MarkedTwice, found-exactly}
@@ -71,7 +71,7 @@ not-one (List·Memᴰ·tail (List·Memᴰ·tail (List·Memᴰ·tail (List·Mem�
 described-by : (d : Board) (p : List ℕ) (size : ℕ) (bad : Bool) → badlyDescribed d ≡ bad → serve d p size .number ≡ 1 → badlyDescribed d ≡ true
 described-by d p size true b n = b
 described-by d p size false b n =
-    let cs = check 2 (ltb size 16) ∷ packetChecks p in
+    let cs = check 2 (ltb size 16) ∷ checksUnder (d .description .edition) p in
     let e : firstThatApplies cs ≡ 1 = rw b at (sym (outcome-number d p size) ∙ n) in
     absurd (not-one (subst (λ (m : ℕ). List·Memᴰ {A = ℕ} m (0 ∷ 2 ∷ 3 ∷ 4 ∷ 5 ∷ 6 ∷ [])) e (gives-one-of cs)))
 

@@ -52,14 +52,17 @@ module _ (P : Board → Type 0) (d : Board) where
   after-response false true q new u w same changed = rw (respond-write d q new u w) changed
   after-response false false q new u w same changed = rw (respond-read d q new u w) same
 
-  after-number : (n : ℕ) (p : List ℕ) → P d → P (afterWrite d (requestOf p) (dataOf p)) → P (byNumber n d p .after)
-  after-number zero p same changed = after-response _ _ (requestOf p) (dataOf p) refl refl same changed
+  after-number : (n : ℕ) (p : List ℕ) → P d → (n ≡ 0 → P (afterWrite d (requestOf p) (dataOf p))) → P (byNumber n d p .after)
+  after-number zero p same changed = after-response _ _ (requestOf p) (dataOf p) refl refl same (changed refl)
   after-number (suc n) p same changed = same
 
-  -- serving leaves the board as it was, or as the packet's write leaves it
-  pub after-serving : (p : List ℕ) (size : ℕ) → P d → P (afterWrite d (requestOf p) (dataOf p)) → P (serve d p size .after)
+  -- serving leaves the board as it was, or, where the packet is served, as its write leaves it
+  pub after-served : (p : List ℕ) (size : ℕ) → P d → (serveNumber d p size ≡ 0 → P (afterWrite d (requestOf p) (dataOf p))) → P (serve d p size .after)
   unfolding serve
-  after-serving p size same changed = after-number (serveNumber d p size) p same changed
+  after-served p size same changed = after-number (serveNumber d p size) p same changed
+
+  pub after-serving : (p : List ℕ) (size : ℕ) → P d → P (afterWrite d (requestOf p) (dataOf p)) → P (serve d p size .after)
+  after-serving p size same changed = after-served p size same (λ n. changed)
 
 -- ---- the description, the rules and the marks
 
@@ -90,7 +93,7 @@ captured-range : (d : Description) (kept : Capture) (bus device : ℕ) → devic
     → outOfRange d (captured kept bus device) ≡ false
 captured-range d kept bus device h e =
     let n = none-of (ranges d kept) e in
-    rw (le-ltb 31 device h, n .1 .0, n .1 .1 .0, n .1 .1 .1 .0)
+    rw (le-ltb 31 device h, n .1 .0, n .1 .1 .0, n .1 .1 .1 .0, n .1 .1 .1 .1 .0)
 
 -- a space with other bytes, as many
 pub with-bytes : (s : Space) (bytes : List ℕ) → WellSpace s → length bytes ≡ 4096 → WellSpace (withBytes s bytes)
@@ -132,4 +135,4 @@ pub reset-keeps-well : (d : Board) → WellDescribed d → WellDescribed (afterR
 reset-keeps-well d e =
     let w = well-described d e in
     let n = none-of (ranges (d .description) (d .capture)) (w .inRange) in
-    described-well (d .description) (forgotten (d .capture)) (d .ordinary) (d .trusted) (w .ordinary) (w .trusted) (rw (n .1 .0, n .1 .1 .0, n .1 .1 .1 .0))
+    described-well (d .description) (forgotten (d .capture)) (d .ordinary) (d .trusted) (w .ordinary) (w .trusted) (rw (n .1 .0, n .1 .1 .0, n .1 .1 .1 .0, n .1 .1 .1 .1 .0))

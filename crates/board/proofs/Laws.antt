@@ -99,6 +99,12 @@ unfolding unsupported
 unsupported-trusted d Nothing q clean t = rw t
 unsupported-trusted d (Number bus device) q clean t = simp (clean, t, or-false)
 
+-- what is unsupported hangs on the description by its function number alone
+pub unsupported-same : (x y : Description) (k : Capture) (q : Request) → x .function ≡ y .function → unsupported x k q ≡ unsupported y k q
+unfolding unsupported
+unsupported-same x y Nothing q f = rw f
+unsupported-same x y (Number bus device) q f = rw f
+
 -- ---- writes and reads, inside a space
 
 pub stored-is : (s : Space) (q : Request) (new old rule mark word : List ℕ) (said : Bool) (after : List ℕ) → Sized s q

@@ -6,6 +6,7 @@ pub mod Refusals
 pub mod Causes
 pub mod Lands
 pub mod Whole
+pub mod Editions
 pub mod Stale
 pub mod Digest
 pub mod Computing

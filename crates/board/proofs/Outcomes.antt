@@ -15,8 +15,8 @@ use Rattle.words.proofs.Laws.{four-inside}
 use Rattle.packet.specs.declared.Request.{Request}
 use Rattle.packet.specs.Fields.{dataOf}
 use Rattle.packet.specs.declared.Decoded.the-variants.{Asks}
-use Rattle.packet.specs.Request.{isTrusted, packetNumber, requestOf, Decodes}
-use Rattle.packet.proofs.Laws.{offset-inside, write-long}
+use Rattle.packet.specs.Request.{isTrusted, numberUnder, requestOf, DecodesUnder}
+use Rattle.packet.proofs.Laws.{offset-inside, write-long, sound-under}
 use Rattle.packet.specs.declared.Status.{Status}
 use Rattle.packet.specs.declared.Status.the-variants.{Success, Unsupported}
 use Rattle.packet.specs.Completion.{withData, withoutData}
@@ -109,17 +109,17 @@ module _ (d : Board) (p reply : List ℕ) where
     pub room-number : length reply < 16 → serveNumber d p (length reply) ≡ 2
     room-number h = rw (well, lt-ltb (length reply) 16 h)
 
-    pub packet-number : 16 ≤ length reply → serveNumber d p (length reply) ≡ packetNumber p
+    pub packet-number : 16 ≤ length reply → serveNumber d p (length reply) ≡ numberUnder (d .description .edition) p
     packet-number h = rw (well, le-ltb (length reply) 16 h)
 
-    pub served-is : 16 ≤ length reply → packetNumber p ≡ 0 → serve d p (length reply) ≡ respond d (requestOf p) (dataOf p)
+    pub served-is : 16 ≤ length reply → numberUnder (d .description .edition) p ≡ 0 → serve d p (length reply) ≡ respond d (requestOf p) (dataOf p)
     unfolding serve
     served-is h n = rw (packet-number h, n)
 
 -- ---- a packet without a fault, on a well-described board with room for the reply
 
 module _ (d : Description) (kept : Capture) (o or om t tr tm p reply : List ℕ) (well : badlyDescribed (lent d kept o or om t tr tm) ≡ false)
-    (room : 16 ≤ length reply) (q : Request) (asks : Decodes p (Asks q)) where
+    (room : 16 ≤ length reply) (q : Request) (asks : DecodesUnder (d .edition) p (Asks q)) where
   sized : (s : Space) → WellSpace s → q .offset + 4 ≤ 4096 → Sized s q
   sized s w inside = record { wholeBytes = w .bytes; wholeRules = w .rules; wholeMarks = w .marks; inside = inside }
 
@@ -133,7 +133,7 @@ module _ (d : Description) (kept : Capture) (o or om t tr tm p reply : List ℕ)
           register = omega (arith, w .register);
           room = room;
         },
-        λ h. write-long p (asks .0) (ap (λ (x : Request). x .writes) (sym (asks .1)) ∙ h),
+        λ h. write-long p (sound-under (d .edition) p (asks .0)) (ap (λ (x : Request). x .writes) (sym (asks .1)) ∙ h),
       )
 
   pub served-seen : (r : Served) (o′ t′ after : List ℕ)

@@ -2,16 +2,18 @@
 -- it was, and leaves both spaces and the reply as they were lent, every byte. The number is the lowest that applies, 0 exactly if none does,
 -- and no other than 0 to 6. Assumes nothing.
 use Prim.Native.Nat.{ℕ, zero, suc}
+use mathlib.Core.Bool.{Bool, true, false, cond}
 use mathlib.Core.List.{List, [], _∷_, List·Memᴰ}
 use mathlib.Core.Path.{_≡_, refl, sym, ap, _∙_, subst}
 use native.Mathlib.Omega.{arith}
+use lib.Dec.{ltb}
 use lib.ListN.{length}
 use Rattle.answers.specs.Numbers.{answerOf}
 use Rattle.answers.proofs.Checks.{Lowest, Positive, Rising, gives-lowest, gives-one-of}
 use Rattle.packet.specs.Fields.{dataOf}
-use Rattle.packet.specs.Request.{requestOf}
+use Rattle.packet.specs.Request.{numberUnder, requestOf}
 use Rattle.board.specs.declared.Served.{Served}
-use Rattle.board.specs.Description.{Board}
+use Rattle.board.specs.Description.{Board, badlyDescribed}
 use Rattle.board.specs.Serving.{serveChecks, serveNumber, byNumber, serve}
 use Rattle.board.specs.Promise.{Seen, shows, Serves}
 use Rattle.board.proofs.Outcomes.{respond-number, refused-is}
@@ -41,6 +43,15 @@ by-number (suc n) d p = refl
 pub outcome-number : (d : Board) (p : List ℕ) (size : ℕ) → serve d p size .number ≡ serveNumber d p size
 unfolding serve
 outcome-number d p size = by-number (serveNumber d p size) d p
+
+-- a packet that is served is without a fault under the board's edition
+past-two : (bad short : Bool) (n : ℕ) → cond bad 1 (cond short 2 n) ≡ 0 → n ≡ 0
+past-two true short n e = absurd (omega (arith, e))
+past-two false true n e = absurd (omega (arith, e))
+past-two false false n e = e
+
+pub sound-served : (d : Board) (p : List ℕ) (size : ℕ) → serveNumber d p size ≡ 0 → numberUnder (d .description .edition) p ≡ 0
+sound-served d p size n = past-two (badlyDescribed d) (ltb size 16) (numberUnder (d .description .edition) p) n
 
 -- ---- a refusal
 

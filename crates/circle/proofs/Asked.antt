@@ -1,5 +1,5 @@
 -- THEOREM. Document 02, 5/13, "What we write must read back as the same request": every accepted request is read by the board's decoder as the
--- same request. Every packet without digest and poison and with its reserved bits clear is what the writer writes for what the decoder reads, so
+-- same request, under every edition (9/13). Every packet without digest and poison and with its reserved bits clear is what the writer writes for what the decoder reads, so
 -- the writer can write exactly these. Assumes nothing.
 use Prim.Native.Nat.{ℕ, _+_, _*_, _/_, _%_, _≤_, _<_}
 use mathlib.Core.Bool.{Bool, true, false, not, cond}
@@ -23,10 +23,10 @@ use Rattle.packet.specs.declared.TypeCode.the-variants.{Known, Unknown}
 use Rattle.packet.specs.declared.Request.{Request}
 use Rattle.packet.specs.declared.Decoded.{Decoded}
 use Rattle.packet.specs.declared.Decoded.the-variants.{Asks}
-use Rattle.packet.specs.Fields.{typeCode, typeOf, poison, wrongField, wholeLength, dataOf}
-use Rattle.packet.specs.Request.{typed, unknown, writesOf, targetOf, packetChecks, packetNumber, requestOf, Decodes}
-use Rattle.packet.proofs.Laws.{number-past, positive, whole-is}
-use Rattle.packet.proofs.Unique.{decode-unique}
+use Rattle.packet.specs.Fields.{typeCode, bit7Set, typeOf, poison, wrongField, wholeLength, dataOf}
+use Rattle.packet.specs.Request.{typed, unknown, writesOf, targetOf, packetChecks, numberUnder, packetNumber, requestOf, DecodesUnder}
+use Rattle.packet.proofs.Laws.{number-past, number-under, clear-accepted, sound-under, positive, whole-is}
+use Rattle.packet.proofs.Unique.{decode-under-unique}
 use Rattle.asking.specs.declared.Parts.{Parts}
 use Rattle.asking.specs.declared.Written.{Written}
 use Rattle.asking.specs.Writing.{outside, asksWrite, headerOf, packetOf, toldWritten, Writes}
@@ -45,27 +45,36 @@ pub record ReadAs (a : Parts) (new packet : List ℕ) (r : Decoded) : Type 0 whe
 -- every accepted request is read by the board's decoder as the same request: kind, fields, offset, enables and data
 abbrev pub AcceptedReadsBack : Type 0
 AcceptedReadsBack =
-    (a : Parts) (new buffer : List ℕ) (w : Written) (after : List ℕ) (r : Decoded) → Writes a new buffer w after
-    → toldWritten w after .number ≡ 0 → Decodes (take (toldWritten w after .count) after) r → ReadAs a new (take (toldWritten w after .count) after) r
+    (edition : ℕ) (a : Parts) (new buffer : List ℕ) (w : Written) (after : List ℕ) (r : Decoded) → Writes a new buffer w after
+    → toldWritten w after .number ≡ 0 → DecodesUnder edition (take (toldWritten w after .count) after) r → ReadAs a new (take (toldWritten w after .count) after) r
 
 -- every packet without digest and with its reserved bits clear is what the writer writes for what the decoder reads. Its poison is clear too:
 -- document 02 gives the writer none
 abbrev pub PlainIsWritten : Type 0
 PlainIsWritten =
-    (p : List ℕ) (q : Request) → Octets p → Decodes p (Asks q) → Plain p → q .poisoned ≡ false
+    (edition : ℕ) (p : List ℕ) (q : Request) → Octets p → DecodesUnder edition p (Asks q) → Plain p → q .poisoned ≡ false
     → (any (outside (partsOf q)) ≡ false) × (packetOf (partsOf q) (dataOf p) ≡ p)
 
 -- so the packets that the writer can write are exactly those that decode and are plain and without poison
 abbrev pub WrittenExactly : Type 0
 WrittenExactly =
-    (p : List ℕ) → Octets p
+    (edition : ℕ) (p : List ℕ) → Octets p
     → ((a : Parts) × (new : List ℕ) × (any (outside a) ≡ false) × (p ≡ packetOf a new))
-    ↔ ((packetNumber p ≡ 0) × Plain p × (poison (byte p 2) ≡ 0))
+    ↔ ((numberUnder edition p ≡ 0) × Plain p × (poison (byte p 2) ≡ 0))
 
 -- ---- the kind and the type
 
 apart : true ≡ false → ⊥
 apart e = let z : _≡_ {A = ℕ} 1 0 = ap (λ (b : Bool). cond b 1 0) e in omega (arith, z)
+
+-- no kind has bit 7
+kind-plain : (writes : Bool) (target : Target) → bit 7 (kindOf writes target) ≡ 0
+kind-plain false Type0 = refl
+kind-plain true Type0 = refl
+kind-plain false Type1 = refl
+kind-plain true Type1 = refl
+kind-plain false Trusted = refl
+kind-plain true Trusted = refl
 
 -- each type has one kind
 kind-is : (code : ℕ) (writes : Bool) (target : Target) → typeOf code ≡ Known writes target → code ≡ kindOf writes target
@@ -237,12 +246,19 @@ module _ (a : Parts) (new : List ℕ) where
     long true = omega arith
     long false = omega arith
 
-    pub packet-number : packetNumber (packetOf a new) ≡ 0
-    packet-number =
+    sound : packetNumber (packetOf a new) ≡ 0
+    sound =
         let i = accepted a e in
         number-past (packetOf a new) (asksWrite a) (targetOf (typeOf (a .kind)))
         (record { long = rw (whole, byte-2) (long (asksWrite a)); known = typed-is ∙ i .known })
         false whole (sym fields-are)
+
+    -- bit 7 is clear, so that no edition refuses it
+    pub packet-number : (edition : ℕ) → numberUnder edition (packetOf a new) ≡ 0
+    packet-number edition =
+        let i = accepted a e in
+        let clear : bit7Set (byte (packetOf a new) 0) ≡ false = rw (byte-0, i .kind, kind-plain (asksWrite a) (targetOf (typeOf (a .kind)))) in
+        number-under edition (packetOf a new) (clear-accepted edition (byte (packetOf a new) 0) clear) ∙ sound
 
     pub request-is : requestOf (packetOf a new) ≡ asked a
     unfolding requestOf asked
@@ -288,21 +304,22 @@ parts-back a e =
       enables = a .enables;
     }
 
-read-as : (a : Parts) (new : List ℕ) (r : Decoded) → any (outside a) ≡ false → Decodes (packetOf a new) r → ReadAs a new (packetOf a new) r
+read-as : (edition : ℕ) (a : Parts) (new : List ℕ) (r : Decoded) → any (outside a) ≡ false → DecodesUnder edition (packetOf a new) r
+    → ReadAs a new (packetOf a new) r
 unfolding asked
-read-as a new r e d =
+read-as edition a new r e d =
     record {
       request = asked a;
-      asks = decode-unique (packetOf a new) r (Asks (asked a)) d (packet-number a new e, sym (request-is a new e));
+      asks = decode-under-unique edition (packetOf a new) r (Asks (asked a)) d (packet-number a new e edition, sym (request-is a new e));
       parts = parts-back a e;
       unpoisoned = refl;
       «data» = data-is a new e;
     }
 
 pub accepted-reads-back : AcceptedReadsBack
-accepted-reads-back a new buffer w after r e z d =
+accepted-reads-back edition a new buffer w after r e z d =
     let s = served-packet a new buffer w after e z in
-    subst (λ (p : List ℕ). ReadAs a new p r) (sym (s .3)) (read-as a new r (s .0) (subst (λ (p : List ℕ). Decodes p r) (s .3) d))
+    subst (λ (p : List ℕ). ReadAs a new p r) (sym (s .3)) (read-as edition a new r (s .0) (subst (λ (p : List ℕ). DecodesUnder edition p r) (s .3) d))
 
 -- ---- a plain packet is written
 
@@ -429,22 +446,14 @@ unpoisoned two e = let h = eqb-false (poison two) 1 e in omega (arith, h)
 
 pub plain-is-written : PlainIsWritten
 unfolding requestOf
-plain-is-written p q octets d plain clean =
+plain-is-written edition p q octets d plain clean =
+    let n = sound-under edition p (d .0) in
     let c : poison (byte p 2) ≡ 0 = unpoisoned (byte p 2) (sym (ap (λ (x : Request). x .poisoned) (d .1)) ∙ clean) in (
-      subst (λ (x : Request). any (outside (partsOf x)) ≡ false) (sym (d .1)) (inside-back p octets (d .0) plain c),
-      subst (λ (x : Request). packetOf (partsOf x) (dataOf p) ≡ p) (sym (d .1)) (packet-back p octets (d .0) plain c),
+      subst (λ (x : Request). any (outside (partsOf x)) ≡ false) (sym (d .1)) (inside-back p octets n plain c),
+      subst (λ (x : Request). packetOf (partsOf x) (dataOf p) ≡ p) (sym (d .1)) (packet-back p octets n plain c),
     )
 
 -- ---- exactly the plain ones
-
--- no kind has bit 7
-kind-plain : (writes : Bool) (target : Target) → bit 7 (kindOf writes target) ≡ 0
-kind-plain false Type0 = refl
-kind-plain true Type0 = refl
-kind-plain false Type1 = refl
-kind-plain true Type1 = refl
-kind-plain false Trusted = refl
-kind-plain true Trusted = refl
 
 written-plain : (a : Parts) (new : List ℕ) → any (outside a) ≡ false → Plain (packetOf a new)
 written-plain a new e =
@@ -459,9 +468,11 @@ written-plain a new e =
     }
 
 pub written-exactly : WrittenExactly
-written-exactly p octets = (
+written-exactly edition p octets = (
   λ h.
-      subst (λ (x : List ℕ). (packetNumber x ≡ 0) × Plain x × (poison (byte x 2) ≡ 0)) (sym (h .3))
-      (packet-number (h .0) (h .1) (h .2), written-plain (h .0) (h .1) (h .2), rw (byte-2 (h .0) (h .1))),
-  λ h. (partsOf (requestOf p), dataOf p, inside-back p octets (h .0) (h .1) (h .2), sym (packet-back p octets (h .0) (h .1) (h .2))),
+      subst (λ (x : List ℕ). (numberUnder edition x ≡ 0) × Plain x × (poison (byte x 2) ≡ 0)) (sym (h .3))
+      (packet-number (h .0) (h .1) (h .2) edition, written-plain (h .0) (h .1) (h .2), rw (byte-2 (h .0) (h .1))),
+  λ h.
+      let n = sound-under edition p (h .0) in
+      (partsOf (requestOf p), dataOf p, inside-back p octets n (h .1) (h .2), sym (packet-back p octets n (h .1) (h .2))),
 )

@@ -54,7 +54,7 @@ holding new = byte new 0 ∷ byte new 1 ∷ byte new 2 ∷ byte new 3 ∷ replic
 abbrev boardOf : ℕ → ℕ → List ℕ → Board
 boardOf high low new =
     record {
-      description = record { function = functionOf low; a = 0x104; b = 0x00c };
+      description = record { function = functionOf low; a = 0x104; b = 0x00c; edition = 1 };
       capture = Number high (deviceOf low);
       ordinary = spaceOf (holding new) zeros zeros;
       trusted = spaceOf zeros zeros zeros;

@@ -253,7 +253,7 @@ module _ (a : Parts) (new : List ℕ) (d : Board) (well : WellDescribed d) (s : 
 
   -- the number, by the room
   number-by : (short : Bool) → ltb room 16 ≡ short → serveNumber d packet room ≡ cond short 2 0
-  number-by short e = rw (well, e, packet-number a new inside)
+  number-by short e = rw (well, e, packet-number a new inside (d .description .edition))
 
   refused-by : ltb room 16 ≡ true → serve d packet room ≡ refused 2 d
   unfolding serve

@@ -53,7 +53,7 @@ module _ (a : Parts) (new : List ℕ) (inside : any (outside a) ≡ false) where
     o = serve d p 16
 
     served-it : o .number ≡ 0
-    served-it = outcome-number d p 16 ∙ rw (well, packet-number a new inside)
+    served-it = outcome-number d p 16 ∙ rw (well, packet-number a new inside (d .description .edition))
 
     served : Served
     served = record { answer = Done; length = length (o .written); capture = o .after .capture }

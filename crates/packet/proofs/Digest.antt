@@ -8,7 +8,7 @@ use lib.ListN.{length, getD, take}
 use lib.Seq.{getD-take}
 use Rattle.words.specs.Bytes.{byte}
 use Rattle.packet.specs.Fields.{typeCode, typeOf, wholeLength, dataOf}
-use Rattle.packet.specs.Request.{typed, writesOf, packetNumber, requestOf}
+use Rattle.packet.specs.Request.{typed, writesOf, numberUnder, requestOf}
 
 -- how many bytes stand before a packet's digest: 12, and 4 data bytes of a write
 abbrev pub beforeDigest : List ℕ → ℕ
@@ -21,7 +21,7 @@ pub record DigestAside (p q : List ℕ) : Type 0 where
 
 -- what is then the same
 pub record SameAsked (p q : List ℕ) : Type 0 where
-  pub numbers : packetNumber p ≡ packetNumber q
+  pub numbers : (edition : ℕ) → numberUnder edition p ≡ numberUnder edition q
   pub requests : requestOf p ≡ requestOf q
   pub «data» : requestOf p .writes ≡ true → dataOf p ≡ dataOf q
 
@@ -39,8 +39,8 @@ module _ (p q : List ℕ) (aside : DigestAside p q) where
   same-typed : typed p ≡ typed q
   same-typed = ap (λ (first : ℕ). typeOf (typeCode first)) (header-byte 0 (omega arith))
 
-  same-number : packetNumber p ≡ packetNumber q
-  same-number =
+  same-number : (edition : ℕ) → numberUnder edition p ≡ numberUnder edition q
+  same-number edition =
       rw (
         aside .sizes,
         header-byte 0 (omega arith),

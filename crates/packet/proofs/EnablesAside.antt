@@ -7,7 +7,7 @@ use lib.ListN.{length}
 use Rattle.words.specs.Bytes.{byte}
 use Rattle.packet.specs.declared.Request.{Request}
 use Rattle.packet.specs.Fields.{lastEnables, dataOf}
-use Rattle.packet.specs.Request.{packetNumber, requestOf}
+use Rattle.packet.specs.Request.{numberUnder, requestOf}
 
 -- two packets that differ in bits 3:0 of byte 7 only
 pub record EnablesAside (p q : List ℕ) : Type 0 where
@@ -33,13 +33,13 @@ enabling q enables =
 
 -- what is then the same
 pub record SameButEnables (p q : List ℕ) : Type 0 where
-  pub numbers : packetNumber p ≡ packetNumber q
+  pub numbers : (edition : ℕ) → numberUnder edition p ≡ numberUnder edition q
   pub requests : enabling (requestOf p) (requestOf q .enables) ≡ requestOf q
   pub «data» : dataOf p ≡ dataOf q
 
 module _ (p q : List ℕ) (aside : EnablesAside p q) where
-  same-number : packetNumber p ≡ packetNumber q
-  same-number =
+  same-number : (edition : ℕ) → numberUnder edition p ≡ numberUnder edition q
+  same-number edition =
       rw (
         aside .sizes,
         aside .bytes 0 (λ e. omega (arith, e)),

@@ -15,7 +15,7 @@ use Rattle.words.specs.Bytes.{byte}
 use Rattle.packet.specs.declared.Target.{Target}
 use Rattle.packet.specs.declared.Target.the-variants.{Type0, Type1, Trusted}
 use Rattle.packet.specs.Fields.{typeCode, bit7Set, refusesBit7, typeOf, digest, lengthField, offsetOf, wholeLength, wrongField}
-use Rattle.packet.specs.Request.{typed, writesOf, numberUnder, packetChecks, packetNumber, requestOf, targetOf, isTrusted, trusted, trustedUnder}
+use Rattle.packet.specs.Request.{typed, writesOf, checksUnder, numberUnder, packetChecks, packetNumber, requestOf, targetOf, isTrusted, trusted, trustedUnder}
 use Rattle.packet.specs.Inner.{KnownHeader}
 
 -- byte 0 without bit 7 is the type code
@@ -115,8 +115,11 @@ unfolding requestOf
 device-inside p = omega arith
 
 -- no check has the number 0
+pub positive-under : (edition : ℕ) (p : List ℕ) → Positive (checksUnder edition p)
+positive-under edition p = omega arith
+
 pub positive : (p : List ℕ) → Positive (packetChecks p)
-positive p = omega arith
+positive p = positive-under 1 p
 
 -- a packet without a fault is as long as its type and digest bit say; a write has its data
 pub whole-is : (p : List ℕ) → packetNumber p ≡ 0 → length p ≡ wholeLength (writesOf (typed p)) (byte p 2)

@@ -193,7 +193,7 @@ read-occurs place enables h = (
   benchAfter zeros zeros,
   reading place enables,
   untouched,
-  read-of place enables (enables-aside (reading place enables) (reading place 0) (aside place enables h) .numbers ∙ sound-none place),
+  read-of place enables (enables-aside (reading place enables) (reading place 0) (aside place enables h) .numbers 1 ∙ sound-none place),
   enables-of place enables h,
 )
 

@@ -9,7 +9,7 @@ use lib.ListN.{length, drop}
 use Rattle.words.specs.Bytes.{byte, put}
 use Rattle.registers.specs.Merge.{enabled}
 use Rattle.packet.specs.declared.Request.{Request}
-use Rattle.packet.specs.Request.{isTrusted, packetNumber, requestOf}
+use Rattle.packet.specs.Request.{isTrusted, numberUnder, requestOf}
 use Rattle.board.specs.declared.Description.{Description}
 use Rattle.board.specs.Description.{Board, WellDescribed}
 use Rattle.board.specs.Access.{unsupported}
@@ -33,7 +33,7 @@ IsAt elsewhere description q = (isTrusted (q .target) ≡ false) × (q .offset �
 pub record Reads (place : Place) (d : Board) (p reply : List ℕ) : Type 0 where
   pub well : WellDescribed d
   pub room : 16 ≤ length reply
-  pub sound : packetNumber p ≡ 0
+  pub sound : numberUnder (d .description .edition) p ≡ 0
   pub reads : requestOf p .writes ≡ false
   pub there : IsAt place (d .description) (requestOf p)
   pub supported : unsupported (d .description) (d .capture) (requestOf p) ≡ false

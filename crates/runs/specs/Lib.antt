@@ -4,3 +4,4 @@ pub mod Bench
 pub mod Servers
 pub mod Clearing
 pub mod Hiding
+pub mod Bit7

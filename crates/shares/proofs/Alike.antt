@@ -1,4 +1,4 @@
--- Serving one packet on two boards that are alike in a view, in the function number and in the capture: if a write leaves them alike and a
+-- Serving one packet on two boards that are alike in a view, in the edition, the function number and the capture: if a write leaves them alike and a
 -- read shows the same of both, then serving answers the same, writes the same reply and leaves them alike. For any view; both halves of
 -- demand 3 use it. Assumes nothing.
 use Prim.Native.Nat.{ℕ, zero, suc}
@@ -10,22 +10,22 @@ use Rattle.answers.specs.Checks.{check, firstThatApplies}
 use Rattle.packet.specs.declared.Id.{Id}
 use Rattle.packet.specs.declared.Request.{Request}
 use Rattle.packet.specs.Fields.{dataOf}
-use Rattle.packet.specs.Request.{packetChecks, requestOf}
+use Rattle.packet.specs.Request.{checksUnder, requestOf}
 use Rattle.packet.specs.declared.Status.{Status}
 use Rattle.packet.specs.declared.Status.the-variants.{Success, Unsupported}
 use Rattle.packet.specs.Completion.{withData, withoutData}
 use Rattle.capture.specs.declared.Capture.{Capture}
-use Rattle.capture.specs.declared.Capture.the-variants.{Nothing, Number}
 use Rattle.capture.specs.Kept.{completer}
-use Rattle.board.specs.declared.Description.{Description}
 use Rattle.board.specs.Description.{Board, WellDescribed}
 use Rattle.board.specs.Access.{unsupported, afterWrite, readWord}
 use Rattle.board.specs.Serving.{Outcome, completerOf, replies, repliesData, respond, serveNumber, byNumber, serve}
+use Rattle.board.proofs.Laws.{unsupported-same}
 use Rattle.board.proofs.Outcomes.{respond-unsupported, respond-write, respond-read, respond-number}
 
 -- two boards that are alike
 pub record Alike {View : Type 0} (view : Board → View) (d e : Board) : Type 0 where
   pub views : view d ≡ view e
+  pub editions : d .description .edition ≡ e .description .edition
   pub functions : d .description .function ≡ e .description .function
   pub captures : d .capture ≡ e .capture
 
@@ -48,16 +48,12 @@ ServedAlike view =
 
 -- ---- the number
 
--- of a well-described board, the number is the packet's and the reply size's alone
-number-same : (d e : Board) (p : List ℕ) (size : ℕ) → WellDescribed d → WellDescribed e → serveNumber d p size ≡ serveNumber e p size
-number-same d e p size w v = ap (λ (b : Bool). firstThatApplies (check 1 b ∷ check 2 (ltb size 16) ∷ packetChecks p)) (w ∙ sym v)
+-- of a well-described board, the number is the packet's and the reply size's alone, under its edition
+number-same : (d e : Board) (p : List ℕ) (size : ℕ) → WellDescribed d → WellDescribed e → d .description .edition ≡ e .description .edition
+    → serveNumber d p size ≡ serveNumber e p size
+number-same d e p size w v n = ap₂ (λ b edition. firstThatApplies (check 1 b ∷ check 2 (ltb size 16) ∷ checksUnder edition p)) (w ∙ sym v) n
 
 -- ---- a request
-
-unsupported-same : (x y : Description) (k : Capture) (q : Request) → x .function ≡ y .function → unsupported x k q ≡ unsupported y k q
-unfolding unsupported
-unsupported-same x y Nothing q f = rw f
-unsupported-same x y (Number bus device) q f = rw f
 
 module _ {View : Type 0} (view : Board → View) (d e : Board) (q : Request) where
   completer-same : Alike view d e → completerOf d ≡ completerOf e
@@ -109,4 +105,4 @@ module _ {View : Type 0} (view : Board → View) (d e : Board) (p : List ℕ) wh
 pub served-alike : {View : Type 0} (view : Board → View) → ServedAlike view
 unfolding serve
 served-alike view d e p size w v a =
-    subst (ByNumber view d e p (serveNumber d p size)) (number-same d e p size w v) (by-number view d e p (serveNumber d p size) a)
+    subst (ByNumber view d e p (serveNumber d p size)) (number-same d e p size w v (a .editions)) (by-number view d e p (serveNumber d p size) a)

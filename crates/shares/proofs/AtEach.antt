@@ -7,10 +7,10 @@ use mathlib.Core.Option.{Option, none, some}
 use mathlib.Core.Path.{_≡_, refl, sym, ap, ap₂, _∙_}
 use Rattle.board.specs.Description.{Board}
 use Rattle.board.specs.Access.{correlation}
-use Rattle.packet.specs.Request.{trusted}
+use Rattle.packet.specs.Request.{trustedUnder}
 use Rattle.runs.specs.Run.{Event, packet, reset, next}
 use Rattle.shares.specs.Kinds.{keep, only, along}
-use Rattle.shares.specs.Views.{ordinaryPacket, ordinaryEvents, isServed, register, correlations, correlationsAtEach}
+use Rattle.shares.specs.Views.{OrdinaryState, editionOf, trustedPacket, ordinaryPacket, ordinaryEvents, isServed, register, correlations, correlationsAtEach}
 use Rattle.shares.specs.Statements.{FirstHalfAtEach}
 use Rattle.shares.proofs.FirstHalf.{first-half}
 
@@ -32,34 +32,47 @@ module _ {State Value Made : Type 0} (counts : Event → Bool) (step : State →
   along-both s (x ∷ es) =
       ap (keep (counts x) (made x (value s x))) (along-both (step s x) es) ∙ both-kept (counts x) x (value s x) (only counts es) (along counts step value (step s x) es)
 
--- the ordinary packets are among the ordinary events
-kept-among : (b : Bool) (x : Event) (es : List Event) → ordinaryPacket x ≡ b → only ordinaryPacket (keep b x es) ≡ keep b x (only ordinaryPacket es)
-kept-among true x es e = rw e
-kept-among false x es e = refl
+module _ (edition : ℕ) where
+  -- the ordinary packets are among the ordinary events
+  kept-among : (b : Bool) (x : Event) (es : List Event) → ordinaryPacket edition x ≡ b
+      → only (ordinaryPacket edition) (keep b x es) ≡ keep b x (only (ordinaryPacket edition) es)
+  kept-among true x es e = rw e
+  kept-among false x es e = refl
 
-packets-among : (es : List Event) → only ordinaryPacket (ordinaryEvents es) ≡ only ordinaryPacket es
-packets-among [] = refl
-packets-among (packet bytes size ∷ es) =
-    kept-among (not (trusted bytes)) (packet bytes size) (ordinaryEvents es) refl ∙ ap (keep (not (trusted bytes)) (packet bytes size)) (packets-among es)
-packets-among (reset ∷ es) = packets-among es
+  packets-among : (es : List Event) → only (ordinaryPacket edition) (only (λ x. not (trustedPacket edition x)) es) ≡ only (ordinaryPacket edition) es
+  packets-among [] = refl
+  packets-among (packet bytes size ∷ es) =
+      kept-among (not (trustedUnder edition bytes)) (packet bytes size) (only (λ x. not (trustedPacket edition x)) es) refl
+      ∙ ap (keep (not (trustedUnder edition bytes)) (packet bytes size)) (packets-among es)
+  packets-among (reset ∷ es) = packets-among es
 
--- what is asked where a packet is served
-abbrev asked : Event → List ℕ → Option (List ℕ)
-asked (packet bytes size) value = cond (isServed bytes size) (some value) none
-asked reset value = none
+  -- what is asked where a packet is served
+  abbrev asked : Event → List ℕ → Option (List ℕ)
+  asked (packet bytes size) value = cond (isServed edition bytes size) (some value) none
+  asked reset value = none
 
-register-is : (d : Board) (x : Event) → register d x ≡ asked x (correlation d)
-register-is d (packet bytes size) = refl
-register-is d reset = refl
+  register-is : (d : Board) (x : Event) → register edition d x ≡ asked x (correlation d)
+  register-is d (packet bytes size) = refl
+  register-is d reset = refl
 
-correlations-are : (d : Board) (es : List Event) → correlations d es ≡ both asked (only ordinaryPacket es) (correlationsAtEach d es)
+  registers-are : (d : Board) (es : List Event)
+      → along (ordinaryPacket edition) next (register edition) d es
+      ≡ both asked (only (ordinaryPacket edition) es) (along (ordinaryPacket edition) next (λ x e. correlation x) d es)
+  registers-are d es =
+      ap (λ (value : Board → Event → Option (List ℕ)). along (ordinaryPacket edition) next value d es) (λ i x e. register-is x e i)
+      ∙ along-both (ordinaryPacket edition) next (λ x e. correlation x) asked d es
+
+-- by the ordinary packets of a run, under its board's edition
+correlations-are : (d : Board) (es : List Event)
+    → correlations d es ≡ both (asked (editionOf d)) (only (ordinaryPacket (editionOf d)) (ordinaryEvents d es)) (correlationsAtEach d es)
 correlations-are d es =
-    ap (λ (value : Board → Event → Option (List ℕ)). along ordinaryPacket next value d es) (λ i x e. register-is x e i)
-    ∙ along-both ordinaryPacket next (λ x e. correlation x) asked d es
+    registers-are (editionOf d) d es
+    ∙ ap (λ (l : List Event). both (asked (editionOf d)) l (correlationsAtEach d es)) (sym (packets-among (editionOf d) es))
 
 pub first-half-at-each : FirstHalfAtEach
 first-half-at-each d e es fs w u v o k =
+    let n : editionOf d ≡ editionOf e = ap (λ (s : OrdinaryState). s .edition) v in
     first-half d e es fs w u v o
     (correlations-are d es
-    ∙ ap₂ (both asked) (sym (packets-among es) ∙ ap (only ordinaryPacket) o ∙ packets-among fs) k
+    ∙ (λ i. both (asked (n i)) (only (ordinaryPacket (n i)) (o i)) (k i))
     ∙ sym (correlations-are e fs))

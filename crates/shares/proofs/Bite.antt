@@ -2,11 +2,11 @@
 -- first half's premises, and in A, so by the half in both, an ordinary read at A is answered with the data in the register, not with the stale bytes there, and one of
 -- the status with the bits that a write has left. Runs C and D differ in A, B, ordinary bytes, rules and marks, capture and the number of
 -- ordinary packets and resets, meet the second half's premises, and in C, so in both, a trusted read is answered with the data written before, and one of
--- the trusted status with the bits that are left. Assumes nothing.
+-- the trusted status with the bits that are left. The same under edition 2, with trusted codes whose bit 7 is set among the packets: they are compared as
+-- ordinary ones. Assumes nothing.
 use Prim.Native.Nat.{ℕ}
 use mathlib.Core.Bool.{false}
 use mathlib.Core.List.{List, [], _∷_, _++_}
-use mathlib.Core.Option.{Option}
 use mathlib.Core.Path.{_≡_, refl, sym, ap, _∙_}
 use lib.Dec.{eqb}
 use lib.ListN.{length}
@@ -17,11 +17,11 @@ use Rattle.capture.specs.declared.Capture.the-variants.{Nothing, Number}
 use Rattle.board.specs.Description.{Board, WellDescribed}
 use Rattle.board.proofs.Computing.{computing}
 use Rattle.runs.specs.Run.{Event}
-use Rattle.shares.specs.Kinds.{only, along}
-use Rattle.shares.specs.Views.{Sight, sightAt, register, ordinaryPacket, trustedPacket, ordinaryState, trustedState, ordinaryEvents, trustedPackets, ordinarySights, trustedSights, correlations, captures}
+use Rattle.shares.specs.Kinds.{only}
+use Rattle.shares.specs.Views.{Sight, editionOf, ordinaryPacket, ordinaryState, trustedState, ordinaryEvents, trustedPackets, ordinarySights, trustedSights, correlations, captures}
 use Rattle.shares.proofs.Needed.{nth, isReset}
-use Rattle.shares.proofs.Quickly.{quickNext, quickSight, sight-same, along-same}
-use Rattle.shares.proofs.Examples.{boardA, boardB, boardC, boardD, runA, runB, runC, runD}
+use Rattle.shares.proofs.Quickly.{quickRegisters, quickCaptures, quickOrdinary, quickTrusted, registers-quickly, captures-quickly, ordinary-quickly, trusted-quickly}
+use Rattle.shares.proofs.Examples.{boardA, boardB, boardC, boardD, runA, runB, runC, runD, boardA2, boardB2, boardC2, boardD2, runA2, runB2, runC2, runD2}
 
 -- two values that a number tells apart
 abbrev pub Apart : {A : Type 0} → A → A → Type 0
@@ -36,13 +36,13 @@ completed id tag new = (0x4a ∷ 0x00 ∷ 0x00 ∷ 0x01 ∷ []) ++ id ++ (0x00 �
 pub record FirstHalfBites : Type 0 where
   pub well : WellDescribed boardA × WellDescribed boardB
   pub states : ordinaryState boardA ≡ ordinaryState boardB
-  pub events : ordinaryEvents runA ≡ ordinaryEvents runB
+  pub events : ordinaryEvents boardA runA ≡ ordinaryEvents boardB runB
   pub registers : correlations boardA runA ≡ correlations boardB runB
   pub differentB : Apart (boardA .description .b) (boardB .description .b)
   pub differentBytes : Apart (boardA .trusted .bytes) (boardB .trusted .bytes)
   pub differentRules : Apart (boardA .trusted .rules) (boardB .trusted .rules)
   pub differentMarks : Apart (boardA .trusted .marks) (boardB .trusted .marks)
-  pub differentPackets : (length (trustedPackets runA) ≡ 1) × (length (trustedPackets runB) ≡ 5)
+  pub differentPackets : (length (trustedPackets boardA runA) ≡ 1) × (length (trustedPackets boardB runB) ≡ 5)
   pub reply : nth 2 (ordinarySights boardA runA) .written ≡ completed (0x05 ∷ 0x18 ∷ []) 0x09 (0x5a ∷ 0x6b ∷ 0x7c ∷ 0x8d ∷ [])
   pub cleared : nth 3 (ordinarySights boardA runA) .written ≡ completed (0x00 ∷ 0x00 ∷ []) 0x09 (0xee ∷ 0xdd ∷ 0xcc ∷ 0xbb ∷ [])
 
@@ -50,7 +50,7 @@ pub record FirstHalfBites : Type 0 where
 pub record SecondHalfBites : Type 0 where
   pub well : WellDescribed boardC × WellDescribed boardD
   pub states : trustedState boardC ≡ trustedState boardD
-  pub packets : trustedPackets runC ≡ trustedPackets runD
+  pub packets : trustedPackets boardC runC ≡ trustedPackets boardD runD
   pub captured : captures boardC runC ≡ captures boardD runD
   pub differentA : Apart (boardC .description .a) (boardD .description .a)
   pub differentB : Apart (boardC .description .b) (boardD .description .b)
@@ -58,10 +58,35 @@ pub record SecondHalfBites : Type 0 where
   pub differentRules : Apart (boardC .ordinary .rules) (boardD .ordinary .rules)
   pub differentMarks : Apart (boardC .ordinary .marks) (boardD .ordinary .marks)
   pub differentCapture : Apart (boardC .capture) (boardD .capture)
-  pub differentEvents : (length (ordinaryEvents runC) ≡ 1) × (length (ordinaryEvents runD) ≡ 7)
+  pub differentEvents : (length (ordinaryEvents boardC runC) ≡ 1) × (length (ordinaryEvents boardD runD) ≡ 7)
   pub differentResets : (length (only isReset runC) ≡ 0) × (length (only isReset runD) ≡ 2)
   pub reply : nth 1 (trustedSights boardC runC) .written ≡ completed (0x05 ∷ 0x18 ∷ []) 0x08 (0x5a ∷ 0x6b ∷ 0x7c ∷ 0x8d ∷ [])
   pub cleared : nth 3 (trustedSights boardC runC) .written ≡ completed (0x05 ∷ 0x18 ∷ []) 0x08 (0xee ∷ 0xdd ∷ 0xcc ∷ 0xbb ∷ [])
+
+-- and under edition 2, with trusted codes whose bit 7 is set, which count as ordinary. First half: the n-th of them is compared too; it is the second
+-- ordinary packet in both, is answered 4, and leaves the register as it was
+pub record FirstHalfBitesUnderTwo : Type 0 where
+  pub editions : (editionOf boardA2 ≡ 2) × (editionOf boardB2 ≡ 2)
+  pub well : WellDescribed boardA2 × WellDescribed boardB2
+  pub states : ordinaryState boardA2 ≡ ordinaryState boardB2
+  pub events : ordinaryEvents boardA2 runA2 ≡ ordinaryEvents boardB2 runB2
+  pub registers : correlations boardA2 runA2 ≡ correlations boardB2 runB2
+  pub ordinaryOnes : (length (only (ordinaryPacket 2) runA2) ≡ 3) × (length (only (ordinaryPacket 2) runB2) ≡ 3)
+  pub differentPackets : (length (trustedPackets boardA2 runA2) ≡ 1) × (length (trustedPackets boardB2 runB2) ≡ 2)
+  pub bit7 : (nth 1 (ordinarySights boardA2 runA2) .number ≡ 4) × (nth 1 (ordinarySights boardA2 runA2) .written ≡ [])
+  pub reply : nth 2 (ordinarySights boardA2 runA2) .written ≡ completed (0x05 ∷ 0x18 ∷ []) 0x09 (0x5a ∷ 0x6b ∷ 0x7c ∷ 0x8d ∷ [])
+
+-- second half: one run has such a packet, a write, between a trusted write and a trusted read of one place, and the other has none. Under edition 1 it
+-- would be a trusted packet, and the two runs would not have the same ones
+pub record SecondHalfBitesUnderTwo : Type 0 where
+  pub editions : (editionOf boardC2 ≡ 2) × (editionOf boardD2 ≡ 2)
+  pub well : WellDescribed boardC2 × WellDescribed boardD2
+  pub states : trustedState boardC2 ≡ trustedState boardD2
+  pub packets : trustedPackets boardC2 runC2 ≡ trustedPackets boardD2 runD2
+  pub captured : captures boardC2 runC2 ≡ captures boardD2 runD2
+  pub differentEvents : (length (ordinaryEvents boardC2 runC2) ≡ 1) × (length (ordinaryEvents boardD2 runD2) ≡ 2)
+  pub underOne : Apart (trustedPackets boardC runC2) (trustedPackets boardD runD2)
+  pub reply : nth 1 (trustedSights boardC2 runC2) .written ≡ completed (0x05 ∷ 0x18 ∷ []) 0x08 (0x5a ∷ 0x6b ∷ 0x7c ∷ 0x8d ∷ [])
 
 apart : {A : Type 0} {x y : A} (tell : A → ℕ) → eqb (tell x) (tell y) ≡ false → Apart x y
 apart tell differ e = eqb-false _ _ differ (ap tell e)
@@ -70,6 +95,9 @@ apart tell differ e = eqb-false _ _ differ (ap tell e)
 abbrev bus : Capture → ℕ
 bus Nothing = 0
 bus (Number b device) = b
+
+abbrev written : Sight → List ℕ
+written s = s .written
 
 -- ---- the boards are well described, and so the runs are computed without a look at that at each packet
 
@@ -89,49 +117,36 @@ well-d : WellDescribed boardD
 unfolding computing
 well-d = refl
 
-abbrev quickRegisters : Board → List Event → List (Option (List ℕ))
-quickRegisters d es = along ordinaryPacket quickNext register d es
-
-registers-computed : quickRegisters boardA runA ≡ quickRegisters boardB runB
+well-a2 : WellDescribed boardA2
 unfolding computing
-registers-computed = refl
+well-a2 = refl
 
-first-registers : correlations boardA runA ≡ correlations boardB runB
-first-registers = quickly boardA runA well-a ∙ registers-computed ∙ sym (quickly boardB runB well-b)
-  where
-    quickly : (d : Board) (es : List Event) → WellDescribed d → correlations d es ≡ quickRegisters d es
-    quickly = along-same ordinaryPacket register register (λ d x w. refl)
-
-abbrev quickCaptures : Board → List Event → List Capture
-quickCaptures d es = along trustedPacket quickNext (λ x event. x .capture) d es
-
-captures-computed : quickCaptures boardC runC ≡ quickCaptures boardD runD
+well-b2 : WellDescribed boardB2
 unfolding computing
-captures-computed = refl
+well-b2 = refl
 
-second-captured : captures boardC runC ≡ captures boardD runD
-second-captured = quickly boardC runC well-c ∙ captures-computed ∙ sym (quickly boardD runD well-d)
-  where
-    quickly : (d : Board) (es : List Event) → WellDescribed d → captures d es ≡ quickCaptures d es
-    quickly = along-same trustedPacket (λ x event. x .capture) (λ x event. x .capture) (λ d x w. refl)
+well-c2 : WellDescribed boardC2
+unfolding computing
+well-c2 = refl
 
--- the replies to the n-th packet of either kind
-module _ (n : ℕ) where
-  abbrev quickOrdinary : List ℕ
-  quickOrdinary = nth n (along ordinaryPacket quickNext (quickSight (λ x. x .ordinary)) boardA runA) .written
+well-d2 : WellDescribed boardD2
+unfolding computing
+well-d2 = refl
 
-  first-replied : nth n (ordinarySights boardA runA) .written ≡ quickOrdinary
-  first-replied =
-      ap (λ (l : List Sight). nth n l .written)
-      (along-same ordinaryPacket (sightAt (λ x. x .ordinary)) (quickSight (λ x. x .ordinary)) (sight-same (λ x. x .ordinary)) boardA runA well-a)
+registers-agree : (d e : Board) (es fs : List Event) → WellDescribed d → WellDescribed e → quickRegisters d es ≡ quickRegisters e fs
+    → correlations d es ≡ correlations e fs
+registers-agree d e es fs w u k = registers-quickly d es w ∙ k ∙ sym (registers-quickly e fs u)
 
-  abbrev quickTrusted : List ℕ
-  quickTrusted = nth n (along trustedPacket quickNext (quickSight (λ x. x .trusted)) boardC runC) .written
+captures-agree : (d e : Board) (es fs : List Event) → WellDescribed d → WellDescribed e → quickCaptures d es ≡ quickCaptures e fs
+    → captures d es ≡ captures e fs
+captures-agree d e es fs w u k = captures-quickly d es w ∙ k ∙ sym (captures-quickly e fs u)
 
-  second-replied : nth n (trustedSights boardC runC) .written ≡ quickTrusted
-  second-replied =
-      ap (λ (l : List Sight). nth n l .written)
-      (along-same trustedPacket (sightAt (λ x. x .trusted)) (quickSight (λ x. x .trusted)) (sight-same (λ x. x .trusted)) boardC runC well-c)
+-- the n-th sight of either kind
+ordinary-nth : (n : ℕ) (d : Board) (es : List Event) → WellDescribed d → nth n (ordinarySights d es) ≡ nth n (quickOrdinary d es)
+ordinary-nth n d es w = ap (nth n) (ordinary-quickly d es w)
+
+trusted-nth : (n : ℕ) (d : Board) (es : List Event) → WellDescribed d → nth n (trustedSights d es) ≡ nth n (quickTrusted d es)
+trusted-nth n d es w = ap (nth n) (trusted-quickly d es w)
 
 pub first-half-bites : FirstHalfBites
 unfolding computing
@@ -140,14 +155,14 @@ first-half-bites =
       well = (well-a, well-b);
       states = refl;
       events = refl;
-      registers = first-registers;
+      registers = registers-agree boardA boardB runA runB well-a well-b refl;
       differentB = apart (λ n. n) refl;
       differentBytes = apart (λ l. byte l 0x010) refl;
       differentRules = apart (λ l. byte l 0x010) refl;
       differentMarks = apart (λ l. byte l 0x008) refl;
       differentPackets = (refl, refl);
-      reply = first-replied 2;
-      cleared = first-replied 3;
+      reply = ap written (ordinary-nth 2 boardA runA well-a);
+      cleared = ap written (ordinary-nth 3 boardA runA well-a);
     }
 
 pub second-half-bites : SecondHalfBites
@@ -157,7 +172,7 @@ second-half-bites =
       well = (well-c, well-d);
       states = refl;
       packets = refl;
-      captured = second-captured;
+      captured = captures-agree boardC boardD runC runD well-c well-d refl;
       differentA = apart (λ n. n) refl;
       differentB = apart (λ n. n) refl;
       differentBytes = apart (λ l. byte l 0x004) refl;
@@ -166,6 +181,35 @@ second-half-bites =
       differentCapture = apart bus refl;
       differentEvents = (refl, refl);
       differentResets = (refl, refl);
-      reply = second-replied 1;
-      cleared = second-replied 3;
+      reply = ap written (trusted-nth 1 boardC runC well-c);
+      cleared = ap written (trusted-nth 3 boardC runC well-c);
+    }
+
+pub first-half-bites-under-two : FirstHalfBitesUnderTwo
+unfolding computing
+first-half-bites-under-two =
+    record {
+      editions = (refl, refl);
+      well = (well-a2, well-b2);
+      states = refl;
+      events = refl;
+      registers = registers-agree boardA2 boardB2 runA2 runB2 well-a2 well-b2 refl;
+      ordinaryOnes = (refl, refl);
+      differentPackets = (refl, refl);
+      bit7 = let s = ordinary-nth 1 boardA2 runA2 well-a2 in (ap (λ (x : Sight). x .number) s, ap written s);
+      reply = ap written (ordinary-nth 2 boardA2 runA2 well-a2);
+    }
+
+pub second-half-bites-under-two : SecondHalfBitesUnderTwo
+unfolding computing
+second-half-bites-under-two =
+    record {
+      editions = (refl, refl);
+      well = (well-c2, well-d2);
+      states = refl;
+      packets = refl;
+      captured = captures-agree boardC2 boardD2 runC2 runD2 well-c2 well-d2 refl;
+      differentEvents = (refl, refl);
+      underOne = apart length refl;
+      reply = ap written (trusted-nth 1 boardC2 runC2 well-c2);
     }

@@ -1,5 +1,6 @@
 -- Demand 3 of the entries: any calls of `board::serve` and `board::reset` that meet their promises obey both halves, in what the calls
 -- themselves showed and the caller then holds. Assumes nothing.
+use Prim.Native.Nat.{ℕ}
 use mathlib.Core.Bool.{Bool}
 use mathlib.Core.List.{List, [], _∷_}
 use mathlib.Core.Path.{_≡_, refl, sym, ap, ap₂, _∙_}
@@ -12,7 +13,7 @@ use Rattle.runs.specs.Run.{Event, next, after}
 use Rattle.runs.specs.Calls.{Call, called, wasReset, eventOf, eventsOf, holds, held, Meets, AllMeet}
 use Rattle.runs.proofs.Calls.{calls-give-run}
 use Rattle.shares.specs.Kinds.{keep, along}
-use Rattle.shares.specs.Views.{ordinaryPacket, trustedPacket, ordinaryEvents, trustedPackets, ordinaryState, trustedState, outcome, sightAt, register}
+use Rattle.shares.specs.Views.{editionOf, ordinaryPacket, trustedPacket, ordinaryEvents, trustedPackets, ordinaryState, trustedState, outcome, sightAt, register}
 use Rattle.shares.specs.Calls.{answered, wrote, showed, heldRegister, alongCalls, FirstHalfOfCalls, SecondHalfOfCalls}
 use Rattle.shares.proofs.Half.{Half}
 use Rattle.shares.proofs.FirstHalf.{first-half}
@@ -59,13 +60,24 @@ along-calls counts value ofCall is d (c ∷ cs) m =
 
 -- ---- either half
 
-module _ {State Common Shared : Type 0} (counts : Event → Bool) (state : Board → State) (common : List Event → Common) (space : Board → Space)
-    (cell : Board → Event → Shared) (ofCall : Board → Call → Shared) (is : (d : Board) (c : Call) → Meets d c → ofCall d c ≡ cell d (eventOf c)) where
-  of-calls : Half (λ d es. WellDescribed d) state common (along counts next cell) (along counts next (sightAt space)) after
-      → Half (λ d cs. WellDescribed d × AllMeet d cs) state (λ cs. common (eventsOf cs)) (alongCalls counts ofCall) (alongCalls counts (showed space)) held
+module _ {State Common Shared : Type 0} (counts : ℕ → Event → Bool) (state : Board → State) (common : Board → List Event → Common) (space : Board → Space)
+    (cell : ℕ → Board → Event → Shared) (ofCall : ℕ → Board → Call → Shared)
+    (is : (n : ℕ) (d : Board) (c : Call) → Meets d c → ofCall n d c ≡ cell n d (eventOf c)) where
+  -- what is asked and shown over a run, and over a row of calls, under the edition of the board at its start
+  abbrev Runs : Type 0
+  Runs =
+      Half (λ d es. WellDescribed d) state common (λ d. along (counts (editionOf d)) next (cell (editionOf d)) d)
+      (λ d. along (counts (editionOf d)) next (sightAt space) d) after
+
+  abbrev Rows : Type 0
+  Rows =
+      Half (λ d cs. WellDescribed d × AllMeet d cs) state (λ d cs. common d (eventsOf cs)) (λ d. alongCalls (counts (editionOf d)) (ofCall (editionOf d)) d)
+      (λ d. alongCalls (counts (editionOf d)) (showed space) d) held
+
+  of-calls : Runs → Rows
   of-calls half d e cs gs wd we v o k =
-      let shared = along-calls counts cell ofCall is in
-      let shown = along-calls counts (sightAt space) (showed space) (showed-is space) in
+      let shared = λ (b : Board). along-calls (counts (editionOf b)) (cell (editionOf b)) (ofCall (editionOf b)) (is (editionOf b)) b in
+      let shown = λ (b : Board). along-calls (counts (editionOf b)) (sightAt space) (showed space) (showed-is space) b in
       let r = half d e (eventsOf cs) (eventsOf gs) (wd .0) (we .0) v o (sym (shared d cs (wd .1)) ∙ k ∙ shared e gs (we .1)) in (
         shown d cs (wd .1) ∙ r .0 ∙ sym (shown e gs (we .1)),
         ap state (calls-give-run d cs (wd .1) .0) ∙ r .1 ∙ sym (ap state (calls-give-run e gs (we .1) .0)),
@@ -73,6 +85,6 @@ module _ {State Common Shared : Type 0} (counts : Event → Bool) (state : Board
 
 pub both-halves-of-calls : BothHalvesOfCalls
 both-halves-of-calls = (
-  of-calls ordinaryPacket ordinaryState ordinaryEvents (λ x. x .ordinary) register heldRegister (λ d c m. refl) first-half,
-  of-calls trustedPacket trustedState trustedPackets (λ x. x .trusted) (λ d x. d .capture) (λ d c. d .capture) (λ d c m. refl) second-half,
+  of-calls ordinaryPacket ordinaryState ordinaryEvents (λ x. x .ordinary) register heldRegister (λ n d c m. refl) first-half,
+  of-calls trustedPacket trustedState trustedPackets (λ x. x .trusted) (λ n d x. d .capture) (λ n d c. d .capture) (λ n d c m. refl) second-half,
 )

@@ -1,11 +1,12 @@
--- Packets, boards and runs for the examples: runs A and B of the first half, C and D of the second (docs/SHARED.md shows A and B).
+-- Packets, boards and runs for the examples: runs A and B of the first half, C and D of the second (docs/SHARED.md shows A and B), and each under
+-- edition 2 with packets whose bit 7 is set (02, 9/13).
 -- Assumes nothing.
 use Prim.Native.Nat.{ℕ}
 use mathlib.Core.List.{List, [], _∷_, _++_}
 use Rattle.words.specs.Bytes.{put}
 use Rattle.capture.specs.declared.Capture.{Capture}
 use Rattle.capture.specs.declared.Capture.the-variants.{Nothing, Number}
-use Rattle.board.specs.Description.{Space, Board}
+use Rattle.board.specs.Description.{Space, Board, withEdition}
 use Rattle.runs.specs.Run.{Event, packet, reset}
 use Rattle.runs.specs.Bench.{zeros, holding, benchRules, p2, readAt, changed}
 
@@ -27,10 +28,10 @@ ones = 0xff ∷ 0xff ∷ 0xff ∷ 0xff ∷ []
 
 -- ---- boards
 
--- by the function number, A and B, the capture, and the ordinary and the trusted space
+-- of edition 1, by the function number, A and B, the capture, and the ordinary and the trusted space
 abbrev pub boardOf : ℕ → ℕ → ℕ → Capture → Space → Space → Board
 boardOf function a b kept ordinary trusted =
-    record { description = record { function = function; a = a; b = b }; capture = kept; ordinary = ordinary; trusted = trusted }
+    record { description = record { function = function; a = a; b = b; edition = 1 }; capture = kept; ordinary = ordinary; trusted = trusted }
 
 -- a space without marks, and a space with four bytes of status at 008h: FFh, each bit of which is cleared by writing 1
 abbrev pub plain : List ℕ → List ℕ → Space
@@ -121,4 +122,47 @@ runD =
     ∷ sent (trustedReadAt 0x00 0x10)
     ∷ sent (trustedWriteAt 0x0f 0x00 0x08 (0x11 ∷ 0x22 ∷ 0x33 ∷ 0x44 ∷ []))
     ∷ sent (trustedReadAt 0x00 0x08)
+    ∷ []
+
+-- ---- under edition 2: A and B, C and D, with trusted codes whose bit 7 is set among the packets
+
+-- a trusted write, and then one whose bit 7 is set, of other data to the same place
+abbrev pub bit7Write : ℕ → List ℕ
+bit7Write eleven = changed (trustedWriteAt 0x0f 0x00 eleven (0xd1 ∷ 0xd2 ∷ 0xd3 ∷ 0xd4 ∷ [])) 0 0xdb
+
+abbrev pub boardA2 : Board
+boardA2 = withEdition boardA 2
+
+abbrev pub boardB2 : Board
+boardB2 = withEdition boardB 2
+
+-- the same write with bit 7 in both, to where the register of one is, and a read at A
+abbrev pub runA2 : List Event
+runA2 = sent p2 ∷ sent (trustedWriteAt 0x0f 0x00 0x0c (0x5a ∷ 0x6b ∷ 0x7c ∷ 0x8d ∷ [])) ∷ sent (bit7Write 0x0c) ∷ sent (readAt 0x01 0x04) ∷ []
+
+abbrev pub runB2 : List Event
+runB2 =
+    sent p2
+    ∷ sent (trustedWriteAt 0x03 0x00 0x10 (0x5a ∷ 0x6b ∷ 0x00 ∷ 0x00 ∷ []))
+    ∷ sent (trustedWriteAt 0x0c 0x00 0x10 (0x00 ∷ 0x00 ∷ 0x7c ∷ 0x8d ∷ []))
+    ∷ sent (bit7Write 0x0c)
+    ∷ sent (readAt 0x01 0x04)
+    ∷ []
+
+abbrev pub boardC2 : Board
+boardC2 = withEdition boardC 2
+
+abbrev pub boardD2 : Board
+boardD2 = withEdition boardD 2
+
+-- the write with bit 7 in one of them alone, between a trusted write and a trusted read of the same place
+abbrev pub runC2 : List Event
+runC2 = sent p2 ∷ sent (trustedWriteAt 0x0f 0x00 0x10 (0x5a ∷ 0x6b ∷ 0x7c ∷ 0x8d ∷ [])) ∷ sent (trustedReadAt 0x00 0x10) ∷ []
+
+abbrev pub runD2 : List Event
+runD2 =
+    sent p2
+    ∷ sent (trustedWriteAt 0x0f 0x00 0x10 (0x5a ∷ 0x6b ∷ 0x7c ∷ 0x8d ∷ []))
+    ∷ sent (bit7Write 0x10)
+    ∷ sent (trustedReadAt 0x00 0x10)
     ∷ []

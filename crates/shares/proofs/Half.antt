@@ -6,8 +6,8 @@ use mathlib.Core.Path.{_≡_}
 use Rattle.board.specs.Description.{Board}
 use Rattle.shares.specs.Views.{Sight}
 
-abbrev pub Half : {Step State Common Shared : Type 0} (fit : Board → List Step → Type 0) (state : Board → State) (common : List Step → Common)
+abbrev pub Half : {Step State Common Shared : Type 0} (fit : Board → List Step → Type 0) (state : Board → State) (common : Board → List Step → Common)
     (shared : Board → List Step → Shared) (shown : Board → List Step → List Sight) (final : Board → List Step → Board) → Type 0
 Half {Step} fit state common shared shown final =
-    (d e : Board) (es fs : List Step) → fit d es → fit e fs → state d ≡ state e → common es ≡ common fs → shared d es ≡ shared e fs
+    (d e : Board) (es fs : List Step) → fit d es → fit e fs → state d ≡ state e → common d es ≡ common e fs → shared d es ≡ shared e fs
     → (shown d es ≡ shown e fs) × (state (final d es) ≡ state (final e fs))

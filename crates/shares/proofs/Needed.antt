@@ -3,7 +3,7 @@
 -- trusted packet alone disagree in a trusted answer. So the two spaces do share something. Assumes nothing.
 use Prim.Native.Nat.{ℕ}
 use mathlib.Core.Bool.{Bool, true, false, not}
-use mathlib.Core.List.{List, [], _∷_, map}
+use mathlib.Core.List.{List, [], _∷_, _++_, map}
 use mathlib.Core.Option.{Option}
 use mathlib.Core.Path.{_≡_, refl, ap}
 use lib.Dec.{eqb}
@@ -12,7 +12,7 @@ use borrow.Author.Tests.{eqb-false}
 use Rattle.words.specs.Bytes.{byte}
 use Rattle.capture.specs.declared.Capture.{Capture}
 use Rattle.capture.specs.declared.Capture.the-variants.{Nothing, Number}
-use Rattle.board.specs.Description.{Space, Board, WellDescribed}
+use Rattle.board.specs.Description.{Space, Board, withEdition, WellDescribed}
 use Rattle.runs.specs.Run.{Event, packet, reset, after}
 use Rattle.runs.specs.Bench.{zeros, holding, benchRules, p1, p2, readAt, changed}
 use Rattle.board.proofs.Computing.{computing}
@@ -28,7 +28,7 @@ use Rattle.shares.proofs.Examples.{trustedReadAt, trustedWriteAt, sent,
 -- what a half is about: a state, the events that are compared, the shared value at each of them, what is shown
 pub record About (State Shared : Type 0) : Type 0 where
   pub state : Board → State
-  pub events : List Event → List Event
+  pub events : Board → List Event → List Event
   pub cells : Board → List Event → Shared
   pub shows : Board → List Event → List Sight
 
@@ -41,7 +41,7 @@ trusted = record { state = trustedState; events = trustedPackets; cells = captur
 -- a half of demand 3 that asks something of each board, and compares a part of the states, of the events and of the shared values
 abbrev pub Asking : {State Shared S E C : Type 0} → About State Shared → (Board → Type 0) → (State → S) → (List Event → E) → (Shared → C) → Type 0
 Asking half fit states events shared =
-    Half (λ d es. fit d) (λ d. states (half .state d)) (λ es. events (half .events es)) (λ d es. shared (half .cells d es)) (half .shows) after
+    Half (λ d es. fit d) (λ d. states (half .state d)) (λ d es. events (half .events d es)) (λ d es. shared (half .cells d es)) (half .shows) after
 
 -- the whole is compared, or nothing
 abbrev pub whole : {A : Type 0} → A → A
@@ -51,14 +51,17 @@ abbrev pub nothing : {A : Type 0} → A → Unit {0}
 nothing x = tt
 
 -- a state but for one part
+abbrev pub butEdition : OrdinaryState → OrdinaryState
+butEdition s = record { edition = 0; function = s .function; a = s .a; space = s .space; capture = s .capture }
+
 abbrev pub butFunction : OrdinaryState → OrdinaryState
-butFunction s = record { function = 0; a = s .a; space = s .space; capture = s .capture }
+butFunction s = record { edition = s .edition; function = 0; a = s .a; space = s .space; capture = s .capture }
 
 abbrev pub butA : OrdinaryState → OrdinaryState
-butA s = record { function = s .function; a = 0; space = s .space; capture = s .capture }
+butA s = record { edition = s .edition; function = s .function; a = 0; space = s .space; capture = s .capture }
 
 abbrev pub butCapture : OrdinaryState → OrdinaryState
-butCapture s = record { function = s .function; a = s .a; space = s .space; capture = Nothing }
+butCapture s = record { edition = s .edition; function = s .function; a = s .a; space = s .space; capture = Nothing }
 
 abbrev pub butBytes : Space → Space
 butBytes s = record { bytes = []; rules = s .rules; marks = s .marks }
@@ -70,13 +73,13 @@ abbrev pub butMarks : Space → Space
 butMarks s = record { bytes = s .bytes; rules = s .rules; marks = [] }
 
 abbrev pub inOrdinary : (Space → Space) → OrdinaryState → OrdinaryState
-inOrdinary but s = record { function = s .function; a = s .a; space = but (s .space); capture = s .capture }
+inOrdinary but s = record { edition = s .edition; function = s .function; a = s .a; space = but (s .space); capture = s .capture }
 
 abbrev pub butTrustedFunction : TrustedState → TrustedState
-butTrustedFunction s = record { function = 0; space = s .space }
+butTrustedFunction s = record { edition = s .edition; function = 0; space = s .space }
 
 abbrev pub inTrusted : (Space → Space) → TrustedState → TrustedState
-inTrusted but s = record { function = s .function; space = but (s .space) }
+inTrusted but s = record { edition = s .edition; function = s .function; space = but (s .space) }
 
 -- events but for the packets' bytes, but for the reply sizes, or but for where the resets stand between the packets
 abbrev pub isReset : Event → Bool
@@ -94,12 +97,13 @@ noSize reset = reset
 abbrev pub butPlaces : List Event → List Event × List Event
 butPlaces es = (only (λ e. not (isReset e)) es, only isReset es)
 
--- the first half holds with all that it asks, and with one thing less it is false: the correlation register; the function number, A, the
+-- the first half holds with all that it asks, and with one thing less it is false: the correlation register; the edition, the function number, A, the
 -- ordinary bytes, rules and marks, the capture; the packets, their reply sizes, the order of the resets; that both are well described
 abbrev pub FirstPremisesNeeded : Type 0
 FirstPremisesNeeded =
     Asking ordinary WellDescribed whole whole whole
     × (¬ Asking ordinary WellDescribed whole whole nothing)
+    × (¬ Asking ordinary WellDescribed butEdition whole whole)
     × (¬ Asking ordinary WellDescribed butFunction whole whole)
     × (¬ Asking ordinary WellDescribed butA whole whole)
     × (¬ Asking ordinary WellDescribed (inOrdinary butBytes) whole whole)
@@ -130,7 +134,7 @@ SecondPremisesNeeded =
 -- it is false if two runs meet what is asked and one number tells what they show apart
 refuted : {State Shared S E C : Type 0} (half : About State Shared) (fit : Board → Type 0) (states : State → S) (events : List Event → E)
     (shared : Shared → C) (d e : Board) (es fs : List Event) → fit d → fit e → states (half .state d) ≡ states (half .state e)
-    → events (half .events es) ≡ events (half .events fs) → shared (half .cells d es) ≡ shared (half .cells e fs) → (tell : List Sight → ℕ)
+    → events (half .events d es) ≡ events (half .events e fs) → shared (half .cells d es) ≡ shared (half .cells e fs) → (tell : List Sight → ℕ)
     → eqb (tell (half .shows d es)) (tell (half .shows e fs)) ≡ false → ¬ Asking half fit states events shared
 refuted half fit states events shared d e es fs w u v o k tell differ h = eqb-false _ _ differ (ap tell (h d e es fs w u v o k .0))
 
@@ -168,6 +172,10 @@ twice = record { bytes = zeros; rules = benchRules; marks = benchRules }
 abbrev atA : List Event
 atA = sent (readAt 0x01 0x04) ∷ []
 
+-- a read with bit 7 set and a byte too many: no edition serves it, but each refuses it with another number
+abbrev tooLong : List Event
+tooLong = sent (changed (readAt 0x00 0x04) 0 0x84 ++ (0x00 ∷ [])) ∷ []
+
 abbrev at4 : List Event
 at4 = sent (readAt 0x00 0x04) ∷ []
 
@@ -192,6 +200,8 @@ first-premises-needed = (
   first-half,
   refuted ordinary WellDescribed whole whole nothing (usual zero zero) (usual zero (full 0x00c)) atA atA
       refl refl refl refl refl (replied 0 12) refl,
+  refuted ordinary WellDescribed butEdition whole whole (usual zero zero) (withEdition (usual zero zero) 2) tooLong tooLong
+      refl refl refl refl refl (answer 0) refl,
   refuted ordinary WellDescribed butFunction whole whole (usual zero zero) (boardOf 1 0x104 0x00c (Number 0x05 0x03) zero zero) at4 at4
       refl refl refl refl refl (replied 0 6) refl,
   refuted ordinary WellDescribed butA whole whole (usual (full 0x104) zero) (boardOf 0 0x108 0x00c (Number 0x05 0x03) (full 0x104) zero) atA atA

@@ -1,4 +1,4 @@
--- Demand 3, second half: two runs of well-described boards with the same function number, trusted bytes, rules and marks, the same trusted packets
+-- Demand 3, second half: two runs of well-described boards of the same edition with the same function number, trusted bytes, rules and marks, the same trusted packets
 -- and reply sizes, and the same capture at each of them, agree in all that is trusted. Assumes nothing.
 use Prim.Native.Nat.{ℕ}
 use mathlib.Core.Bool.{true, false, false≢true}
@@ -8,22 +8,23 @@ use Rattle.packet.specs.declared.Request.{Request}
 use Rattle.packet.specs.Fields.{dataOf}
 use Rattle.packet.specs.Request.{isTrusted, requestOf}
 use Rattle.capture.specs.declared.Capture.the-variants.{Nothing}
-use Rattle.board.specs.Description.{Board, WellDescribed}
+use Rattle.board.specs.Description.{Board}
 use Rattle.board.specs.Access.{afterWrite, readWord, shownWord}
 use Rattle.board.specs.Promise.{spaceOf}
-use Rattle.board.proofs.Keeps.{after-serving}
+use Rattle.board.proofs.Keeps.{after-served}
 use Rattle.runs.specs.Run.{Event, packet, reset, next}
 use Rattle.shares.specs.Views.{TrustedState, trustedState, trustedPacket, outcome}
 use Rattle.shares.specs.Statements.{SecondHalf}
-use Rattle.packet.proofs.Laws.{trusted-target}
+use Rattle.board.proofs.Refusals.{outcome-number}
+use Rattle.shares.proofs.Served.{served-kind}
 use Rattle.shares.proofs.Alike.{Alike, Same, Answered, served-alike}
-use Rattle.shares.proofs.Boards.{boards-agree}
+use Rattle.shares.proofs.Boards.{Fit, boards-agree}
 
 -- a board with a given trusted state, and nothing else
 abbrev image : TrustedState → Board
 image s =
     record {
-      description = record { function = s .function; a = 0; b = 0 };
+      description = record { function = s .function; a = 0; b = 0; edition = s .edition };
       capture = Nothing;
       ordinary = spaceOf [] [] [];
       trusted = s .space;
@@ -51,7 +52,8 @@ module _ (d : Board) (q : Request) where
     read-sees = rw t
 
 alike : (d e : Board) → trustedState d ≡ trustedState e → d .capture ≡ e .capture → Alike trustedState d e
-alike d e v k = record { views = v; functions = ap (λ (s : TrustedState). s .function) v; captures = k }
+alike d e v k =
+    record { views = v; editions = ap (λ (s : TrustedState). s .edition) v; functions = ap (λ (s : TrustedState). s .function) v; captures = k }
 
 answered : (d e : Board) (q : Request) (new : List ℕ) → isTrusted (q .target) ≡ true → trustedState d ≡ trustedState e
     → d .capture ≡ e .capture → Answered trustedState d e q new
@@ -64,22 +66,24 @@ answered d e q new t v k =
       reads = read-sees d q t ∙ ap (λ (s : TrustedState). readWord (image s) q) v ∙ sym (read-sees e q t);
     }
 
--- ---- the two laws
+-- ---- the two laws, under an edition
 
-hidden : (d : Board) (x : Event) → trustedPacket x ≡ false → trustedState (next d x) ≡ trustedState d
-hidden d (packet bytes size) h =
-    after-serving (λ b. trustedState b ≡ trustedState d) d bytes size refl
-    (ordinary-write-keeps d (requestOf bytes) (dataOf bytes) (trusted-target bytes ∙ h))
-hidden d reset h = refl
+module _ (edition : ℕ) where
+  hidden : (d : Board) (x : Event) → Fit edition d → trustedPacket edition x ≡ false → trustedState (next d x) ≡ trustedState d
+  hidden d (packet bytes size) w h =
+      after-served (λ b. trustedState b ≡ trustedState d) d bytes size refl (λ n.
+      ordinary-write-keeps d (requestOf bytes) (dataOf bytes) (served-kind edition d bytes size (w .1) n ∙ h))
+  hidden d reset w h = refl
 
-stepped : (d e : Board) (x : Event) → WellDescribed d → WellDescribed e → trustedPacket x ≡ true → trustedState d ≡ trustedState e
-    → (trustedPacket x ≡ true → d .capture ≡ e .capture) → Same trustedState (outcome d x) (outcome e x)
-stepped d e (packet bytes size) w u h v k =
-    served-alike trustedState d e bytes size w u (alike d e v (k h)) (λ m n.
-    answered d e (requestOf bytes) (dataOf bytes) (trusted-target bytes ∙ h) v (k h))
-stepped d e reset w u h v k = absurd (false≢true h)
+  stepped : (d e : Board) (x : Event) → Fit edition d → Fit edition e → trustedPacket edition x ≡ true → trustedState d ≡ trustedState e
+      → (trustedPacket edition x ≡ true → d .capture ≡ e .capture) → Same trustedState (outcome d x) (outcome e x)
+  stepped d e (packet bytes size) w u h v k =
+      served-alike trustedState d e bytes size (w .0) (u .0) (alike d e v (k h)) (λ m n.
+      answered d e (requestOf bytes) (dataOf bytes) (served-kind edition d bytes size (w .1) (sym (outcome-number d bytes size) ∙ m) ∙ h) v (k h))
+  stepped d e reset w u h v k = absurd (false≢true h)
 
 pub second-half : SecondHalf
-second-half =
-    boards-agree trustedPacket trustedPacket trustedState (λ s. s .space) (λ d x. d .capture)
-    (record { within = λ x h. h; hidden = hidden; stepped = stepped })
+second-half d e es fs w u v =
+    boards-agree trustedPacket trustedPacket trustedState (λ s. s .space) (λ n b x. b .capture)
+    (λ n. record { within = λ x h. h; hidden = hidden n; stepped = stepped n })
+    d e es fs w u (ap (λ (s : TrustedState). s .edition) v) v

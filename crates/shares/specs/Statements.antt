@@ -9,12 +9,13 @@ use Rattle.shares.specs.Views.{ordinaryEvents, trustedPackets, ordinaryS
 -- in the same order. Let trusted bytes, trusted write rules and trusted packets differ in any way. If the correlation register holds the
 -- same value in both whenever an ordinary packet is served, all ordinary answers, written reply bytes and ordinary bytes agree": at each
 -- ordinary packet, and at the end, with the rest of the ordinary state. "B may differ between the two runs in its first half". 02, 6/13: "In demand
--- 3 the new trusted buffer counts among the trusted write rules, and the ordinary one is part of the equal ordinary state."
+-- 3 the new trusted buffer counts among the trusted write rules, and the ordinary one is part of the equal ordinary state." 02, 9/13: "Under edition 2 a
+-- packet with bit 7 set counts as ordinary in demand 3, and both its runs have the same edition." (the kinds and the states say so)
 abbrev pub FirstHalf : Type 0
 FirstHalf =
     (d e : Board) (run other : List Event) → WellDescribed d → WellDescribed e
     → ordinaryState d ≡ ordinaryState e
-    → ordinaryEvents run ≡ ordinaryEvents other
+    → ordinaryEvents d run ≡ ordinaryEvents e other
     → correlations d run ≡ correlations e other
     → (ordinarySights d run ≡ ordinarySights e other) × (ordinaryState (after d run) ≡ ordinaryState (after e other))
 
@@ -23,7 +24,7 @@ abbrev pub FirstHalfAtEach : Type 0
 FirstHalfAtEach =
     (d e : Board) (run other : List Event) → WellDescribed d → WellDescribed e
     → ordinaryState d ≡ ordinaryState e
-    → ordinaryEvents run ≡ ordinaryEvents other
+    → ordinaryEvents d run ≡ ordinaryEvents e other
     → correlationsAtEach d run ≡ correlationsAtEach e other
     → (ordinarySights d run ≡ ordinarySights e other) × (ordinaryState (after d run) ≡ ordinaryState (after e other))
 
@@ -35,6 +36,6 @@ abbrev pub SecondHalf : Type 0
 SecondHalf =
     (d e : Board) (run other : List Event) → WellDescribed d → WellDescribed e
     → trustedState d ≡ trustedState e
-    → trustedPackets run ≡ trustedPackets other
+    → trustedPackets d run ≡ trustedPackets e other
     → captures d run ≡ captures e other
     → (trustedSights d run ≡ trustedSights e other) × (trustedState (after d run) ≡ trustedState (after e other))
