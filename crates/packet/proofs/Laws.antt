@@ -14,8 +14,10 @@ use Rattle.packet.specs.declared.TypeCode.the-variants.{Known, Unknown}
 use Rattle.words.specs.Bytes.{byte}
 use Rattle.packet.specs.declared.Target.{Target}
 use Rattle.packet.specs.declared.Target.the-variants.{Type0, Type1, Trusted}
+use Rattle.packet.specs.declared.Decoded.{Decoded}
+use Rattle.packet.specs.declared.Decoded.the-variants.{Asks, Refused}
 use Rattle.packet.specs.Fields.{typeCode, bit7Set, refusesBit7, typeOf, digest, lengthField, offsetOf, wholeLength, wrongField}
-use Rattle.packet.specs.Request.{typed, writesOf, checksUnder, numberUnder, packetChecks, packetNumber, requestOf, targetOf, isTrusted, trusted, trustedUnder}
+use Rattle.packet.specs.Request.{typed, writesOf, checksUnder, numberUnder, packetChecks, packetNumber, requestOf, targetOf, isTrusted, trusted, trustedUnder, Decodes, DecodesUnder}
 use Rattle.packet.specs.Inner.{KnownHeader}
 
 -- byte 0 without bit 7 is the type code
@@ -82,13 +84,17 @@ module _ (edition : ℕ) (p : List ℕ) where
   pub number-under : refusesBit7 edition (byte p 0) ≡ false → numberUnder edition p ≡ packetNumber p
   number-under e = rw e
 
+  pub decodes-under : (r : Decoded) → refusesBit7 edition (byte p 0) ≡ false → Decodes p r → DecodesUnder edition p r
+  decodes-under (Asks request) e d = (number-under e ∙ d .0, d .1)
+  decodes-under (Refused refusal) e d = number-under e ∙ d
+
   -- a packet without a fault is not refused for it
   not-refused : (refuses : Bool) → refusesBit7 edition (byte p 0) ≡ refuses → numberUnder edition p ≡ 0 → refuses ≡ false
   not-refused true e n = absurd (by-length (ltb (length p) 12) refl)
     where
       by-length : (short : Bool) → ltb (length p) 12 ≡ short → ⊥
-      by-length true h = let z : 3 ≡ 0 = rw h at n in omega (arith, z)
-      by-length false h = let z : 4 ≡ 0 = rw (h, e) at n in omega (arith, z)
+      by-length true h = let z : _≡_ {A = ℕ} 3 0 = rw h at n in omega (arith, z)
+      by-length false h = let z : _≡_ {A = ℕ} 4 0 = rw (h, e) at n in omega (arith, z)
   not-refused false e n = refl
 
   pub accepted : numberUnder edition p ≡ 0 → refusesBit7 edition (byte p 0) ≡ false
