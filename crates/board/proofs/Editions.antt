@@ -125,7 +125,7 @@ calls-alike d edition p reply k j clear r o t after s other o′ t′ after′ u
 module _ (d : Board) (p q : List ℕ) (one : d .description .edition ≡ 1) (same : SameButBit7 p q) where
   number-one : (size : ℕ) → serveNumber d p size ≡ serveNumber d q size
   number-one size =
-      let at = λ (l : List ℕ). ap (λ (n : ℕ). numberUnder n l) one in
+      let at : (l : List ℕ) → numberUnder (d .description .edition) l ≡ packetNumber l = λ l. ap (λ (n : ℕ). numberUnder n l) one in
       ap (λ (n : ℕ). cond (badlyDescribed d) 1 (cond (ltb size 16) 2 n)) (at p ∙ same .numbers ∙ sym (at q))
 
   by-one : (n : ℕ) → byNumber n d p ≡ byNumber n d q

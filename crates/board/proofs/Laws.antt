@@ -1,13 +1,13 @@
 -- Laws of the definitions of this crate, one for each way through the code and for the proofs above. Assumes nothing.
-use Prim.Native.Nat.{ℕ, _%_, _≤_}
-use mathlib.Core.Bool.{Bool, true, false, not, _&&_, or-false, or-true}
+use Prim.Native.Nat.{ℕ, _%_, _≤_, _<_}
+use mathlib.Core.Bool.{Bool, true, false, not, _&&_, _||_, or-false, or-true}
 use mathlib.Core.List.{List, [], _∷_}
-use mathlib.Core.Path.{_≡_, ap, _∙_}
+use mathlib.Core.Path.{_≡_, refl, ap, _∙_}
 use native.Mathlib.Nat.{zero-add}
 use native.Mathlib.Omega.{arith}
 use lib.Dec.{eqb}
 use lib.ListN.{length}
-use borrow.Author.Tests.{eq-eqb, ne-eqb, eqb-true, not-false}
+use borrow.Author.Tests.{eq-eqb, ne-eqb, eqb-true, eqb-false, not-false}
 use Rattle.answers.proofs.Checks.{none-of}
 use Rattle.words.specs.Bytes.{four, fourOrZero, Puts}
 use Rattle.words.proofs.Laws.{four-inside, puts-is, placed-true}
@@ -23,7 +23,7 @@ use Rattle.capture.specs.declared.Capture.the-variants.{Nothing, Number}
 use Rattle.capture.specs.declared.Identified.{Identified}
 use Rattle.capture.specs.Kept.{completer, identified}
 use Rattle.board.specs.declared.Description.{Description}
-use Rattle.board.specs.Description.{Space, Board, outOfRange, ranges, wrongSize, wrongSizes, doublyMarked, causes, badlyDescribed, WellDescribed}
+use Rattle.board.specs.Description.{Space, Board, otherEdition, outOfRange, ranges, wrongSize, wrongSizes, doublyMarked, causes, badlyDescribed, WellDescribed}
 use Rattle.board.specs.Access.{addressed, unsupported, storedBytes, storedOrdinary, pickedWord}
 use Rattle.board.specs.Promise.{over}
 use Rattle.board.specs.Inner.{Sized, Readable, done}
@@ -76,6 +76,20 @@ pub whole : (s : Space) → wrongSizes s ≡ false → (length (s .rules) ≡ 40
 whole s e =
     let n = none-of (wrongSize (s .bytes) ∷ wrongSize (s .rules) ∷ wrongSize (s .marks) ∷ []) e in
     (right-size (s .rules) (n .1 .0), right-size (s .marks) (n .1 .1 .0))
+
+-- the editions from 1 to 2 are those that the request names
+pub edition-below : (edition : ℕ) → edition < 1 → otherEdition edition ≡ true
+edition-below edition h = rw (ne-eqb edition 1 (λ e. omega (arith, e)), ne-eqb edition 2 (λ e. omega (arith, e)))
+
+pub edition-above : (edition : ℕ) → 2 < edition → otherEdition edition ≡ true
+edition-above edition h = rw (ne-eqb edition 1 (λ e. omega (arith, e)), ne-eqb edition 2 (λ e. omega (arith, e)))
+
+pub edition-between : (edition : ℕ) → 1 ≤ edition → edition ≤ 2 → otherEdition edition ≡ false
+edition-between edition h k = by-first (eqb edition 1) refl
+  where
+    by-first : (first : Bool) → eqb edition 1 ≡ first → not (first || eqb edition 2) ≡ false
+    by-first true e = refl
+    by-first false e = let another = eqb-false edition 1 e in rw (eq-eqb edition 2 (omega (arith, another)))
 
 -- ---- unsupported requests
 

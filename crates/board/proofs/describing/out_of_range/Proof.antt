@@ -25,7 +25,13 @@ placed-requires-2 : tie.Need-placed-requires-2
 placed-requires-2 c κs = search needs
 
 returns-4 : tie.Need-returns-4
-returns-4 c = rw (sym (c .before .before .before .before .before .before .device-over .ensures) ∙ c .before .before .before .before .before .if1 .left, le-ltb 7 _ (c .before .before .before .if2 .left), sym (c .before .before .placed .ensures) ∙ not-false _ (c .before .if3 .left), c .placed2 .ensures, or-false)
+returns-4 c = rw (sym (c .before .before .before .before .before .before .before .device-over .ensures) ∙ c .before .before .before .before .before .before .if1 .left, le-ltb 7 _ (c .before .before .before .before .if2 .left), sym (c .before .before .before .placed .ensures) ∙ not-false _ (c .before .before .if3 .left), sym (c .before .placed2 .ensures) ∙ not-true _ (c .if4 .taken))
+
+is-other-edition-requires : tie.Need-is-other-edition-requires
+is-other-edition-requires c κs = search needs
+
+returns-5 : tie.Need-returns-5
+returns-5 c = rw (sym (c .before .before .before .before .before .before .before .before .device-over .ensures) ∙ c .before .before .before .before .before .before .before .if1 .left, le-ltb 7 _ (c .before .before .before .before .before .if2 .left), sym (c .before .before .before .before .placed .ensures) ∙ not-false _ (c .before .before .before .if3 .left), sym (c .before .before .placed2 .ensures) ∙ not-false _ (c .before .if4 .left), c .is-other-edition .ensures, or-false)
 
 pub out-of-range-spec : {M : Type 1} → statement M
 out-of-range-spec =
@@ -37,4 +43,6 @@ out-of-range-spec =
     placed-requires
     returns-3
     placed-requires-2
-    returns-4)
+    returns-4
+    is-other-edition-requires
+    returns-5)

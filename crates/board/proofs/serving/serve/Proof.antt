@@ -1,6 +1,6 @@
 -- `board::serve` meets its contract: the checks, lowest number first, then the request. Assumes nothing.
 use Rattle.board.specs.Promise.{lent}
-use Rattle.packet.specs.Request.{Decodes}
+use Rattle.packet.specs.Request.{DecodesUnder}
 use denote.Ref.{now}
 use Rattle.board.proofs.Outcomes.{refused-seen, bad-number, room-number, packet-number, ready, served-seen}
 use mathlib.Core.Path.{sym, _∙_, subst}
@@ -41,8 +41,8 @@ returns-2 c =
     let d = (lent (a .description) (a .kept) (now (a .ordinary)) (now (a .ordinary-rules)) (now (a .ordinary-marks)) (now (a .trusted)) (now (a .trusted-rules)) (now (a .trusted-marks))) in
     refused-seen d (now (a .packet)) (now (a .reply)) _ _ (room-number d (now (a .packet)) (now (a .reply)) (sym (c .before .before .before .is-badly-described .ensures) ∙ c .before .before .if1 .left) (c .before .if2 .taken)) (c .refuse2 .ensures)
 
-decode-requires : tie.Need-decode-requires
-decode-requires c κs = search needs
+decode-under-requires : tie.Need-decode-under-requires
+decode-under-requires c κs = search needs
 
 enum-known-refusal : tie.Need-enum-known-refusal
 enum-known-refusal c = search needs
@@ -56,7 +56,7 @@ enum-known-request c = search needs
 respond-to-requires : tie.Need-respond-to-requires
 respond-to-requires c κs =
     let a = c .before .before .before .before .before .before .before .before .before .before .before .before .before .before .before .before .before .before .before .before .args in
-    ready (a .description) (a .kept) (now (a .ordinary)) (now (a .ordinary-rules)) (now (a .ordinary-marks)) (now (a .trusted)) (now (a .trusted-rules)) (now (a .trusted-marks)) (now (a .packet)) (now (a .reply)) (sym (c .before .before .before .before .before .before .before .before .before .is-badly-described .ensures) ∙ c .before .before .before .before .before .before .before .before .if1 .left) (c .before .before .before .before .before .before .before .if2 .left) _ (subst (Decodes (now (a .packet))) (c .before .before .before .before .request .given .1) (c .before .before .before .before .before .before .decode .ensures))
+    ready (a .description) (a .kept) (now (a .ordinary)) (now (a .ordinary-rules)) (now (a .ordinary-marks)) (now (a .trusted)) (now (a .trusted-rules)) (now (a .trusted-marks)) (now (a .packet)) (now (a .reply)) (sym (c .before .before .before .before .before .before .before .before .before .is-badly-described .ensures) ∙ c .before .before .before .before .before .before .before .before .if1 .left) (c .before .before .before .before .before .before .before .if2 .left) _ (subst (DecodesUnder (a .description .edition) (now (a .packet))) (c .before .before .before .before .request .given .1) (c .before .before .before .before .before .before .decode-under .ensures))
 
 same-length-5 : tie.Need-same-length-5
 same-length-5 c = search needs
@@ -68,7 +68,7 @@ returns-3 : tie.Need-returns-3
 returns-3 c =
     let a = c .before .before .before .before .before .before .before .before .before .before .before .before .before .before .before .before .before .before .args in
     let d = (lent (a .description) (a .kept) (now (a .ordinary)) (now (a .ordinary-rules)) (now (a .ordinary-marks)) (now (a .trusted)) (now (a .trusted-rules)) (now (a .trusted-marks))) in
-    refused-seen d (now (a .packet)) (now (a .reply)) _ _ (packet-number d (now (a .packet)) (now (a .reply)) (sym (c .before .before .before .before .before .before .before .is-badly-described .ensures) ∙ c .before .before .before .before .before .before .if1 .left) (c .before .before .before .before .before .if2 .left) ∙ subst (Decodes (now (a .packet))) (c .before .before .refusal .given .1) (c .before .before .before .before .decode .ensures)) (c .refuse3 .ensures)
+    refused-seen d (now (a .packet)) (now (a .reply)) _ _ (packet-number d (now (a .packet)) (now (a .reply)) (sym (c .before .before .before .before .before .before .before .is-badly-described .ensures) ∙ c .before .before .before .before .before .before .if1 .left) (c .before .before .before .before .before .if2 .left) ∙ subst (DecodesUnder (a .description .edition) (now (a .packet))) (c .before .before .refusal .given .1) (c .before .before .before .before .decode-under .ensures)) (c .refuse3 .ensures)
 
 same-length-7 : tie.Need-same-length-7
 same-length-7 c = search needs
@@ -82,7 +82,7 @@ same-length-9 c = search needs
 returns-4 : tie.Need-returns-4
 returns-4 c =
     let a = c .before .before .before .before .before .before .before .before .before .before .before .before .before .before .before .before .before .before .before .before .before .before .before .before .before .before .before .args in
-    served-seen (a .description) (a .kept) (now (a .ordinary)) (now (a .ordinary-rules)) (now (a .ordinary-marks)) (now (a .trusted)) (now (a .trusted-rules)) (now (a .trusted-marks)) (now (a .packet)) (now (a .reply)) (sym (c .before .before .before .before .before .before .before .before .before .before .before .before .before .before .before .before .is-badly-described .ensures) ∙ c .before .before .before .before .before .before .before .before .before .before .before .before .before .before .before .if1 .left) (c .before .before .before .before .before .before .before .before .before .before .before .before .before .before .if2 .left) _ (subst (Decodes (now (a .packet))) (c .before .before .before .before .before .before .before .before .before .before .before .request .given .1) (c .before .before .before .before .before .before .before .before .before .before .before .before .before .decode .ensures)) (c .before .before .before .before .before .before .respond-to .result) _ _ _ (c .before .before .before .before .before .before .respond-to .ensures)
+    served-seen (a .description) (a .kept) (now (a .ordinary)) (now (a .ordinary-rules)) (now (a .ordinary-marks)) (now (a .trusted)) (now (a .trusted-rules)) (now (a .trusted-marks)) (now (a .packet)) (now (a .reply)) (sym (c .before .before .before .before .before .before .before .before .before .before .before .before .before .before .before .before .is-badly-described .ensures) ∙ c .before .before .before .before .before .before .before .before .before .before .before .before .before .before .before .if1 .left) (c .before .before .before .before .before .before .before .before .before .before .before .before .before .before .if2 .left) _ (subst (DecodesUnder (a .description .edition) (now (a .packet))) (c .before .before .before .before .before .before .before .before .before .before .before .request .given .1) (c .before .before .before .before .before .before .before .before .before .before .before .before .before .decode-under .ensures)) (c .before .before .before .before .before .before .respond-to .result) _ _ _ (c .before .before .before .before .before .before .respond-to .ensures)
 
 pub serve-spec : {M : Type 1} → statement M
 serve-spec =
@@ -97,7 +97,7 @@ serve-spec =
     same-length-3
     same-length-4
     returns-2
-    decode-requires
+    decode-under-requires
     enum-known-refusal
     refuse-requires-3
     enum-known-request
