@@ -68,10 +68,10 @@ edition-faults-caught =
 
 -- right in all but the number where a test says so
 abbrev numbered : (Board → List ℕ → List ℕ → Bool) → (List ℕ → ℕ) → Server
-numbered where_ given d p reply =
+numbered there given d p reply =
     let x = promised d p reply in
     record {
-      number = cond (where_ d p reply) (given p) (x .number);
+      number = cond (there d p reply) (given p) (x .number);
       count = x .count;
       capture = x .capture;
       ordinary = x .ordinary;

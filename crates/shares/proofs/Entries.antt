@@ -74,10 +74,16 @@ module _ {State Common Shared : Type 0} (counts : ℕ → Event → Bool) (state
       Half (λ d cs. WellDescribed d × AllMeet d cs) state (λ d cs. common d (eventsOf cs)) (λ d. alongCalls (counts (editionOf d)) (ofCall (editionOf d)) d)
       (λ d. alongCalls (counts (editionOf d)) (showed space) d) held
 
+  shared : (d : Board) (cs : List Call) → AllMeet d cs
+      → alongCalls (counts (editionOf d)) (ofCall (editionOf d)) d cs ≡ along (counts (editionOf d)) next (cell (editionOf d)) d (eventsOf cs)
+  shared d = along-calls (counts (editionOf d)) (cell (editionOf d)) (ofCall (editionOf d)) (is (editionOf d)) d
+
+  shown : (d : Board) (cs : List Call) → AllMeet d cs
+      → alongCalls (counts (editionOf d)) (showed space) d cs ≡ along (counts (editionOf d)) next (sightAt space) d (eventsOf cs)
+  shown d = along-calls (counts (editionOf d)) (sightAt space) (showed space) (showed-is space) d
+
   of-calls : Runs → Rows
   of-calls half d e cs gs wd we v o k =
-      let shared = λ (b : Board). along-calls (counts (editionOf b)) (cell (editionOf b)) (ofCall (editionOf b)) (is (editionOf b)) b in
-      let shown = λ (b : Board). along-calls (counts (editionOf b)) (sightAt space) (showed space) (showed-is space) b in
       let r = half d e (eventsOf cs) (eventsOf gs) (wd .0) (we .0) v o (sym (shared d cs (wd .1)) ∙ k ∙ shared e gs (we .1)) in (
         shown d cs (wd .1) ∙ r .0 ∙ sym (shown e gs (we .1)),
         ap state (calls-give-run d cs (wd .1) .0) ∙ r .1 ∙ sym (ap state (calls-give-run e gs (we .1) .0)),
