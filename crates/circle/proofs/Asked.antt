@@ -254,11 +254,11 @@ module _ (a : Parts) (new : List ℕ) where
         false whole (sym fields-are)
 
     -- bit 7 is clear, so that no edition refuses it
+    pub first-clear : bit7Set (byte (packetOf a new) 0) ≡ false
+    first-clear = rw (byte-0, accepted a e .kind, kind-plain (asksWrite a) (targetOf (typeOf (a .kind))))
+
     pub packet-number : (edition : ℕ) → numberUnder edition (packetOf a new) ≡ 0
-    packet-number edition =
-        let i = accepted a e in
-        let clear : bit7Set (byte (packetOf a new) 0) ≡ false = rw (byte-0, i .kind, kind-plain (asksWrite a) (targetOf (typeOf (a .kind)))) in
-        number-under edition (packetOf a new) (clear-accepted edition (byte (packetOf a new) 0) clear) ∙ sound
+    packet-number edition = number-under edition (packetOf a new) (clear-accepted edition (byte (packetOf a new) 0) first-clear) ∙ sound
 
     pub request-is : requestOf (packetOf a new) ≡ asked a
     unfolding requestOf asked

@@ -1,4 +1,5 @@
 pub mod Asked
+pub mod Editions
 pub mod Heard
 pub mod Given
 pub mod Exactly

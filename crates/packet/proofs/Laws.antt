@@ -1,6 +1,6 @@
 -- Laws of the packet's fields and checks, for the proofs of this crate and above. Assumes nothing.
 use Prim.Native.Nat.{ℕ, _+_, _*_, _%_, _<_, _≤_}
-use mathlib.Core.Bool.{Bool, true, false, not, cond, _||_, and-false}
+use mathlib.Core.Bool.{Bool, true, false, not, cond, _&&_, _||_, and-false, false≢true}
 use mathlib.Core.List.{List, [], _∷_, List·Memᴰ.List·Memᴰ·head, List·Memᴰ.List·Memᴰ·tail}
 use mathlib.Core.Path.{_≡_, refl, sym, ap, ap₂, _∙_}
 use native.Mathlib.Nat.{mod-eq-of-lt}
@@ -168,3 +168,11 @@ trusted-target (first ∷ rest) = type-trusted (typeCode first)
 -- under an edition, of a packet without a fault
 pub trusted-under : (edition : ℕ) (p : List ℕ) → numberUnder edition p ≡ 0 → isTrusted (requestOf p .target) ≡ trustedUnder edition p
 trusted-under edition p n = rw (accepted edition p n) (trusted-target p)
+
+-- a packet that is trusted under an edition is looked at as where bit 7 is ignored
+pub trusted-number : (edition : ℕ) (p : List ℕ) → trustedUnder edition p ≡ true → numberUnder edition p ≡ packetNumber p
+trusted-number edition p t = number-under edition p (by-refusal _ (trusted p) t)
+  where
+    by-refusal : (refuses trustedCode : Bool) → (not refuses && trustedCode) ≡ true → refuses ≡ false
+    by-refusal true trustedCode e = absurd (false≢true e)
+    by-refusal false trustedCode e = refl

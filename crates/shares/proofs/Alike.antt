@@ -1,16 +1,15 @@
--- Serving one packet on two boards that are alike in a view, in the edition, the function number and the capture: if a write leaves them alike and a
+-- Serving one packet on two boards that give it the same number, and are alike in a view, in the function number and in the capture: if a write leaves them alike and a
 -- read shows the same of both, then serving answers the same, writes the same reply and leaves them alike. For any view; both halves of
 -- demand 3 use it. Assumes nothing.
 use Prim.Native.Nat.{ℕ, zero, suc}
-use mathlib.Core.Bool.{Bool, true, false}
-use mathlib.Core.List.{List, _∷_}
+use mathlib.Core.Bool.{Bool, true, false, cond}
+use mathlib.Core.List.{List}
 use mathlib.Core.Path.{_≡_, refl, sym, ap, ap₂, _∙_, subst}
 use lib.Dec.{ltb}
-use Rattle.answers.specs.Checks.{check, firstThatApplies}
 use Rattle.packet.specs.declared.Id.{Id}
 use Rattle.packet.specs.declared.Request.{Request}
 use Rattle.packet.specs.Fields.{dataOf}
-use Rattle.packet.specs.Request.{checksUnder, requestOf}
+use Rattle.packet.specs.Request.{numberUnder, requestOf}
 use Rattle.packet.specs.declared.Status.{Status}
 use Rattle.packet.specs.declared.Status.the-variants.{Success, Unsupported}
 use Rattle.packet.specs.Completion.{withData, withoutData}
@@ -25,7 +24,6 @@ use Rattle.board.proofs.Outcomes.{respond-unsupported, respond-write, respond-r
 -- two boards that are alike
 pub record Alike {View : Type 0} (view : Board → View) (d e : Board) : Type 0 where
   pub views : view d ≡ view e
-  pub editions : d .description .edition ≡ e .description .edition
   pub functions : d .description .function ≡ e .description .function
   pub captures : d .capture ≡ e .capture
 
@@ -43,15 +41,15 @@ pub record Answered {View : Type 0} (view : Board → View) (d e : Board) (q : R
 -- the statement
 abbrev pub ServedAlike : {View : Type 0} → (Board → View) → Type 0
 ServedAlike view =
-    (d e : Board) (p : List ℕ) (size : ℕ) → WellDescribed d → WellDescribed e → Alike view d e
+    (d e : Board) (p : List ℕ) (size : ℕ) → serveNumber d p size ≡ serveNumber e p size → Alike view d e
     → (serve d p size .number ≡ 0 → serve e p size .number ≡ 0 → Answered view d e (requestOf p) (dataOf p)) → Same view (serve d p size) (serve e p size)
 
 -- ---- the number
 
 -- of a well-described board, the number is the packet's and the reply size's alone, under its edition
-number-same : (d e : Board) (p : List ℕ) (size : ℕ) → WellDescribed d → WellDescribed e → d .description .edition ≡ e .description .edition
-    → serveNumber d p size ≡ serveNumber e p size
-number-same d e p size w v n = ap₂ (λ b edition. firstThatApplies (check 1 b ∷ check 2 (ltb size 16) ∷ checksUnder edition p)) (w ∙ sym v) n
+pub number-same : (d e : Board) (p : List ℕ) (size : ℕ) → WellDescribed d → WellDescribed e
+    → numberUnder (d .description .edition) p ≡ numberUnder (e .description .edition) p → serveNumber d p size ≡ serveNumber e p size
+number-same d e p size w v n = ap₂ (λ bad number. cond bad 1 (cond (ltb size 16) 2 number)) (w ∙ sym v) n
 
 -- ---- a request
 
@@ -104,5 +102,5 @@ module _ {View : Type 0} (view : Board → View) (d e : Board) (p : List ℕ) wh
 
 pub served-alike : {View : Type 0} (view : Board → View) → ServedAlike view
 unfolding serve
-served-alike view d e p size w v a =
-    subst (ByNumber view d e p (serveNumber d p size)) (number-same d e p size w v (a .editions)) (by-number view d e p (serveNumber d p size) a)
+served-alike view d e p size n a =
+    subst (ByNumber view d e p (serveNumber d p size)) n (by-number view d e p (serveNumber d p size) a)

@@ -12,6 +12,7 @@ use Rattle.runs.specs.Run.{Event, packet, reset, next}
 use Rattle.shares.specs.Kinds.{keep, only, along}
 use Rattle.shares.specs.Views.{OrdinaryState, editionOf, trustedPacket, ordinaryPacket, ordinaryEvents, isServed, register, correlations, correlationsAtEach}
 use Rattle.shares.specs.Statements.{FirstHalfAtEach}
+use Rattle.shares.proofs.Boards.{edition-kept}
 use Rattle.shares.proofs.FirstHalf.{first-half}
 
 -- a function of each event and of the value at it
@@ -51,22 +52,26 @@ module _ (edition : ℕ) where
   asked (packet bytes size) value = cond (isServed edition bytes size) (some value) none
   asked reset value = none
 
-  register-is : (d : Board) (x : Event) → register edition d x ≡ asked x (correlation d)
-  register-is d (packet bytes size) = refl
-  register-is d reset = refl
+  register-is : (d : Board) (x : Event) → editionOf d ≡ edition → register d x ≡ asked x (correlation d)
+  register-is d (packet bytes size) n = ap (λ (m : ℕ). cond (isServed m bytes size) (some (correlation d)) none) n
+  register-is d reset n = refl
 
-  registers-are : (d : Board) (es : List Event)
-      → along (ordinaryPacket edition) next (register edition) d es
+  -- over a run of a board of the edition
+  asked-along : (d : Board) (es : List Event) → editionOf d ≡ edition
+      → along (ordinaryPacket edition) next register d es ≡ along (ordinaryPacket edition) next (λ x e. asked e (correlation x)) d es
+  asked-along d [] n = refl
+  asked-along d (x ∷ es) n = ap₂ (keep (ordinaryPacket edition x)) (register-is d x n) (asked-along (next d x) es (edition-kept d x ∙ n))
+
+  registers-are : (d : Board) (es : List Event) → editionOf d ≡ edition
+      → along (ordinaryPacket edition) next register d es
       ≡ both asked (only (ordinaryPacket edition) es) (along (ordinaryPacket edition) next (λ x e. correlation x) d es)
-  registers-are d es =
-      ap (λ (value : Board → Event → Option (List ℕ)). along (ordinaryPacket edition) next value d es) (λ i x e. register-is x e i)
-      ∙ along-both (ordinaryPacket edition) next (λ x e. correlation x) asked d es
+  registers-are d es n = asked-along d es n ∙ along-both (ordinaryPacket edition) next (λ x e. correlation x) asked d es
 
 -- by the ordinary packets of a run, under its board's edition
 correlations-are : (d : Board) (es : List Event)
     → correlations d es ≡ both (asked (editionOf d)) (only (ordinaryPacket (editionOf d)) (ordinaryEvents d es)) (correlationsAtEach d es)
 correlations-are d es =
-    registers-are (editionOf d) d es
+    registers-are (editionOf d) d es refl
     ∙ ap (λ (l : List Event). both (asked (editionOf d)) l (correlationsAtEach d es)) (sym (packets-among (editionOf d) es))
 
 pub first-half-at-each : FirstHalfAtEach

@@ -61,22 +61,21 @@ along-calls counts value ofCall is d (c ∷ cs) m =
 -- ---- either half
 
 module _ {State Common Shared : Type 0} (counts : ℕ → Event → Bool) (state : Board → State) (common : Board → List Event → Common) (space : Board → Space)
-    (cell : ℕ → Board → Event → Shared) (ofCall : ℕ → Board → Call → Shared)
-    (is : (n : ℕ) (d : Board) (c : Call) → Meets d c → ofCall n d c ≡ cell n d (eventOf c)) where
+    (cell : Board → Event → Shared) (ofCall : Board → Call → Shared) (is : (d : Board) (c : Call) → Meets d c → ofCall d c ≡ cell d (eventOf c)) where
   -- what is asked and shown over a run, and over a row of calls, under the edition of the board at its start
   abbrev Runs : Type 0
   Runs =
-      Half (λ d es. WellDescribed d) state common (λ d. along (counts (editionOf d)) next (cell (editionOf d)) d)
+      Half (λ d es. WellDescribed d) state common (λ d. along (counts (editionOf d)) next cell d)
       (λ d. along (counts (editionOf d)) next (sightAt space) d) after
 
   abbrev Rows : Type 0
   Rows =
-      Half (λ d cs. WellDescribed d × AllMeet d cs) state (λ d cs. common d (eventsOf cs)) (λ d. alongCalls (counts (editionOf d)) (ofCall (editionOf d)) d)
+      Half (λ d cs. WellDescribed d × AllMeet d cs) state (λ d cs. common d (eventsOf cs)) (λ d. alongCalls (counts (editionOf d)) ofCall d)
       (λ d. alongCalls (counts (editionOf d)) (showed space) d) held
 
   shared : (d : Board) (cs : List Call) → AllMeet d cs
-      → alongCalls (counts (editionOf d)) (ofCall (editionOf d)) d cs ≡ along (counts (editionOf d)) next (cell (editionOf d)) d (eventsOf cs)
-  shared d = along-calls (counts (editionOf d)) (cell (editionOf d)) (ofCall (editionOf d)) (is (editionOf d)) d
+      → alongCalls (counts (editionOf d)) ofCall d cs ≡ along (counts (editionOf d)) next cell d (eventsOf cs)
+  shared d = along-calls (counts (editionOf d)) cell ofCall is d
 
   shown : (d : Board) (cs : List Call) → AllMeet d cs
       → alongCalls (counts (editionOf d)) (showed space) d cs ≡ along (counts (editionOf d)) next (sightAt space) d (eventsOf cs)
@@ -91,6 +90,6 @@ module _ {State Common Shared : Type 0} (counts : ℕ → Event → Bool) (state
 
 pub both-halves-of-calls : BothHalvesOfCalls
 both-halves-of-calls = (
-  of-calls ordinaryPacket ordinaryState ordinaryEvents (λ x. x .ordinary) register heldRegister (λ n d c m. refl) first-half,
-  of-calls trustedPacket trustedState trustedPackets (λ x. x .trusted) (λ n d x. d .capture) (λ n d c. d .capture) (λ n d c m. refl) second-half,
+  of-calls ordinaryPacket ordinaryState ordinaryEvents (λ x. x .ordinary) register heldRegister (λ d c m. refl) first-half,
+  of-calls trustedPacket trustedState trustedPackets (λ x. x .trusted) (λ d x. d .capture) (λ d c. d .capture) (λ d c m. refl) second-half,
 )

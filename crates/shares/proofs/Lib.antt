@@ -12,3 +12,4 @@ pub mod Examples
 pub mod Needed
 pub mod WholeRegister
 pub mod Bite
+pub mod Split

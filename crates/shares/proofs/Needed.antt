@@ -1,6 +1,7 @@
 -- Each premise of demand 3 is needed: without it the half is false, by two runs of boards that meet all the rest and disagree in an answer
 -- or in a reply. Runs that differ in the correlation register alone disagree in an ordinary answer; runs that differ in the capture at a
--- trusted packet alone disagree in a trusted answer. So the two spaces do share something. Assumes nothing.
+-- trusted packet alone disagree in a trusted answer. So the two spaces do share something. One is not: the second half holds also where the editions
+-- differ. Assumes nothing.
 use Prim.Native.Nat.{ℕ}
 use mathlib.Core.Bool.{Bool, true, false, not}
 use mathlib.Core.List.{List, [], _∷_, _++_, map}
@@ -20,7 +21,7 @@ use Rattle.shares.specs.Kinds.{only}
 use Rattle.shares.specs.Views.{OrdinaryState, TrustedState, Sight, ordinaryState, trustedState, ordinaryEvents, trustedPackets, ordinarySights, trustedSights, correlations, captures}
 use Rattle.shares.proofs.Half.{Half}
 use Rattle.shares.proofs.FirstHalf.{first-half}
-use Rattle.shares.proofs.SecondHalf.{second-half}
+use Rattle.shares.proofs.SecondHalf.{butTrustedEdition, second-half-of-editions, second-half}
 use Rattle.shares.proofs.Examples.{trustedReadAt, trustedWriteAt, sent, boardOf, plain, withStatus, usual, ones}
 
 -- ---- the statements
@@ -115,11 +116,12 @@ FirstPremisesNeeded =
     × (¬ Asking ordinary WellDescribed whole butPlaces whole)
     × (¬ Asking ordinary (λ d. Unit {0}) whole whole whole)
 
--- the second half likewise: the capture at each trusted packet; the function number, the trusted bytes, rules and marks; the packets,
+-- the second half likewise, but that it holds also where the editions differ: the capture at each trusted packet; the function number, the trusted bytes, rules and marks; the packets,
 -- their reply sizes; that both are well described
 abbrev pub SecondPremisesNeeded : Type 0
 SecondPremisesNeeded =
     Asking trusted WellDescribed whole whole whole
+    × Asking trusted WellDescribed butTrustedEdition whole whole
     × (¬ Asking trusted WellDescribed whole whole nothing)
     × (¬ Asking trusted WellDescribed butTrustedFunction whole whole)
     × (¬ Asking trusted WellDescribed (inTrusted butBytes) whole whole)
@@ -229,6 +231,7 @@ pub second-premises-needed : SecondPremisesNeeded
 unfolding computing
 second-premises-needed = (
   second-half,
+  second-half-of-editions,
   refuted trusted WellDescribed whole whole nothing (usual zero zero) (boardOf 0 0x104 0x00c Nothing zero zero) trusted4 trusted4
       refl refl refl refl refl (replied 0 6) refl,
   refuted trusted WellDescribed butTrustedFunction whole whole (usual zero zero) (boardOf 1 0x104 0x00c (Number 0x05 0x03) zero zero) trusted4 trusted4

@@ -58,7 +58,7 @@ module _ {Value : Type 0} (counts : Event → Bool) (value quickly : Board → E
 -- ---- what is asked and what is shown over a run
 
 abbrev pub quickRegisters : Board → List Event → List (Option (List ℕ))
-quickRegisters d es = along (ordinaryPacket (editionOf d)) quickNext (register (editionOf d)) d es
+quickRegisters d es = along (ordinaryPacket (editionOf d)) quickNext register d es
 
 abbrev pub quickCaptures : Board → List Event → List Capture
 quickCaptures d es = along (trustedPacket (editionOf d)) quickNext (λ x event. x .capture) d es
@@ -71,7 +71,7 @@ quickTrusted d es = along (trustedPacket (editionOf d)) quickNext (quickSight (�
 
 module _ (d : Board) (es : List Event) (w : WellDescribed d) where
   pub registers-quickly : correlations d es ≡ quickRegisters d es
-  registers-quickly = along-same (ordinaryPacket (editionOf d)) (register (editionOf d)) (register (editionOf d)) (λ b x v. refl) d es w
+  registers-quickly = along-same (ordinaryPacket (editionOf d)) register register (λ b x v. refl) d es w
 
   pub captures-quickly : captures d es ≡ quickCaptures d es
   captures-quickly = along-same (trustedPacket (editionOf d)) (λ x event. x .capture) (λ x event. x .capture) (λ b x v. refl) d es w

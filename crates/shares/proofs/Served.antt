@@ -4,11 +4,11 @@ use Prim.Native.Nat.{ℕ}
 use mathlib.Core.Bool.{Bool, true}
 use mathlib.Core.List.{List, _∷_}
 use mathlib.Core.Logic.{_↔_}
-use mathlib.Core.Path.{_≡_, sym, ap, _∙_, subst}
+use mathlib.Core.Path.{_≡_, sym, ap, _∙_}
 use borrow.Author.Tests.{eq-eqb, eqb-true}
 use lib.Dec.{ltb}
 use Rattle.answers.specs.Checks.{check, firstThatApplies}
-use Rattle.packet.specs.Request.{checksUnder, numberUnder, trustedUnder, isTrusted, requestOf}
+use Rattle.packet.specs.Request.{checksUnder, trustedUnder, isTrusted, requestOf}
 use Rattle.packet.proofs.Laws.{trusted-under}
 use Rattle.board.specs.Description.{Board, WellDescribed}
 use Rattle.board.specs.Serving.{serve, serveNumber}
@@ -31,7 +31,6 @@ served-iff d bytes size w = (
   (λ t. number-is d bytes size w ∙ eqb-true _ 0 t),
 )
 
-pub served-kind : (edition : ℕ) (d : Board) (bytes : List ℕ) (size : ℕ) → editionOf d ≡ edition → serveNumber d bytes size ≡ 0
-    → isTrusted (requestOf bytes .target) ≡ trustedUnder edition bytes
-served-kind edition d bytes size e n =
-    trusted-under edition bytes (subst (λ (m : ℕ). numberUnder m bytes ≡ 0) e (sound-served d bytes size n))
+pub served-kind : (d : Board) (bytes : List ℕ) (size : ℕ) → serveNumber d bytes size ≡ 0
+    → isTrusted (requestOf bytes .target) ≡ trustedUnder (editionOf d) bytes
+served-kind d bytes size n = trusted-under (editionOf d) bytes (sound-served d bytes size n)

@@ -27,8 +27,8 @@ abbrev pub showed : (Board → Space) → Board → Call → Sight
 showed space d call = record { number = answered call; written = wrote call; bytes = space (holds d call) .bytes }
 
 -- the register that the caller held at a call whose packet is served, by the packet and the reply's size
-abbrev pub heldRegister : ℕ → Board → Call → Option (List ℕ)
-heldRegister edition d call = register edition d (eventOf call)
+abbrev pub heldRegister : Board → Call → Option (List ℕ)
+heldRegister d call = register d (eventOf call)
 
 -- a value for each call whose event counts, from what the caller held
 abbrev pub alongCalls : {Value : Type 0} → (Event → Bool) → (Board → Call → Value) → Board → List Call → List Value
@@ -40,7 +40,7 @@ abbrev pub ordinaryShown : Board → List Call → List Sight
 ordinaryShown d calls = alongCalls (ordinaryPacket (editionOf d)) (showed (λ x. x .ordinary)) d calls
 
 abbrev pub registersHeld : Board → List Call → List (Option (List ℕ))
-registersHeld d calls = alongCalls (ordinaryPacket (editionOf d)) (heldRegister (editionOf d)) d calls
+registersHeld d calls = alongCalls (ordinaryPacket (editionOf d)) heldRegister d calls
 
 abbrev pub trustedShown : Board → List Call → List Sight
 trustedShown d calls = alongCalls (trustedPacket (editionOf d)) (showed (λ x. x .trusted)) d calls

@@ -95,13 +95,13 @@ abbrev pub isServed : ℕ → List ℕ → ℕ → Bool
 isServed edition bytes size = eqb (firstThatApplies (check 2 (ltb size 16) ∷ checksUnder edition bytes)) 0
 
 -- "the correlation register's value is the four trusted bytes at B": its value when a packet is served, and nothing where it is not
-abbrev pub register : ℕ → Board → Event → Option (List ℕ)
-register edition d (packet bytes size) = cond (isServed edition bytes size) (some (correlation d)) none
-register edition d reset = none
+abbrev pub register : Board → Event → Option (List ℕ)
+register d (packet bytes size) = cond (isServed (editionOf d) bytes size) (some (correlation d)) none
+register d reset = none
 
 -- at each ordinary packet
 abbrev pub correlations : Board → List Event → List (Option (List ℕ))
-correlations d events = along (ordinaryPacket (editionOf d)) next (register (editionOf d)) d events
+correlations d events = along (ordinaryPacket (editionOf d)) next register d events
 
 -- its value at each ordinary packet, served or not
 abbrev pub correlationsAtEach : Board → List Event → List (List ℕ)
