@@ -6,22 +6,22 @@ use Prim.Native.Nat.{ℕ, zero, suc, _≤_}
 use mathlib.Core.Bool.{Bool, true, false, cond}
 use mathlib.Core.List.{List, []}
 use mathlib.Core.Logic.{_⊎_, inl, inr}
-use mathlib.Core.Path.{_≡_, refl, sym, ap, ap₂, _∙_, subst}
-use lib.Dec.{eqb, ltb}
+use mathlib.Core.Path.{_≡_, refl, sym, ap, ap₂, _∙_}
+use lib.Dec.{ltb}
 use lib.ListN.{length}
 use borrow.Author.Tests.{le-ltb}
 use Rattle.words.specs.Bytes.{byte}
 use Rattle.packet.specs.declared.Request.{Request}
-use Rattle.packet.specs.Fields.{bit7Set, refusesBit7, dataOf}
+use Rattle.packet.specs.Fields.{bit7Set, dataOf}
 use Rattle.packet.specs.Request.{isTrusted, numberUnder, packetNumber, requestOf}
-use Rattle.packet.specs.declared.Status.the-variants.{Success, Unsupported}
+use Rattle.packet.specs.declared.Status.the-variants.{Success}
 use Rattle.packet.proofs.Laws.{number-under, clear-accepted}
 use Rattle.packet.proofs.Bit7Aside.{Bit7Aside, SameButBit7, bit-7-aside}
 use Rattle.board.specs.declared.Served.{Served}
 use Rattle.board.specs.Description.{Board, withEdition, otherEdition, badlyDescribed, WellDescribed}
 use Rattle.board.specs.Access.{unsupported, afterWrite, shownWord}
-use Rattle.board.specs.Serving.{Outcome, replies, repliesData, respond, serveNumber, refused, byNumber, serve}
-use Rattle.board.specs.Promise.{Seen, seen, shows, Serves}
+use Rattle.board.specs.Serving.{Outcome, replies, respond, serveNumber, refused, byNumber, serve}
+use Rattle.board.specs.Promise.{seen, shows, Serves}
 use Rattle.board.proofs.Laws.{unsupported-same}
 use Rattle.board.proofs.Outcomes.{respond-unsupported, respond-write, respond-read}
 

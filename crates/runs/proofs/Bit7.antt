@@ -1,22 +1,21 @@
 -- Servers that do not keep to the edition (document 02, 9/13), for any server: each is wrong about a packet to the bench sheet's board, or to the same with
 -- another edition. And there are such servers, right in all else. Assumes nothing.
 use Prim.Native.Nat.{ℕ}
-use mathlib.Core.Bool.{Bool, true, false, not, _&&_, cond}
+use mathlib.Core.Bool.{Bool, not, _&&_, cond}
 use mathlib.Core.List.{List, [], _∷_, _++_}
 use mathlib.Core.Path.{_≡_, refl, sym, ap, _∙_}
 use native.Mathlib.Omega.{arith}
-use lib.Dec.{eqb, ltb}
-use lib.ListN.{length}
-use borrow.Author.Tests.{eq-eqb, ne-eqb, le-ltb}
+use lib.Dec.{eqb}
+use borrow.Author.Tests.{eq-eqb, ne-eqb}
 use Rattle.words.specs.Bytes.{byte}
 use Rattle.packet.specs.Fields.{bit7Set}
 use Rattle.packet.specs.Request.{packetNumber}
-use Rattle.board.specs.Description.{Board, withEdition, badlyDescribed, WellDescribed}
+use Rattle.board.specs.Description.{Board, withEdition, WellDescribed}
 use Rattle.board.specs.Promise.{Seen}
 use Rattle.board.proofs.Computing.{computing}
 use Rattle.runs.specs.Bench.{bench, zeros, p2, changed}
 use Rattle.runs.specs.Servers.{Server, promised, untouched, RightAt}
-use Rattle.runs.specs.Bit7.{Bit7Sent, TestsBit7First, TestsBit7Last, RefusesUnderOne, TakesFor}
+use Rattle.runs.specs.Bit7.{TestsBit7First, TestsBit7Last, RefusesUnderOne, TakesFor}
 
 -- P2's write with bit 7 set, and the same with a byte too many
 abbrev pub p2Bit7 : List ℕ

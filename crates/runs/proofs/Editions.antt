@@ -3,7 +3,7 @@
 -- capture at each. So do calls of the entries. Assumes nothing.
 use Prim.Native.Nat.{ℕ}
 use mathlib.Core.List.{List, [], _∷_, map}
-use mathlib.Core.Path.{_≡_, refl, sym, ap, ap₂, _∙_, subst}
+use mathlib.Core.Path.{_≡_, refl, sym, ap, _∙_, subst}
 use Rattle.board.specs.declared.Description.{Description}
 use Rattle.board.specs.Description.{Board, withEdition, afterReset}
 use Rattle.board.specs.Serving.{Outcome, serve}
