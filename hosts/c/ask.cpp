@@ -55,7 +55,8 @@ int main()
         {read, THAWRIBBON_ASKED_DONE, THAWRIBBON_SERVED, THAWRIBBON_SAID_DATA, 0x08},
         {bad, THAWRIBBON_ASKED_REFUSED, THAWRIBBON_BAD_DESCRIPTION, THAWRIBBON_SAID_NOTHING, 0},
     };
-    thawribbon_board board = {{0, 0x104, 0x00C}, THAWRIBBON_FRESH, {&ordinary, &rules, &marks}, {&trusted, &rules, &thawribbon_no_marks}};
+    thawribbon_board board = {{0, 0x104, 0x00C, THAWRIBBON_EDITION_1}, THAWRIBBON_FRESH,
+                              {&ordinary, &rules, &marks}, {&trusted, &rules, &thawribbon_no_marks}};
     memset(rules.at + 0x004, 0xFF, 4);
     trusted.at[0x004] = 0x08;
     for (const Expected &expected : day) {

@@ -24,6 +24,7 @@ void fresh_board(void)
     description.function = 0;
     description.a = 0x104;
     description.b = 0x00C;
+    description.edition = THAWRIBBON_EDITION_1;
     kept = fresh_capture;
     fill(&ordinary, 0x51, THAWRIBBON_SPACE);
     fill(&ordinary_rules, 0x00, THAWRIBBON_SPACE);

@@ -17,7 +17,7 @@ extern const uint8_t landed[4];
 /* What is captured by a fresh board, and by P2's packet. */
 extern const thawribbon_capture fresh_capture, five_three;
 
-/* Function 0, rules FFh at 004h in both spaces, no marks, trusted 004h holding 08 00 00 00. */
+/* Function 0, edition 1, rules FFh at 004h in both spaces, no marks, trusted 004h holding 08 00 00 00. */
 void fresh_board(void);
 
 /* Lends this packet from now on. */

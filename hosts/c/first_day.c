@@ -15,6 +15,8 @@ int main(void)
     captures();
     whole_reads();
     marks();
+    editions();
+    edition_runs();
     walks();
     records();
     helpers();

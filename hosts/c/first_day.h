@@ -6,6 +6,8 @@ void packets(void);
 void captures(void);
 void whole_reads(void);
 void marks(void);
+void editions(void);
+void edition_runs(void);
 void walks(void);
 void records(void);
 void helpers(void);

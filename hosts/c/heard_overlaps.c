@@ -29,7 +29,7 @@ static struct memory {
 
 static void set_up(void)
 {
-    const thawribbon_board board = {{0, 0x104, 0x00C}, THAWRIBBON_FRESH,
+    const thawribbon_board board = {{0, 0x104, 0x00C, THAWRIBBON_EDITION_1}, THAWRIBBON_FRESH,
                                     {&memory.ordinary, &memory.ordinary_rules, &memory.ordinary_marks},
                                     {&memory.trusted, &memory.trusted_rules, &memory.trusted_marks}};
     memset(&memory, 0x5C, sizeof memory);

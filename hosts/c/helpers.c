@@ -48,8 +48,9 @@ static int same_space(thawribbon_space one, thawribbon_space other)
 static int same_board(const thawribbon_board *one, const thawribbon_board *other)
 {
     return one->description.function == other->description.function && one->description.a == other->description.a &&
-           one->description.b == other->description.b && same_capture(one->capture, other->capture) &&
-           same_space(one->ordinary, other->ordinary) && same_space(one->trusted, other->trusted);
+           one->description.b == other->description.b && one->description.edition == other->description.edition &&
+           same_capture(one->capture, other->capture) && same_space(one->ordinary, other->ordinary) &&
+           same_space(one->trusted, other->trusted);
 }
 
 static void guards_hold(size_t at)

@@ -1,11 +1,16 @@
-/* What crosses to the library: a wrong size or place in a struct of thawribbon.h ends the compilation here. Nothing of this is run. */
+/* What crosses to the library: a wrong size or place in a struct of thawribbon.h, or another number for an edition, ends the compilation
+ * here. Nothing of this is run. */
 #include "thawribbon.h"
 
 #define HOLDS(name, condition) typedef char name[(condition) ? 1 : -1]
-HOLDS(description_size, sizeof(thawribbon_description) == 12);
+HOLDS(description_size, sizeof(thawribbon_description) == 16);
 HOLDS(description_function, offsetof(thawribbon_description, function) == 0);
 HOLDS(description_a, offsetof(thawribbon_description, a) == 4);
 HOLDS(description_b, offsetof(thawribbon_description, b) == 8);
+HOLDS(description_edition, offsetof(thawribbon_description, edition) == 12);
+HOLDS(description_edition_size, sizeof(((thawribbon_description *)0)->edition) == 4);
+HOLDS(edition_1, THAWRIBBON_EDITION_1 == 1);
+HOLDS(edition_2, THAWRIBBON_EDITION_2 == 2);
 HOLDS(capture_size, sizeof(thawribbon_capture) == 3);
 HOLDS(capture_captured, offsetof(thawribbon_capture, captured) == 0);
 HOLDS(capture_bus, offsetof(thawribbon_capture, bus) == 1);

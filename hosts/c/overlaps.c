@@ -70,7 +70,7 @@ static thawribbon_space space(size_t bytes, size_t rules, size_t marks)
 /* Has the board, with everything at its place, answer the trusted write or its first bytes. Every byte that no one sets is 0. */
 static thawribbon_outcome serve(size_t packet_length)
 {
-    thawribbon_board board = {{0, 0x104, 0x00C}, {1, 0x05, 3}, {NULL, NULL, NULL}, {NULL, NULL, NULL}};
+    thawribbon_board board = {{0, 0x104, 0x00C, THAWRIBBON_EDITION_1}, {1, 0x05, 3}, {NULL, NULL, NULL}, {NULL, NULL, NULL}};
     board.ordinary = space(ORDINARY, ORDINARY_RULES, ORDINARY_MARKS);
     board.trusted = space(TRUSTED, TRUSTED_RULES, TRUSTED_MARKS);
     memset(memory.bytes, 0, sizeof memory.bytes);

@@ -61,9 +61,9 @@ extern "C" {
 #endif
 
 /* The version of this header, and of the archive that came with it. */
-#define THAWRIBBON_VERSION "0.9.0"
+#define THAWRIBBON_VERSION "0.10.0"
 #define THAWRIBBON_VERSION_MAJOR 0
-#define THAWRIBBON_VERSION_MINOR 9
+#define THAWRIBBON_VERSION_MINOR 10
 #define THAWRIBBON_VERSION_PATCH 0
 
 /* An answer that is dropped is an answer that nobody looked at: compilers that can, warn. */
@@ -84,21 +84,22 @@ enum thawribbon_number {
     /* served; the completion, or at a router the verdict, may still be Unsupported Request (UR) */
     THAWRIBBON_SERVED = 0,
     /* a space, its rules or its marks aren't 4,096 bytes, a bit is 1 in the rules and in the marks of a space, a captured device is over
-       31, a function number or A or B is outside its range, a record is asked for where none may stand (rule 2.2); at
-       thawribbon_board_serve, also where buffers overlap; at a router, a list has over 32 ports, a port's secondary bus is over its
-       subordinate bus, or two ranges of buses meet (rule 10.2); at thawribbon_ports_route, also where what leaves overlaps the ports or the
-       packet; of a request to be written, its kind is none of the six, its device is over 31, its function over 7, its offset over FFCh or
-       not a multiple of 4, or its enables over 15; at thawribbon_board_ask, also where what is heard overlaps the board; of an address to
-       be judged, the list has over 32 ports, the packet enters by none of them, or a port's fields are such as no reading gives (rule
-       12.4) */
+       31, a function number or A or B is outside its range, the edition is neither THAWRIBBON_EDITION_1 nor THAWRIBBON_EDITION_2 (one that
+       a host does not name is 0), a record is asked for where none may stand (rule 2.2); at thawribbon_board_serve, also where buffers
+       overlap; at a router, a list has over 32 ports, a port's secondary bus is over its subordinate bus, or two ranges of buses meet (rule
+       10.2); at thawribbon_ports_route, also where what leaves overlaps the ports or the packet; of a request to be written, its kind is
+       none of the six, its device is over 31, its function over 7, its offset over FFCh or not a multiple of 4, or its enables over 15; at
+       thawribbon_board_ask, also where what is heard overlaps the board; of an address to be judged, the list has over 32 ports, the packet
+       enters by none of them, or a port's fields are such as no reading gives (rule 12.4) */
     THAWRIBBON_BAD_DESCRIPTION = 1,
     /* the reply is under 16 bytes, the list room is under the list's maximum, the buffer for what leaves is under 20 bytes, or the buffer
        for a request is shorter than the request */
     THAWRIBBON_NO_ROOM = 2,
     /* the packet, or the completion, has fewer than 12 bytes */
     THAWRIBBON_SHORT_PACKET = 3,
-    /* the type code isn't one of the six (rule 3.2); at a router, also where it is Type 0 (rule 10.5), or where it is trusted and the port
-       does not support TCS routing (rule 10.6); of a completion, its first byte is neither 4Ah nor 0Ah */
+    /* the type code isn't one of the six (rule 3.2); at a board of edition 2, also where bit 7 of byte 0 is set; at a router, also where it
+       is Type 0 (rule 10.5), or where it is trusted and the port does not support TCS routing (rule 10.6); of a completion, its first byte
+       is neither 4Ah nor 0Ah */
     THAWRIBBON_UNKNOWN_TYPE = 4,
     /* the packet length doesn't fit its type and digest bit; the completion's isn't 16 with first byte 4Ah, or 12 with 0Ah */
     THAWRIBBON_WRONG_LENGTH = 5,
@@ -134,7 +135,8 @@ enum thawribbon_number {
 #define THAWRIBBON_REQUEST 16
 /* Where four data bytes are: in a packet that writes, and in a completion of 16 bytes. */
 #define THAWRIBBON_DATA 12
-/* Byte 0 of a packet, without its bit 7: the six type codes that are served (rule 3.2), and the six kinds of a request. */
+/* Byte 0 of a packet, without its bit 7: the six type codes that are served (rule 3.2), and the six kinds of a request. Bit 7 is 0 in every
+ * request that is written; what a board does where it is set is said by its edition. */
 #define THAWRIBBON_TYPE0_READ 0x04
 #define THAWRIBBON_TYPE0_WRITE 0x44
 #define THAWRIBBON_TYPE1_READ 0x05
@@ -158,11 +160,27 @@ enum thawribbon_number {
 #define THAWRIBBON_EXTENDED_MAXIMUM 960
 #define THAWRIBBON_TRUSTED_MAXIMUM 1022
 
-/* What stays while a board runs. */
+/*
+ * The two editions of byte 0 that a board can have. They differ in its bit 7, which later revisions of Base take into the format field:
+ * - Edition 1: bit 7 is reserved, and ignored. Every version before 0.10.0 did this.
+ * - Edition 2: bit 7 belongs to the format field. A packet of 12 bytes or more that has it set is refused with 4, and nothing changes.
+ * A packet whose bit 7 is 0 is answered alike under both, and the empty packet too.
+ */
+#define THAWRIBBON_EDITION_1 1
+#define THAWRIBBON_EDITION_2 2
+
+/*
+ * What stays while a board runs.
+ *
+ * Name all four members. One that is not named is 0, and 0 is no edition: such a board answers 1 to every packet, and is never taken for one
+ * of edition 1 or 2. The edition has 32 bits, so that 257 is seen as 257, and answered 1. A number of more than 32 bits is cut by the C
+ * compiler before the library sees it: check those that come from outside first.
+ */
 typedef struct thawribbon_description {
     uint8_t function; /* the board's function number, 0 to 7 */
     uint32_t a;       /* the ordinary place of the Device Correlation word: a multiple of 4 from 104h to FFCh */
     uint32_t b;       /* its trusted place: a multiple of 4 from 00Ch to FFCh */
+    uint32_t edition; /* of byte 0: THAWRIBBON_EDITION_1 or THAWRIBBON_EDITION_2 */
 } thawribbon_description;
 
 /* The captured bus and device number, or the fact that none is captured. The caller keeps it between packets. */
@@ -328,11 +346,11 @@ typedef struct thawribbon_judged {
  *      done, and 20h where it is an Unsupported Request: then nothing but the reply has changed. The spaces are as rules and marks say,
  *      and `capture` is to be kept for the next packet: {0, 0, 0} while nothing is captured, else {1, bus, device}.
  *   1  the ordinary or trusted space, its rules or its marks aren't 4,096 bytes, a bit is 1 in the rules and in the marks of one space, the
- *      captured device is over 31, the function number is over 7, or a or b is outside its range. All rules and marks are looked at for
- *      every packet.
+ *      captured device is over 31, the function number is over 7, a or b is outside its range, or the edition is neither 1 nor 2. All rules
+ *      and marks are looked at for every packet.
  *   2  the reply is under 16 bytes, also where 12 would be written.
- *   3  the packet has fewer than 12 bytes.
- *   4  the type code isn't one of the six.
+ *   3  the packet has fewer than 12 bytes, whatever its byte 0 is.
+ *   4  the type code isn't one of the six, or the edition is 2 and bit 7 of byte 0 is set.
  *   5  the packet isn't 12 bytes, plus 4 for a write, plus 4 if the digest bit is set.
  *   6  TC, Attr or the last enables aren't 0, or Length isn't 1.
  * Any number but 0 leaves spaces and reply unchanged, and gives length 0 and `kept` back, byte for byte. Rules, marks and packet are only
@@ -442,6 +460,8 @@ THAWRIBBON_MUST_USE thawribbon_alternate thawribbon_dual_bdf(const uint8_t *spac
  *      `length` bytes of the buffer are what leaves, as many as the packet has. They are the packet's own bytes, but for byte 0 of a
  *      Type 1 request for the port's secondary bus, which leaves as Type 0: 05h becomes 04h, 45h becomes 44h, and bit 7 stays. The buffer's
  *      other bytes stay as lent. `leaves` is 0 where no port's range has the bus: the verdict is Unsupported Request.
+ * A router has no edition. It ignores bit 7 of byte 0 and lets it through, whatever board is behind it: one of edition 2 refuses what comes
+ * with it.
  * Where nothing leaves, the buffer stays unchanged, and length and port are 0. Ports and packet are only read.
  */
 THAWRIBBON_MUST_USE thawribbon_routed thawribbon_route(const thawribbon_port *ports, size_t ports_length,
@@ -453,7 +473,8 @@ THAWRIBBON_MUST_USE thawribbon_routed thawribbon_route(const thawribbon_port *po
  *
  * Takes the parts and the buffer to write into. The lowest number that applies is given:
  *   0  it is written. The first `length` bytes of the buffer are the request: 12 for a read and 16 for a write, which ends with the data.
- *      Its digest bit is clear, and its reserved bits are 0. The buffer's other bytes stay as lent.
+ *      Its digest bit is clear, and so are its reserved bits and bit 7 of byte 0: boards of both editions answer it alike. The buffer's
+ *      other bytes stay as lent.
  *   1  the kind is none of the six, the device is over 31, the function over 7, the offset over FFCh or not a multiple of 4, or the
  *      enables over 15. A read's data is ignored.
  *   2  the buffer is shorter than those 12 or 16 bytes.
@@ -527,10 +548,11 @@ typedef struct thawribbon_space {
 } thawribbon_space;
 
 /*
- * A board, which keeps what it captures. Every member may be read and set between packets. In C, with each member's name:
+ * A board, which keeps what it captures. Every member may be read and set between packets. Without an edition it answers 1 to every packet.
+ * In C, with each member's name:
  *   static thawribbon_bytes ordinary, trusted, rules;
  *   static thawribbon_board board = {
- *       .description = {.function = 0, .a = 0x104, .b = 0x00C},
+ *       .description = {.function = 0, .a = 0x104, .b = 0x00C, .edition = THAWRIBBON_EDITION_1},
  *       .capture = THAWRIBBON_FRESH,
  *       .ordinary = {.bytes = &ordinary, .rules = &rules, .marks = &thawribbon_no_marks},
  *       .trusted = {.bytes = &trusted, .rules = &rules, .marks = &thawribbon_no_marks},
@@ -694,7 +716,8 @@ THAWRIBBON_MUST_USE static inline const char *thawribbon_text(unsigned number)
         return "served, though the completion or the router's verdict may be Unsupported Request";
     case THAWRIBBON_BAD_DESCRIPTION:
         return "a space, rules or marks of 4,096 bytes are not lent, a bit is in both the rules and the marks of a space, "
-               "a captured device is over 31, a function number or A or B is outside its range, a record is asked for where none may stand, "
+               "a captured device is over 31, a function number or A or B is outside its range, the edition is neither 1 nor 2, "
+               "a record is asked for where none may stand, "
                "a list has over 32 ports, a secondary bus over its subordinate bus, or two ranges that meet, "
                "a packet enters by no port of the list, a port's Multicast fields are such as no reading gives, "
                "what leaves overlaps the ports or the packet, what is heard overlaps the board, or a request has a kind outside the six, "
@@ -705,8 +728,8 @@ THAWRIBBON_MUST_USE static inline const char *thawribbon_text(unsigned number)
     case THAWRIBBON_SHORT_PACKET:
         return "the packet or the completion has fewer than 12 bytes";
     case THAWRIBBON_UNKNOWN_TYPE:
-        return "the packet's type code is not one of the six that are served, or the router does not pass it on: "
-               "it is Type 0, or it is trusted and its port does not support TCS routing; "
+        return "the packet's type code is not one of the six that are served, bit 7 of its byte 0 is set and the board is of edition 2, "
+               "or the router does not pass it on: it is Type 0, or it is trusted and its port does not support TCS routing; "
                "or the completion's first byte is neither 4Ah nor 0Ah";
     case THAWRIBBON_WRONG_LENGTH:
         return "the packet's length does not fit its type and digest bit, or the completion's length does not fit its first byte";

@@ -8,7 +8,7 @@ void drop_judged(thawribbon_offload *offload, thawribbon_judged judged, const ui
 
 void drop(thawribbon_board *board, thawribbon_answer *answer, const uint8_t *bytes, uint8_t *reply, uint16_t *room)
 {
-    const thawribbon_description description = {0, 0x104, 0x00C};
+    const thawribbon_description description = {0, 0x104, 0x00C, THAWRIBBON_EDITION_1};
     const thawribbon_served served = {12, 0, THAWRIBBON_FRESH};
     thawribbon_board_serve(board, bytes, 16, answer);                                                                    /* dropped */
     thawribbon_serve(description, board->capture, reply, 1, bytes, 1, bytes, 1, reply, 1, bytes, 1, bytes, 1, bytes, 1, reply, 1); /* dropped */
