@@ -3,6 +3,7 @@
 use crate::Offset;
 use crate::completion::Completion;
 use crate::constants::REPLY;
+use crate::edition::Edition;
 use crate::not_done::NotDone;
 use crate::raw;
 use crate::refusal::served;
@@ -10,7 +11,7 @@ use std::fmt;
 
 /// What stays while a board runs.
 ///
-/// Any values may be given; [`Board::serve`] refuses those outside their range.
+/// Any values may be given; [`Board::serve`] refuses those outside their range. There is no default: all four are said.
 #[derive(Clone, Copy, Debug, PartialEq, Eq, Hash)]
 pub struct Description {
     /// The board's function number, 0 to 7.
@@ -19,6 +20,8 @@ pub struct Description {
     pub a: Offset,
     /// B, its trusted place: a multiple of 4 from 00Ch to FFCh.
     pub b: Offset,
+    /// The edition of byte 0: whether its bit 7 is ignored, or refused where it is set.
+    pub edition: Edition,
 }
 
 /// The captured bus and device number. A board that has captured none has `None` in its place.
@@ -74,11 +77,11 @@ impl<'a> Board<'a> {
     /// A fresh board: it has captured none. The spaces are taken as they are.
     ///
     /// ```
-    /// use thawribbon::{Board, Description, NO_MARKS, SPACE, Space};
+    /// use thawribbon::{Board, Description, Edition, NO_MARKS, SPACE, Space};
     ///
     /// let (mut ordinary, mut trusted, rules) = ([0; SPACE], [0; SPACE], [0xFF; SPACE]);
     /// let board = Board::fresh(
-    ///     Description { function: 0, a: 0x104, b: 0x00C },
+    ///     Description { function: 0, a: 0x104, b: 0x00C, edition: Edition::One },
     ///     Space { bytes: &mut ordinary, rules: &rules, marks: &NO_MARKS },
     ///     Space { bytes: &mut trusted, rules: &rules, marks: &NO_MARKS },
     /// );
@@ -101,11 +104,11 @@ impl<'a> Board<'a> {
     /// bytes of its word, whatever it enables, and at A the four trusted bytes at B.
     ///
     /// ```
-    /// use thawribbon::{Board, Capture, Description, Id, NO_MARKS, NotDone, Refusal, SPACE, Space, Status};
+    /// use thawribbon::{Board, Capture, Description, Edition, Id, NO_MARKS, NotDone, Refusal, SPACE, Space, Status};
     ///
     /// let (mut ordinary, mut trusted, rules) = ([0x51; SPACE], [0x72; SPACE], [0xFF; SPACE]);
     /// let mut board = Board::fresh(
-    ///     Description { function: 0, a: 0x104, b: 0x00C },
+    ///     Description { function: 0, a: 0x104, b: 0x00C, edition: Edition::One },
     ///     Space { bytes: &mut ordinary, rules: &rules, marks: &NO_MARKS },
     ///     Space { bytes: &mut trusted, rules: &rules, marks: &NO_MARKS },
     /// );
@@ -161,8 +164,9 @@ impl<'a> Board<'a> {
     /// - [`Refusal::BadDescription`]: a space, its rules or its marks aren't 4,096 bytes, a bit is 1 in the rules and in
     ///   the marks of a space, the captured device is over 31, the function number is over 7, or A or B is outside its
     ///   range.
-    /// - [`Refusal::ShortPacket`]: the packet has fewer than 12 bytes.
-    /// - [`Refusal::UnknownType`]: the type code isn't one of the six.
+    /// - [`Refusal::ShortPacket`]: the packet has fewer than 12 bytes, whatever its byte 0 is.
+    /// - [`Refusal::UnknownType`]: the type code isn't one of the six, or the board is of [`Edition::Two`] and bit 7 of byte
+    ///   0 is set.
     /// - [`Refusal::WrongLength`]: the packet isn't 12 bytes, plus 4 for a write, plus 4 if the digest bit is set.
     /// - [`Refusal::WrongField`]: TC, Attr or the last enables aren't 0, or Length isn't 1.
     ///
@@ -194,11 +198,11 @@ impl<'a> Board<'a> {
     /// Resets the board: forgets the capture, and changes no byte.
     ///
     /// ```
-    /// use thawribbon::{Board, Capture, Description, NO_MARKS, SPACE, Space};
+    /// use thawribbon::{Board, Capture, Description, Edition, NO_MARKS, SPACE, Space};
     ///
     /// let (mut ordinary, mut trusted, rules) = ([0; SPACE], [0; SPACE], [0xFF; SPACE]);
     /// let mut board = Board::fresh(
-    ///     Description { function: 0, a: 0x104, b: 0x00C },
+    ///     Description { function: 0, a: 0x104, b: 0x00C, edition: Edition::One },
     ///     Space { bytes: &mut ordinary, rules: &rules, marks: &NO_MARKS },
     ///     Space { bytes: &mut trusted, rules: &rules, marks: &NO_MARKS },
     /// );
@@ -219,6 +223,7 @@ fn described(description: Description) -> raw::Description {
         function: description.function,
         a: description.a.into(),
         b: description.b.into(),
+        edition: description.edition.number(),
     }
 }
 

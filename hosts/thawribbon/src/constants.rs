@@ -30,7 +30,8 @@ pub const REQUEST: usize = 16;
 /// Where four data bytes are: in a packet that writes, and in a completion of 16 bytes.
 pub const DATA: usize = 12;
 
-/// Byte 0 of a Type 0 read. Its bit 7, as that of the next five, is ignored.
+/// Byte 0 of a Type 0 read without its bit 7, as the next five are. What a board does where bit 7 is set is said by its
+/// [`Edition`](crate::Edition).
 pub const TYPE0_READ: u8 = 0x04;
 
 /// Byte 0 of a Type 0 write.
@@ -47,6 +48,12 @@ pub const TRUSTED_READ: u8 = 0x1B;
 
 /// Byte 0 of a trusted write.
 pub const TRUSTED_WRITE: u8 = 0x5B;
+
+/// The number of [`Edition::One`](crate::Edition::One), for [`raw::Description`](crate::raw::Description).
+pub const EDITION_1: u32 = 1;
+
+/// The number of [`Edition::Two`](crate::Edition::Two), for [`raw::Description`](crate::raw::Description).
+pub const EDITION_2: u32 = 2;
 
 /// Where a completion has its status byte.
 pub const STATUS: usize = 6;

@@ -24,7 +24,7 @@
 //! space's rules and marks let it change. So it is read back, and compared.
 //!
 //! ```
-//! use thawribbon::{Board, Description, Id, NO_MARKS, NotAnswered, Request, SPACE, Said, Space};
+//! use thawribbon::{Board, Description, Edition, Id, NO_MARKS, NotAnswered, Request, SPACE, Said, Space};
 //!
 //! /// The board stands for the bus: a packet goes there, and the bytes of a completion come back.
 //! fn ask(board: &mut Board, request: Request) -> Result<Said, NotAnswered> {
@@ -36,7 +36,7 @@
 //! fn main() -> Result<(), NotAnswered> {
 //!     let (mut ordinary, mut trusted, rules) = ([0; SPACE], [0; SPACE], [0xFF; SPACE]);
 //!     let mut board = Board::fresh(
-//!         Description { function: 0, a: 0x104, b: 0x00C },
+//!         Description { function: 0, a: 0x104, b: 0x00C, edition: Edition::One },
 //!         Space { bytes: &mut ordinary, rules: &rules, marks: &NO_MARKS },
 //!         Space { bytes: &mut trusted, rules: &rules, marks: &NO_MARKS },
 //!     );
@@ -56,12 +56,13 @@
 //! read back into the same [`Completion`], with the same `Result`, by [`Completion::read`].
 //!
 //! ```
-//! use thawribbon::{Board, DATA, Description, NO_MARKS, NotDone, SPACE, Space, TRUSTED_READ, TRUSTED_WRITE, TYPE0_WRITE};
+//! use thawribbon::{Board, DATA, Description, Edition, NO_MARKS, NotDone, SPACE, Space};
+//! use thawribbon::{TRUSTED_READ, TRUSTED_WRITE, TYPE0_WRITE};
 //!
 //! fn main() -> Result<(), NotDone> {
 //!     let (mut ordinary, mut trusted, rules) = ([0; SPACE], [0; SPACE], [0xFF; SPACE]);
 //!     let mut board = Board::fresh(
-//!         Description { function: 0, a: 0x104, b: 0x00C },
+//!         Description { function: 0, a: 0x104, b: 0x00C, edition: Edition::One },
 //!         Space { bytes: &mut ordinary, rules: &rules, marks: &NO_MARKS },
 //!         Space { bytes: &mut trusted, rules: &rules, marks: &NO_MARKS },
 //!     );
@@ -84,7 +85,7 @@
 //! marks and in the rules. A space without such bits has [`NO_MARKS`].
 //!
 //! ```
-//! use thawribbon::{Board, Description, Id, NO_MARKS, NotAnswered, Request, SPACE, Said, Space};
+//! use thawribbon::{Board, Description, Edition, Id, NO_MARKS, NotAnswered, Request, SPACE, Said, Space};
 //!
 //! # fn ask(board: &mut Board, request: Request) -> Result<Said, NotAnswered> {
 //! #     let packet = request.packet()?;
@@ -96,7 +97,7 @@
 //!     marks[0x007] = 0xF9; // the error bits of the Status register
 //!     ordinary[0x007] = 0xC0; // two errors have come
 //!     let mut board = Board::fresh(
-//!         Description { function: 0, a: 0x104, b: 0x00C },
+//!         Description { function: 0, a: 0x104, b: 0x00C, edition: Edition::One },
 //!         Space { bytes: &mut ordinary, rules: &rules, marks: &marks },
 //!         Space { bytes: &mut trusted, rules: &rules, marks: &NO_MARKS },
 //!     );
@@ -112,6 +113,12 @@
 //!     Ok(())
 //! }
 //! ```
+//!
+//! # Two editions of byte 0
+//!
+//! Bit 7 of a packet's byte 0 is reserved in earlier revisions of Base, and a part of the format field in later ones. A
+//! board's [`Description`] says by its [`Edition`] which it goes by: [`Edition::One`] ignores the bit, as every version
+//! before 0.10.0 did, and [`Edition::Two`] refuses a packet that has it set. Packets without it are answered alike.
 //!
 //! # Who gets a radar's group
 //!
@@ -154,13 +161,13 @@
 //! trusted register. An ordinary write tells it, and then it answers.
 //!
 //! ```
-//! use thawribbon::{Board, Capture, Description, NO_MARKS, NotDone, SPACE, Space};
+//! use thawribbon::{Board, Capture, Description, Edition, NO_MARKS, NotDone, SPACE, Space};
 //!
 //! let (mut ordinary, mut trusted, mut rules) = ([0; SPACE], [0; SPACE], [0; SPACE]);
 //! rules[0x004..0x008].fill(0xFF);
 //! trusted[0x004] = 0x08;
 //! let mut board = Board::fresh(
-//!     Description { function: 0, a: 0x104, b: 0x00C },
+//!     Description { function: 0, a: 0x104, b: 0x00C, edition: Edition::One },
 //!     Space { bytes: &mut ordinary, rules: &rules, marks: &NO_MARKS },
 //!     Space { bytes: &mut trusted, rules: &rules, marks: &NO_MARKS },
 //! );
@@ -197,6 +204,7 @@
 mod board;
 mod completion;
 mod constants;
+mod edition;
 mod lists;
 mod multicast;
 mod not_answered;
@@ -214,10 +222,11 @@ mod router;
 pub use board::{Board, Capture, Description, Space};
 pub use completion::{Completion, Id, Said, Status};
 pub use constants::{
-    COMPATIBLE_MAXIMUM, DATA, EXTENDED_MAXIMUM, GROUPS, LEAVING, MULTICAST_ID, NO_MARKS, PORTS, REPLY, REQUEST, SPACE,
-    STATUS, STATUS_SUCCESSFUL, STATUS_UNSUPPORTED, TRUSTED_MAXIMUM, TRUSTED_READ, TRUSTED_WRITE, TYPE0_READ,
-    TYPE0_WRITE, TYPE1_READ, TYPE1_WRITE, VERSION,
+    COMPATIBLE_MAXIMUM, DATA, EDITION_1, EDITION_2, EXTENDED_MAXIMUM, GROUPS, LEAVING, MULTICAST_ID, NO_MARKS, PORTS,
+    REPLY, REQUEST, SPACE, STATUS, STATUS_SUCCESSFUL, STATUS_UNSUPPORTED, TRUSTED_MAXIMUM, TRUSTED_READ, TRUSTED_WRITE,
+    TYPE0_READ, TYPE0_WRITE, TYPE1_READ, TYPE1_WRITE, VERSION,
 };
+pub use edition::{Edition, UnknownEdition};
 pub use lists::{Header, List, chain, headers, walk};
 pub use multicast::{Judged, judge};
 pub use not_answered::NotAnswered;

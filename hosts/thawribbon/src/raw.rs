@@ -12,8 +12,10 @@
 //! any length. This is the one module with `unsafe` in it. The structs are laid out as C lays them out, and are held to
 //! thawribbon.h by the sizes and offsets at the end of this file and by those of hosts/c/layout.c.
 
-/// A board's function number, and the places of the Device Correlation word in the ordinary space (`a`) and in the
-/// trusted space (`b`).
+/// A board's function number, the places of the Device Correlation word in the ordinary space (`a`) and in the trusted
+/// space (`b`), and its edition of byte 0.
+///
+/// The default is the description of no board: its `a`, its `b` and its edition are 0, and each is answered 1.
 #[repr(C)]
 #[derive(Clone, Copy, Debug, Default, PartialEq, Eq)]
 pub struct Description {
@@ -23,7 +25,8 @@ pub struct Description {
     pub a: u32,
     /// The trusted place: a multiple of 4 from 00Ch to FFCh.
     pub b: u32,
-    /// The edition of byte 0: 1 ignores bit 7, 2 gives 4 when it is set; any other is answered 1.
+    /// The edition of byte 0: [`EDITION_1`](crate::EDITION_1) ignores bit 7, and [`EDITION_2`](crate::EDITION_2) gives 4
+    /// when it is set. Any other number is answered 1.
     pub edition: u32,
 }
 
@@ -311,11 +314,11 @@ mod linked {
 /// Answers a packet.
 ///
 /// ```
-/// use thawribbon::NO_MARKS;
 /// use thawribbon::raw::{Capture, Description, Served, serve};
+/// use thawribbon::{EDITION_1, NO_MARKS};
 ///
 /// let (mut ordinary, mut trusted, rules, mut reply) = ([0; 4096], [0; 4096], [0xFF; 4096], [0; 16]);
-/// let description = Description { function: 0, a: 0x104, b: 0x00C };
+/// let description = Description { function: 0, a: 0x104, b: 0x00C, edition: EDITION_1 };
 /// let fresh = Capture::default();
 ///
 /// // P2's packet.
@@ -584,7 +587,8 @@ pub fn judge(ports: &[Groups], entering: usize, address: u64) -> Judged {
 // build here.
 const _: () = {
     use std::mem::{offset_of, size_of};
-    assert!(size_of::<Description>() == 12 && offset_of!(Description, a) == 4 && offset_of!(Description, b) == 8);
+    assert!(size_of::<Description>() == 16 && offset_of!(Description, a) == 4 && offset_of!(Description, b) == 8);
+    assert!(offset_of!(Description, edition) == 12);
     assert!(size_of::<Capture>() == 3 && offset_of!(Capture, bus) == 1 && offset_of!(Capture, device) == 2);
     assert!(size_of::<Served>() == 16 && offset_of!(Served, number) == 8 && offset_of!(Served, capture) == 9);
     assert!(size_of::<Walked>() == 16 && offset_of!(Walked, number) == 8 && offset_of!(Walked, place) == 10);

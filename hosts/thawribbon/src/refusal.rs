@@ -13,7 +13,8 @@ use std::fmt;
 #[non_exhaustive]
 pub enum Refusal {
     /// A space, its rules or its marks aren't 4,096 bytes, a bit is 1 in the rules and in the marks of a space, a captured
-    /// device is over 31, a function number or A or B is outside its range, or a record is asked for where none may stand.
+    /// device is over 31, a function number or A or B is outside its range, the edition is neither 1 nor 2, which only
+    /// [`raw`](crate::raw) can say, or a record is asked for where none may stand.
     /// At a router: a list has over 32 ports, a port's secondary bus is over its subordinate bus, or two ranges of buses
     /// meet. Of a request to be written: its kind is none of the six, a device is over 31, a function over 7, its offset
     /// over FFCh or not a multiple of 4, or its enables over 15. Of an address to be judged: the list has over 32 ports, the
@@ -25,8 +26,9 @@ pub enum Refusal {
     NoRoom,
     /// The packet, or the completion, has fewer than 12 bytes.
     ShortPacket,
-    /// The type code isn't one of the six. At a router, also where it is Type 0, or where it is trusted and the port does
-    /// not support TCS routing. Of a completion: its first byte is neither 4Ah nor 0Ah.
+    /// The type code isn't one of the six. At a board of [`Edition::Two`](crate::Edition::Two), also where bit 7 of byte 0 is
+    /// set. At a router, also where it is Type 0, or where it is trusted and the port does not support TCS routing. Of a
+    /// completion: its first byte is neither 4Ah nor 0Ah.
     UnknownType,
     /// The packet length doesn't fit its type and digest bit; the completion's isn't 16 with first byte 4Ah, or 12 with
     /// 0Ah.
@@ -125,7 +127,8 @@ impl Refusal {
             Refusal::BadDescription => {
                 "a space, rules or marks of 4,096 bytes are not lent, a bit is in both the rules and the marks of a space, \
                  a captured device is over 31, \
-                 a function number or A or B is outside its range, a record is asked for where none may stand, \
+                 a function number or A or B is outside its range, the edition is neither 1 nor 2, \
+                 a record is asked for where none may stand, \
                  a list has over 32 ports, a secondary bus over its subordinate bus, or two ranges that meet, \
                  a packet enters by no port of the list, a port's Multicast fields are such as no reading gives, \
                  what leaves overlaps the ports or the packet, what is heard overlaps the board, \
@@ -138,7 +141,8 @@ impl Refusal {
             }
             Refusal::ShortPacket => "the packet or the completion has fewer than 12 bytes",
             Refusal::UnknownType => {
-                "the packet's type code is not one of the six that are served, or the router does not pass it on: \
+                "the packet's type code is not one of the six that are served, \
+                 bit 7 of its byte 0 is set and the board is of edition 2, or the router does not pass it on: \
                  it is Type 0, or it is trusted and its port does not support TCS routing; \
                  or the completion's first byte is neither 4Ah nor 0Ah"
             }

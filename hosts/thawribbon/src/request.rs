@@ -157,7 +157,8 @@ impl Request {
         self
     }
 
-    /// The packet to send: 12 bytes for a read and 16 for a write, without a digest, with reserved bits 0.
+    /// The packet to send: 12 bytes for a read and 16 for a write, without a digest, with reserved bits 0, and with bit 7 of
+    /// byte 0 clear, so that boards of either [`Edition`](crate::Edition) answer it alike.
     ///
     /// It has bytes of its own, so there is always room; [`raw::write_request`] writes into a buffer that is lent.
     ///

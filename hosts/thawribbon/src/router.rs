@@ -47,7 +47,8 @@ impl fmt::Debug for Leaving {
 /// what leaves there.
 ///
 /// `Ok` means that the packet leaves, and `?` stops at one that does not. A Type 1 request for a port's secondary bus
-/// leaves there as Type 0; whatever else leaves has the packet's own bytes. A trusted request's never change.
+/// leaves there as Type 0; whatever else leaves has the packet's own bytes. A trusted request's never change. Bit 7 of byte
+/// 0 is ignored, and goes along: what a board behind the switch does with it is said by its [`Edition`](crate::Edition).
 ///
 /// ```
 /// use thawribbon::{NotRouted, Port, Refusal, TRUSTED_WRITE, TYPE0_WRITE, TYPE1_WRITE, route};
