@@ -6,7 +6,8 @@ mod common;
 
 use common::SPACE;
 use common::asking::{HOST, KINDS, TARGET, id, reads, request};
-use thawribbon::{Board, Completion, Description, Kind, NO_MARKS, NotAnswered, NotDone, Refusal, Request, Said, Space};
+use thawribbon::{Board, Completion, Description, Edition, Kind, NO_MARKS};
+use thawribbon::{NotAnswered, NotDone, Refusal, Request, Said, Space};
 
 /// The board of the bench sheet, fresh, with rules FFh everywhere.
 fn with_board(run: impl FnOnce(&mut Board)) {
@@ -17,6 +18,7 @@ fn with_board(run: impl FnOnce(&mut Board)) {
             function: 0,
             a: 0x104,
             b: 0x00C,
+            edition: Edition::One,
         },
         Space {
             bytes: &mut ordinary,

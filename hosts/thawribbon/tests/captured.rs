@@ -4,7 +4,7 @@
 mod common;
 
 use common::{Bench, TRUSTED_READ, WRITE, WRITTEN};
-use thawribbon::{Board, Capture, Description, NO_MARKS, NotDone, SPACE, Space, raw};
+use thawribbon::{Board, Capture, Description, Edition, NO_MARKS, NotDone, SPACE, Space, raw};
 
 const FIVE_THREE: Option<Capture> = Some(Capture { bus: 0x05, device: 3 });
 
@@ -94,6 +94,7 @@ fn reset_changes_no_byte_and_the_next_trusted_read_is_unsupported() {
         function: 0,
         a: 0x104,
         b: 0x00C,
+        edition: Edition::One,
     };
     let rules = &rules;
     let [first, second] = [&mut ordinary, &mut trusted].map(|bytes| Space {

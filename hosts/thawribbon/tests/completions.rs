@@ -5,12 +5,13 @@ mod common;
 
 use common::{SPACE, TRUSTED_READ, WRITE, WRITTEN, is_completion};
 use std::error::Error;
-use thawribbon::{Board, Capture, Completion, Description, NO_MARKS, NotDone, Refusal, Space, Status, dvsec};
+use thawribbon::{Board, Capture, Completion, Description, Edition, NO_MARKS, NotDone, Refusal, Space, Status, dvsec};
 
 const DESCRIPTION: Description = Description {
     function: 0,
     a: 0x104,
     b: 0x00C,
+    edition: Edition::One,
 };
 
 /// What is lent to a board, with all bits writable.
@@ -177,7 +178,7 @@ fn a_board_is_shown_without_its_bytes() {
     let shown = format!("{:?}", Lent::new().board());
     assert_eq!(
         shown,
-        "Board { description: Description { function: 0, a: 260, b: 12 }, capture: None, \
+        "Board { description: Description { function: 0, a: 260, b: 12, edition: One }, capture: None, \
          ordinary: Space { bytes: 4096 bytes, rules: 4096 bytes, marks: 4096 bytes }, \
          trusted: Space { bytes: 4096 bytes, rules: 4096 bytes, marks: 4096 bytes } }"
     );

@@ -3,7 +3,7 @@
 
 use std::collections::BTreeMap;
 use thawribbon::raw::{Groups, judge, read_completion};
-use thawribbon::{Completion, List, NotAnswered, NotRouted, Refusal};
+use thawribbon::{Completion, Edition, List, NotAnswered, NotRouted, Refusal};
 
 const HEADER: &str = include_str!("../../include/thawribbon.h");
 
@@ -82,6 +82,8 @@ fn the_constants_are_those_of_the_header() {
         ("STATUS", &thawribbon::STATUS.to_string()),
         ("STATUS_SUCCESSFUL", &hex(thawribbon::STATUS_SUCCESSFUL)),
         ("STATUS_UNSUPPORTED", &hex(thawribbon::STATUS_UNSUPPORTED)),
+        ("EDITION_1", &thawribbon::EDITION_1.to_string()),
+        ("EDITION_2", &thawribbon::EDITION_2.to_string()),
         ("TYPE0_READ", &hex(thawribbon::TYPE0_READ)),
         ("TYPE0_WRITE", &hex(thawribbon::TYPE0_WRITE)),
         ("TYPE1_READ", &hex(thawribbon::TYPE1_READ)),
@@ -93,6 +95,15 @@ fn the_constants_are_those_of_the_header() {
         ("TRUSTED_MAXIMUM", &thawribbon::TRUSTED_MAXIMUM.to_string()),
     ];
     assert_eq!(defined(), BTreeMap::from(expected));
+}
+
+/// The crate's editions are the header's, with the numbers that document 02 has.
+#[test]
+fn the_editions_are_those_of_the_header() {
+    let defined = defined();
+    let numbers = [Edition::One, Edition::Two].map(|edition| edition.number().to_string());
+    assert_eq!(numbers, ["1", "2"]);
+    assert_eq!(numbers, ["EDITION_1", "EDITION_2"].map(|name| defined[name]));
 }
 
 /// The marks of a space without any, in both.

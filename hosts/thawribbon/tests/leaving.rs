@@ -6,7 +6,8 @@ mod common;
 use common::SPACE;
 use common::switch::{THREE, port, request};
 use std::error::Error;
-use thawribbon::{Board, Capture, Description, Leaving, NO_MARKS, NotRouted, Port, Refusal, Space, dvsec, route};
+use thawribbon::{Board, Capture, Description, Edition, Leaving, NO_MARKS};
+use thawribbon::{NotRouted, Port, Refusal, Space, dvsec, route};
 
 /// A host's own function, which passes a packet on.
 fn pass_on(ports: &[Port], packet: &[u8]) -> Result<(usize, Vec<u8>), NotRouted> {
@@ -75,6 +76,7 @@ fn board<'a>([ordinary, trusted]: &'a mut [Vec<u8>; 2], rules: &'a [u8]) -> Boar
         function: 0,
         a: 0x104,
         b: 0x00C,
+        edition: Edition::One,
     };
     let [first, second] = [ordinary, trusted].map(|bytes| Space {
         bytes,

@@ -6,7 +6,7 @@ mod common;
 
 use common::{Bench, DUAL_BDF, DVSEC, LISTS, Lent, SPACE, TRUSTED_READ, WRITE, WRITTEN};
 use common::{chained, floor, lengths, lent, resized, told, walked};
-use thawribbon::{Alternate, Capture, Dvsec, Refusal, dual_bdf, dvsec, dvsec_body, raw};
+use thawribbon::{Alternate, Capture, Dvsec, EDITION_1, Refusal, dual_bdf, dvsec, dvsec_body, raw};
 
 const FIVE_THREE: Option<Capture> = Some(Capture { bus: 0x05, device: 3 });
 
@@ -158,6 +158,7 @@ fn nothing_but_empty_slices() {
         function: 0,
         a: 0x104,
         b: 0x00C,
+        edition: EDITION_1,
     };
     let kept = raw::Capture {
         captured: 7,

@@ -4,7 +4,7 @@
 mod common;
 
 use common::{Bench, Lent, SPACE, TRUSTED_READ, WRITE, WRITTEN, lent};
-use thawribbon::{Board, Capture, Description, NO_MARKS, NotDone, Refusal, Space};
+use thawribbon::{Board, Capture, Description, Edition, NO_MARKS, NotDone, Refusal, Space};
 
 const FIVE_THREE: Option<Capture> = Some(Capture { bus: 0x05, device: 3 });
 
@@ -203,6 +203,7 @@ fn an_error_status_bit_of_a_board() {
         function: 0,
         a: 0x104,
         b: 0x00C,
+        edition: Edition::One,
     };
     let lent_space = |bytes, marks| Space {
         bytes,

@@ -3,7 +3,7 @@
 #![forbid(unsafe_code)]
 
 use std::thread;
-use thawribbon::{Board, Capture, Description, List, NO_MARKS, SPACE, Space, chain};
+use thawribbon::{Board, Capture, Description, Edition, List, NO_MARKS, SPACE, Space, chain};
 
 /// Sends a board 1,024 writes, one for each word, with the thread's own bus number and byte, and reads its extended
 /// list in between.
@@ -13,6 +13,7 @@ fn busy(own: u8, rules: &[u8]) {
         function: 0,
         a: 0xFFC,
         b: 0x00C,
+        edition: Edition::One,
     };
     let [first, second] = [&mut ordinary, &mut trusted].map(|bytes| Space {
         bytes,

@@ -10,7 +10,8 @@ pub mod switch;
 
 use std::fmt::Debug;
 use std::hint::black_box;
-use thawribbon::{Board, Capture, Completion, Description, List, NotDone, Offset, Space, Status, raw, walk};
+use thawribbon::{Board, Capture, Completion, Description, EDITION_1, Edition, List};
+use thawribbon::{NotDone, Offset, Space, Status, raw, walk};
 
 pub use thawribbon::SPACE;
 
@@ -121,14 +122,15 @@ pub struct Bench {
 }
 
 impl Bench {
-    /// The board of the bench sheet, fresh: function 0, rules FFh at 004h in both spaces, no marks, trusted 004h holding 08
-    /// 00 00 00. All other bytes tell the spaces apart.
+    /// The board of the bench sheet, fresh: function 0, edition 1, rules FFh at 004h in both spaces, no marks, trusted 004h
+    /// holding 08 00 00 00. All other bytes tell the spaces apart.
     pub fn fresh() -> Self {
         let mut bench = Bench {
             description: raw::Description {
                 function: 0,
                 a: 0x104,
                 b: 0x00C,
+                edition: EDITION_1,
             },
             kept: raw::Capture::default(),
             ordinary: lent(&[0x51; SPACE]),
@@ -208,7 +210,8 @@ impl Bench {
             self.reply.part_mut(),
         );
         self.check();
-        // A board has a reply of its own, so it is never refused with 2; and only C can name a place that is no `Offset`.
+        // A board has a reply of its own, so it is never refused with 2; and only C can name a place that is no `Offset`, and a
+        // number that is no edition.
         if let (Some(description), true) = (safe(self.description), served.number != 2) {
             other.serves_alike(description, served, &self.reply.part()[..served.length]);
         }
@@ -279,6 +282,7 @@ fn safe(description: raw::Description) -> Option<Description> {
         function: description.function,
         a: description.a.try_into().ok()?,
         b: description.b.try_into().ok()?,
+        edition: Edition::try_from(description.edition).ok()?,
     })
 }
 

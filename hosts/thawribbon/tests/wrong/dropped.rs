@@ -4,8 +4,8 @@
 //! that gives something stands here. What leaves a switch, is judged, or is to be sent, may not be dropped behind a `?`
 //! either.
 use thawribbon::raw::{self, Capture, Description, Parts};
-use thawribbon::{Board, Completion, Groups, Id, Kind, Leaving, List, NotAnswered, NotDone, NotRouted, Packet, Port};
-use thawribbon::{PortSet, Refusal, Request, Space};
+use thawribbon::{Board, Completion, Edition, Groups, Id, Kind, Leaving, List, NotAnswered, NotDone, NotRouted};
+use thawribbon::{Packet, Port, PortSet, Refusal, Request, Space, UnknownEdition};
 use thawribbon::{chain, dual_bdf, dvsec, dvsec_body, headers, judge, route, walk};
 
 fn main() {}
@@ -92,6 +92,11 @@ pub fn drop_raw_asked(parts: Parts, buffer: &mut [u8]) {
 
 pub fn drop_board(description: thawribbon::Description, ordinary: Space, trusted: Space) {
     Board::fresh(description, ordinary, trusted); // dropped
+}
+
+pub fn drop_editions(edition: Edition, unknown: UnknownEdition) {
+    edition.number(); // dropped
+    unknown.number(); // dropped
 }
 
 pub fn drop_raw_routed(ports: &[Port], packet: &[u8], leaving: &mut [u8]) {
