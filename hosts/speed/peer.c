@@ -8,6 +8,7 @@
  *
  * It does less than the library, for it leaves to its caller: the sizes of the spaces, of the packet and of the reply
  * (refusals 1, 2, 3 and 5), the ranges of the function number, of the captured device and of both offsets (refusal 1),
+ * whether the edition is one (refusal 1), bit 7 of byte 0, which it ignores under both (refusal 4 under edition 2),
  * whether a bit is in both masks (refusal 1; `masks_serve_looking` looks), and which number a refused packet gets.
  */
 #include <stddef.h>

@@ -5,8 +5,9 @@ use crate::row::{Peer, Row};
 
 /// What the peers leave out, and what every figure holds.
 const NOTES: &str = "\
-- C masks tests no sizes and no ranges and looks at no rules and marks (peer.c says what it leaves out), and branches on
-  every enable of a write: its branches are predicted only where the enables are the same in all packets.
+- C masks tests no sizes and no ranges, knows no editions and looks at no rules and marks (peer.c says what it leaves
+  out), and branches on every enable of a write: its branches are predicted only where the enables are the same in all
+  packets.
 - Bare chase follows and counts the pointers, tests nothing and lists nothing; in a loop it stops at the maximum.
 - Merge alone: the library exports no merge; its side is the same proved function, in an archive of the benchmark's own.
 - Every figure holds the calls and the loop around them; the row `reset` is hardly more than that.

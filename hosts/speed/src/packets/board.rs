@@ -36,6 +36,7 @@ impl Board for Library {
             function,
             a,
             b,
+            edition,
             capture,
             ref lent,
         } = *setting;
@@ -49,6 +50,7 @@ impl Board for Library {
                 function,
                 a: a.into(),
                 b: b.into(),
+                edition,
             },
             capture,
             lent: lent.clone(),
@@ -114,6 +116,7 @@ impl Board for SafeRust {
             function,
             a,
             b,
+            edition,
             capture,
             ref lent,
         } = *setting;
@@ -122,6 +125,7 @@ impl Board for SafeRust {
                 function,
                 a: a.into(),
                 b: b.into(),
+                edition,
             },
             capture,
             lent: lent.clone(),

@@ -61,6 +61,12 @@ impl Draft {
         self
     }
 
+    /// Clears bit 7 of byte 0, or sets it.
+    pub fn with_bit_7(mut self, is_set: bool) -> Self {
+        self.0[0] = self.0[0] & 0x7F | u8::from(is_set) << 7;
+        self
+    }
+
     pub fn for_another_function(mut self, random: &mut Random) -> Self {
         self.0[9] ^= 1 + random.below(7) as u8;
         self

@@ -5,6 +5,7 @@ use super::draft::Draft;
 use super::setting::Setting;
 use super::{CALLS, SERVED_CALLS};
 use crate::random::Random;
+use thawribbon::EDITION_2;
 
 /// A kind of packet with the board it is sent to, and what every packet of it must be answered.
 pub struct Kind {
@@ -25,7 +26,7 @@ type Draw = fn(&mut Random, &Setting) -> Draft;
 pub const SERVED: Option<u8> = Some(0x00);
 const UNSUPPORTED: Option<u8> = Some(0x20);
 
-pub const KINDS: [Kind; 21] = [
+pub const KINDS: [Kind; 24] = [
     read("read, ordinary", |random, setting| {
         Draft::ordinary(0x04, random, setting)
     }),
@@ -107,6 +108,24 @@ pub const KINDS: [Kind; 21] = [
     refused("refused 6, another fixed field", 6, |random, setting| {
         Draft::ordinary(0x04, random, setting).with_another_field(random)
     }),
+    Kind {
+        setting: |setting| setting.edition = EDITION_2,
+        ..read("read, ordinary, edition 2", |random, setting| {
+            Draft::ordinary(0x04, random, setting).with_bit_7(false)
+        })
+    },
+    Kind {
+        setting: |setting| setting.edition = EDITION_2,
+        ..write("write, trusted, edition 2", |random, setting| {
+            Draft::trusted(0x5B, random, setting).with_bit_7(false)
+        })
+    },
+    Kind {
+        setting: |setting| setting.edition = EDITION_2,
+        ..refused("refused 4, bit 7, edition 2", 4, |random, setting| {
+            Draft::ordinary(0x04, random, setting).with_bit_7(true)
+        })
+    },
 ];
 
 const fn read(what: &'static str, draw: Draw) -> Kind {

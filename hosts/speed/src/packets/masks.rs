@@ -101,6 +101,7 @@ impl Board for Masks {
             function,
             a,
             b,
+            edition: _,
             capture,
             ref lent,
         } = *setting;

@@ -1,6 +1,7 @@
 //! What a board is before its first packet, the same for every side.
 
 use crate::random::Random;
+use thawribbon::EDITION_1;
 
 /// The bytes of a space, of its rules and of its marks.
 const SPACE: usize = 4096;
@@ -23,12 +24,14 @@ pub struct Setting {
     pub function: u8,
     pub a: u16,
     pub b: u16,
+    pub edition: u32,
     pub capture: Option<(u8, u8)>,
     pub lent: Lent,
 }
 
 impl Setting {
-    /// A board with random spaces, rules and marks that has captured a bus and a device. No bit is in rules and marks.
+    /// A board of edition 1 with random spaces, rules and marks that has captured a bus and a device. No bit is in rules and
+    /// marks.
     pub fn drawn(random: &mut Random) -> Self {
         let ordinary_rules = random.bytes(SPACE);
         let trusted_rules = random.bytes(SPACE);
@@ -46,6 +49,7 @@ impl Setting {
             function: random.byte() & 7,
             a: 0x7A4,
             b: 0x3C8,
+            edition: EDITION_1,
             capture,
             lent,
         }
