@@ -3,7 +3,7 @@
 # the archive that the kit itself writes. Where a tool is missing, what needs it is skipped, or failed where CI is set.
 . tests/common/host_tools.bash
 page=docs/LIBRARY.md
-least=145
+least=159
 here=$(uname -m)-unknown-linux-gnu
 
 # needs ARCHIVE: what the page says the archive needs of the C library
@@ -116,6 +116,10 @@ mistakes_are_seen() {
         cc "${c[@]}" -I "$built" -c hosts/c/wrong/short_space.c -o "$work/short_space.o"
     ends "the kit's clang sees a board over a buffer of 256 bytes" 1 'incompatible' \
         kit_clang c "$here" "${c[@]}" -I "$built" -c hosts/c/wrong/short_space.c -o "$work/short_space.o"
+    ends 'cc sees a description without an edition, where members have no names' 1 'missing-field-initializers' \
+        cc "${c[@]}" -I "$built" -c hosts/c/wrong/no_edition.c -o "$work/no_edition.o"
+    ends "the kit's clang sees a description without an edition, where members have no names" 1 'missing-field-initializers' \
+        kit_clang c "$here" "${c[@]}" -I "$built" -c hosts/c/wrong/no_edition.c -o "$work/no_edition.o"
     ends "cc sees what is judged taken for a router's verdict" 1 'enum-compare' \
         cc "${c[@]}" -I "$built" -c hosts/c/wrong/other_verdict.c -o "$work/other_verdict.o"
     ends "the kit's clang sees what is judged taken for a router's verdict" 1 'enum-compare' \
@@ -168,6 +172,10 @@ page_notices() {
         's/thawribbon_board_serve(&board, type0_write, sizeof type0_write, &answer) != THAWRIBBON_DONE/sizeof type0_write == 0/' \
         'not done: Unsupported Request: the access was not done'
     other_page_c "C program 1 of $page notices that it has not landed" 1 's/\[0x010\] = 0xFF/[0x010] = 0xF0/' 'done, and not landed'
+    other_page_c "C program 1 of $page notices that the board has no edition" 1 's/, \.edition = THAWRIBBON_EDITION_1//' \
+        'not done: a space, rules or marks of 4,096 bytes are not lent'
+    other_page_c "C program 1 of $page notices an edition that is none" 1 's/THAWRIBBON_EDITION_1/257/' \
+        'not done: a space, rules or marks of 4,096 bytes are not lent'
     other_page_c "C program 2 of $page stops at a board that is badly described" 2 's/\.function = 0/.function = 8/' 'dropped a packet: a space, rules or marks'
     if [ "$(wc -l <"$work/log")" -ne 1 ]; then echo "FAILED C program 2 of $page goes on with a board that is badly described"; fi
     other_page_c "C program 2 of $page tells where a list is broken" 2 's/0x23, 0x00, 0x01}/0x23, 0x00, 0x81, 0x00}/' \
@@ -202,6 +210,8 @@ page_notices() {
         '800001000: the packet is dropped where it enters'
     other_page_c "C program 7 of $page notices that there is no such port" 7 's/&offload, 0, address/\&offload, 3, address/' \
         'a packet enters by no port of the list'
+    other_page_c "C program 8 of $page notices that a board has no edition" 8 's/, \.edition = THAWRIBBON_EDITION_2//' \
+        "05 leaves as 04, $(sed -n 's/.*it would end with `\(edition 0: [^`]*\)`.*/\1/p' $page)"
 }
 
 # The example at the top of the header.

@@ -5,8 +5,8 @@
 page=docs/LIBRARY.md
 sources=hosts/thawribbon/src
 # The tests and examples that there are at least.
-least_tests=167
-least_examples=43
+least_tests=187
+least_examples=46
 export CARGO_TERM_COLOR=never
 
 # passed PART: how many tests, or examples, the last run of cargo test passed; it runs the examples last
@@ -93,6 +93,8 @@ page_notices() {
     other_page_rust "Rust program 8 of $page stops at a port without a Multicast capability" 8 's/\[0x12, 0x00/[0x24, 0x00/' 'Error: OtherStructure'
     other_page_rust "Rust program 8 of $page stops at more groups than there may be" 8 's/0x3F, 0x00, 0x03/0x02, 0x00, 0x03/' 'Error: WrongGroups'
     other_page_rust "Rust program 8 of $page stops where there is no such port" 8 's/judge(&ports, 0,/judge(\&ports, 3,/' 'Error: BadDescription'
+    other_page_rust "Rust program 9 of $page stops at a number that is no edition" 9 's/in \[1, 2\]/in [1, 3]/' \
+        "$(sed -n 's/.*With 3 in the place of 2 it would end with `\(Error: [^`]*\)`.*/\1/p' $page)"
 }
 
 # The page's N-th Rust program has no board: of the archive, only the asking side is linked.
@@ -124,12 +126,16 @@ answers_are_not_dropped() {
     fi
 }
 
-# What the page says of the crate besides: a match needs a last arm, a port's fields have no default, and unsafe stands in one file.
+# What the page says of the crate besides: a match needs a last arm, a port's fields have no default, a description needs an edition, which has
+# none either, and unsafe stands in one file.
 crate_is_as_told() {
     package no_last_arm <hosts/thawribbon/tests/wrong/no_last_arm.rs
     ends 'rustc wants a last arm of a match on a refusal' 101 'non-exhaustive patterns: `_` not covered' within "$work/no_last_arm" cargo check --offline
     package no_default <hosts/thawribbon/tests/wrong/no_default.rs
     ends 'rustc has no default for the fields of a port that was not read' 101 'the trait bound `Groups: Default` is not satisfied' within "$work/no_default" cargo check --offline
+    package no_edition <hosts/thawribbon/tests/wrong/no_edition.rs
+    ends 'rustc wants an edition of every description' 101 'missing field `edition` in initializer' within "$work/no_edition" cargo check --offline
+    ends 'rustc has no default for an edition' 101 'the trait bound `Edition: Default` is not satisfied' within "$work/no_edition" cargo check --offline
     if [ "$(grep -lw unsafe hosts/thawribbon/build.rs $sources/*)" = $sources/raw.rs ]; then
         echo 'ok unsafe stands only in raw.rs'
     else
