@@ -97,9 +97,9 @@ enum thawribbon_number {
     THAWRIBBON_NO_ROOM = 2,
     /* the packet, or the completion, has fewer than 12 bytes */
     THAWRIBBON_SHORT_PACKET = 3,
-    /* the type code isn't one of the six (rule 3.2); at a board of edition 2, also where bit 7 of byte 0 is set; at a router, also where it
-       is Type 0 (rule 10.5), or where it is trusted and the port does not support TCS routing (rule 10.6); of a completion, its first byte
-       is neither 4Ah nor 0Ah */
+    /* the type code isn't one of the six (rule 3.2); at a board of edition 2, also where bit 7 of byte 0 is set (rule 3.11); at a router, also
+       where it is Type 0 (rule 10.5), or where it is trusted and the port does not support TCS routing (rule 10.6); of a completion, its first
+       byte is neither 4Ah nor 0Ah */
     THAWRIBBON_UNKNOWN_TYPE = 4,
     /* the packet length doesn't fit its type and digest bit; the completion's isn't 16 with first byte 4Ah, or 12 with 0Ah */
     THAWRIBBON_WRONG_LENGTH = 5,
