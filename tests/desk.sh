@@ -116,6 +116,12 @@ chain extended 1 FFD 4 0|the chain does not fit: its headers leave the space, or
 chain compatible 1 40 4 140|the chain does not fit: its headers leave the space, or a pointer is too large
 chain compatible 40 40 4 0|the chain does not fit: its headers leave the space, or a pointer is too large
 A 11111111111111111|'11111111111111111' is no word of the desk, and no number of one to sixteen hexadecimal digits
+edition|the line's end stands where a number is still wanted
+edition 1 2|'2' is a number too many
+edition 2 -> number 4|'->' stands behind a statement that has no answer to expect
+edition 10000000000000002|'10000000000000002' is no word of the desk, and no number of one to sixteen hexadecimal digits
+edition two|'two' is no word of the desk, and no number of one to sixteen hexadecimal digits
+packet 84 -> number 3, edition 2|'edition' cannot be expected of this
 ports 05 08|the line's end stands where a number is still wanted
 ports 05 08 1 0A|the line's end stands where a number is still wanted
 ports 05 100 1|'100' is too large here
@@ -236,14 +242,14 @@ ok
 ok
 00F: 00 0F 03 00
 FFE: 00 80
-number 1: badly described: a buffer of another size than 1000, a number or an offset out of range, or a bit that is writable and marked
+number 1: badly described: a buffer of another size than 1000, a number or an offset out of range, an edition other than 1 and 2, or a bit that is writable and marked
   ordinary 010: rule FF and mark 0F have a bit in common
   trusted FFF: rule FF and mark 80 have a bit in common
   captured: nothing
   no byte changed
 ok
 ok
-number 1: badly described: a buffer of another size than 1000, a number or an offset out of range, or a bit that is writable and marked
+number 1: badly described: a buffer of another size than 1000, a number or an offset out of range, an edition other than 1 and 2, or a bit that is writable and marked
   ordinary 011: rule FF and mark 03 have a bit in common
   captured: nothing
   no byte changed
@@ -253,6 +259,92 @@ as expected
 checks 1, as expected 1, lines not understood 0
 LINES
 answers "marks, and a bit that is marked twice" 0 <"$work/in"
+
+# An edition that is none is told as it was typed, however many digits it has. A 4 for bit 7 alone is told as that; one for a code that is unknown without it
+# too as before, and so is one of the switch, which has no edition. What a packet with bit 7 asks for is told under edition 1.
+cat >"$work/in" <<'LINES'
+open
+edition 0
+packet
+edition 100000002
+trusted-marks FFF 80
+packet 04 00 00 01 01 00 08 0F 05 18 00 04
+open
+edition 2
+packet 84 00 00 01 01 00 08 0F 05 18 00 04
+packet DB 10 00 01 01 00 07 0F 05 18 00 04
+packet 80 00 00 01 01 00 08 0F 05 18 00 04
+packet 00 00 00 01 01 00 08 0F 05 18 00 04
+packet 84 00 00 01 01 00 08 0F 05 18 00
+ask 04 01 00 08 05 03 0 004 F
+ports 05 05 0
+route 85 00 00 01 01 00 08 0F 05 18 00 04
+route 80 00 00 01 01 00 08 0F 05 18 00 04
+route 9B 00 00 01 01 00 08 0F 05 18 00 04
+packet 84 00 00 01 01 00 08 0F 05 18 00 04 -> number 0
+edition 1
+packet 84 00 00 01 01 00 08 0F 05 18 00 04
+packet 80 00 00 01 01 00 08 0F 05 18 00 04
+LINES
+bad='number 1: badly described: a buffer of another size than 1000, a number or an offset out of range, an edition other than 1 and 2, or a bit that is writable and marked'
+set_bit='number 4: bit 7 of byte 0 is set: under edition 2 it is part of the type code, and none of the six has it'
+unknown='number 4: byte 0 without bit 7 is none of the six type codes'
+asks='bus 05 device 03 function 0, offset 004, enables 1111, requester 01 00 tag 08'
+stays='  captured: nothing
+  no byte changed'
+cat >"$work/wanted" <<LINES
+ok
+ok
+$bad
+  edition 0 is neither 1 nor 2
+$stays
+ok
+ok
+$bad
+  edition 100000002 is neither 1 nor 2
+  trusted FFF: rule FF and mark 80 have a bit in common
+  asks: Type 0 read, $asks
+$stays
+ok
+ok
+$set_bit
+$stays
+$set_bit
+$stays
+$unknown
+$stays
+$unknown
+$stays
+number 3: the packet has fewer than 12 bytes
+$stays
+writes: 04 00 00 01 01 00 08 0F 05 18 00 04
+number 0: answered
+  asks: Type 0 read, $asks
+  reply: 4A 00 00 01 00 00 00 04 01 00 08 00 51 51 51 51
+  says: successful; completer 00 00, requester 01 00 tag 08, data 51 51 51 51
+$stays
+  reads: success with data 51 51 51 51; completer 00 00, requester 01 00 tag 08
+ok
+number 0: routed
+  asks: Type 1 read, $asks
+  leaves: port 0, as Type 0: 84 00 00 01 01 00 08 0F 05 18 00 04
+$unknown
+number 4: a trusted request, and its port does not support TCS routing
+  asks: trusted read, $asks
+line 19: not as expected: number 4, expected 0
+$set_bit
+$stays
+ok
+number 0: answered
+  asks: Type 0 read, $asks
+  reply: 4A 00 00 01 00 00 00 04 01 00 08 00 51 51 51 51
+  says: successful; completer 00 00, requester 01 00 tag 08, data 51 51 51 51
+$stays
+$unknown
+$stays
+checks 1, as expected 0, lines not understood 0
+LINES
+answers "editions, and a 4 for bit 7" 1 <"$work/in"
 
 # What the records of ports say in words, and why an address is not judged: each cause.
 cat >"$work/in" <<'LINES'

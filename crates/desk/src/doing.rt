@@ -226,6 +226,7 @@ fn slot_of(word: usize) -> usize {
         vocabulary::FUNCTION => slots::FUNCTION,
         vocabulary::A => slots::A,
         vocabulary::B => slots::B,
+        vocabulary::EDITION => slots::EDITION,
         _ => slots::ROOM,
     }
 }

@@ -15,6 +15,7 @@ use crate::wording::say_all;
 use crate::wording::say_one;
 use crate::wording::say_three;
 use crate::wording::say_two;
+use answers::Refusal;
 use board::Served;
 use packet::Decoded;
 use packet::Request;
@@ -39,10 +40,13 @@ const ASKING: usize = 6;
 // And 1 where a packet is served: a list or a record has not all of its causes.
 const BAD_BOARD: usize = 13;
 
-// And where an address is judged.
-pub const BAD_RECORDS: usize = 14;
+// And a 4 of a board for bit 7 alone.
+const BIT_7: usize = 14;
 
-const BOARD: usize = 15;
+// And 1 where an address is judged.
+pub const BAD_RECORDS: usize = 15;
+
+const BOARD: usize = 16;
 
 // An answer number and what it means.
 pub fn put_number(number: u8) {
@@ -82,7 +86,8 @@ the completion has fewer than 12 bytes
 the first byte is neither 4A nor 0A
 the completion's length does not fit its first byte: 16 bytes after 4A, 12 after 0A
 a byte that no reply with this first byte has at its place
-badly described: a buffer of another size than 1000, a number or an offset out of range, or a bit that is writable and marked
+badly described: a buffer of another size than 1000, a number or an offset out of range, an edition other than 1 and 2, or a bit that is writable and marked
+bit 7 of byte 0 is set: under edition 2 it is part of the type code, and none of the six has it
 badly described: too many records, no such port, or a record that no capability gives
 answered
 badly described: a space of another size than 1000, or a number or an offset out of range
@@ -112,18 +117,44 @@ pub fn packet(desk: &Desk, served: Served, store: &Store) {
     captured(packets::capture_number(state));
 }
 
-// The number, and of a badly described board the bits that are marked twice.
+// The number; of a badly described board an edition that is none, and the bits that are marked twice.
 fn put_answer(desk: &Desk, number: u8, store: &Store) {
-    if number == 1 {
-        put_number_as(number, BAD_BOARD);
-        marking::tell(desk, store);
-    } else {
-        put_number(number);
+    match number {
+        1 => {
+            put_number_as(number, BAD_BOARD);
+            tell_edition(desk);
+            marking::tell(desk, store);
+        }
+        4 => put_number_as(number, unknown_type(packets::sent(desk, store))),
+        _ => put_number(number),
     }
 }
 
-fn request(desk: &Desk, packet: &[u8], replied: usize, store: &Store) {
+fn tell_edition(desk: &Desk) {
+    match packets::edition_of(desk) {
+        packet::EDITION_1 | packet::EDITION_2 => {}
+        _ => say_one(wording::OTHER_EDITION, slots::at(desk, slots::EDITION)),
+    }
+}
+
+// Why a board gives 4: for bit 7, unless the type is unknown without it too.
+fn unknown_type(packet: &[u8]) -> usize {
     match packet::decode(packet) {
+        Decoded::Refused(refusal) => unknown_without(refusal),
+        Decoded::Asks(_) => BIT_7,
+    }
+}
+
+fn unknown_without(refusal: Refusal) -> usize {
+    match refusal {
+        Refusal::UnknownType => meaning_of(refusal.number()),
+        _ => BIT_7,
+    }
+}
+
+// What the packet asks of a board of this edition, and what the board replied.
+fn request(desk: &Desk, packet: &[u8], replied: usize, store: &Store) {
+    match packet::decode_under(packets::edition_of(desk), packet) {
         Decoded::Refused(_) => {}
         Decoded::Asks(asked) => {
             put_request(asked, packet);

@@ -8,8 +8,9 @@ The board:
   fresh              bytes 51 in the ordinary space, 72 in the trusted one, every rule 00
   open               the same with every rule FF
   blank              every byte and every rule 00
-                     (each with every mark 00, function 0, A 104, B 00C, nothing captured; a session begins with the last)
+                     (each with every mark 00, function 0, A 104, B 00C, edition 1, nothing captured; a session begins with the last)
   function F   A N   B N
+  edition N          of byte 0: 1 ignores its bit 7, 2 gives 4 when that is set; with any other the board answers 1
   captured BUS DEVICE   forgotten
   ordinary N b b ..  bytes at offset N; also: trusted
   ordinary-rules N b b ..

@@ -90,7 +90,17 @@ pub fn description_of(desk: &Desk) -> Description {
         function: (slots::at(desk, slots::FUNCTION) % 256) as u8,
         a: slots::at(desk, slots::A),
         b: slots::at(desk, slots::B),
+        edition: edition_of(desk),
     }
+}
+
+// A board's edition has 32 bits. A number over them is no edition, and the highest, which is none either, stands for it: nothing is cut off.
+pub fn edition_of(desk: &Desk) -> u32 {
+    let number = slots::at(desk, slots::EDITION);
+    if 0xffffffff < number {
+        return u32::MAX;
+    }
+    number as u32
 }
 
 pub fn capture_of(desk: &Desk) -> Capture {

@@ -1,5 +1,5 @@
 // What the desk keeps in numbers from line to line, each at a place of its own.
-pub const SLOTS: usize = 24;
+pub const SLOTS: usize = 25;
 
 // The line's number; how many statements had an expectation, and how many of them were right; how many lines were not understood.
 pub const LINE: usize = 0;
@@ -15,51 +15,53 @@ pub const SHEET: usize = 4;
 
 pub const ECHO: usize = 5;
 
-// The board: its function number, A and B, and the capture, bus and device in one number.
+// The board: its function number, A and B, its edition, as large as it was typed, and the capture, bus and device in one number.
 pub const FUNCTION: usize = 6;
 
 pub const A: usize = 7;
 
 pub const B: usize = 8;
 
-pub const CAPTURED: usize = 9;
+pub const EDITION: usize = 9;
+
+pub const CAPTURED: usize = 10;
 
 // What is lent to the next question: so much of each of the six buffers, in their order in the store, and of the reply, what leaves, what is
 // written or the list room.
-pub const ORDINARY_SIZE: usize = 10;
+pub const ORDINARY_SIZE: usize = 11;
 
-pub const ORDINARY_RULES_SIZE: usize = 11;
+pub const ORDINARY_RULES_SIZE: usize = 12;
 
-pub const ORDINARY_MARKS_SIZE: usize = 12;
+pub const ORDINARY_MARKS_SIZE: usize = 13;
 
-pub const TRUSTED_SIZE: usize = 13;
+pub const TRUSTED_SIZE: usize = 14;
 
-pub const TRUSTED_RULES_SIZE: usize = 14;
+pub const TRUSTED_RULES_SIZE: usize = 15;
 
-pub const TRUSTED_MARKS_SIZE: usize = 15;
+pub const TRUSTED_MARKS_SIZE: usize = 16;
 
-pub const ROOM: usize = 16;
+pub const ROOM: usize = 17;
 
 // The rest of a line that is too long is being read past.
-pub const SKIPPING: usize = 17;
+pub const SKIPPING: usize = 18;
 
 // The input could not be read to its end.
-pub const UNREAD: usize = 18;
+pub const UNREAD: usize = 19;
 
 // Somebody types, and is asked for each line.
-pub const PROMPT: usize = 19;
+pub const PROMPT: usize = 20;
 
 // How many bytes of a line that is not whole yet the piece begins with.
-pub const REST: usize = 20;
+pub const REST: usize = 21;
 
 // How many ports the switch has.
-pub const PORTS: usize = 21;
+pub const PORTS: usize = 22;
 
 // How many bytes the packet has that stands in the store, or the completion.
-pub const SENT: usize = 22;
+pub const SENT: usize = 23;
 
 // How many of the switch's ports have a record.
-pub const RECORDS: usize = 23;
+pub const RECORDS: usize = 24;
 
 // The capture while there is none: over every bus and device.
 pub const NOTHING: usize = 0x10000;
@@ -93,6 +95,7 @@ pub fn begin(desk: &mut Desk) {
     desk[FUNCTION] = 0;
     desk[A] = 0x104;
     desk[B] = 0x00c;
+    desk[EDITION] = 1;
     desk[CAPTURED] = NOTHING;
     lend_all(desk);
 }

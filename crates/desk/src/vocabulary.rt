@@ -28,117 +28,119 @@ pub const A: usize = 10;
 
 pub const B: usize = 11;
 
-pub const CAPTURED: usize = 12;
+pub const EDITION: usize = 12;
 
-pub const FORGOTTEN: usize = 13;
+pub const CAPTURED: usize = 13;
 
-pub const ORDINARY: usize = 14;
+pub const FORGOTTEN: usize = 14;
 
-pub const TRUSTED: usize = 15;
+pub const ORDINARY: usize = 15;
 
-pub const ORDINARY_RULES: usize = 16;
+pub const TRUSTED: usize = 16;
 
-pub const TRUSTED_RULES: usize = 17;
+pub const ORDINARY_RULES: usize = 17;
 
-pub const ORDINARY_MARKS: usize = 18;
+pub const TRUSTED_RULES: usize = 18;
 
-pub const TRUSTED_MARKS: usize = 19;
+pub const ORDINARY_MARKS: usize = 19;
 
-pub const CHAIN: usize = 20;
+pub const TRUSTED_MARKS: usize = 20;
 
-pub const PORTS: usize = 21;
+pub const CHAIN: usize = 21;
 
-pub const RECORDS: usize = 22;
+pub const PORTS: usize = 22;
 
-pub const RECORD: usize = 23;
+pub const RECORDS: usize = 23;
 
-pub const SIZES: usize = 24;
+pub const RECORD: usize = 24;
 
-pub const ROOM: usize = 25;
+pub const SIZES: usize = 25;
+
+pub const ROOM: usize = 26;
 
 // To look, and the questions.
-pub const SHOW: usize = 26;
+pub const SHOW: usize = 27;
 
-pub const PACKET: usize = 27;
+pub const PACKET: usize = 28;
 
-pub const RESET: usize = 28;
+pub const RESET: usize = 29;
 
-pub const MERGE: usize = 29;
+pub const MERGE: usize = 30;
 
-pub const WALK: usize = 30;
+pub const WALK: usize = 31;
 
-pub const DVSEC: usize = 31;
+pub const DVSEC: usize = 32;
 
-pub const DUAL: usize = 32;
+pub const DUAL: usize = 33;
 
-pub const ROUTE: usize = 33;
+pub const ROUTE: usize = 34;
 
-pub const ASK: usize = 34;
+pub const ASK: usize = 35;
 
-pub const COMPLETION: usize = 35;
+pub const COMPLETION: usize = 36;
 
-pub const MULTICAST: usize = 36;
+pub const MULTICAST: usize = 37;
 
-pub const KEEP: usize = 37;
+pub const KEEP: usize = 38;
 
-pub const JUDGE: usize = 38;
+pub const JUDGE: usize = 39;
 
 // What is only expected.
-pub const NUMBER: usize = 39;
+pub const NUMBER: usize = 40;
 
-pub const REPLY: usize = 40;
+pub const REPLY: usize = 41;
 
-pub const BYTES: usize = 41;
+pub const BYTES: usize = 42;
 
-pub const OFFSETS: usize = 42;
+pub const OFFSETS: usize = 43;
 
-pub const STEPS: usize = 43;
+pub const STEPS: usize = 44;
 
-pub const PLACE: usize = 44;
+pub const PLACE: usize = 45;
 
-pub const HEADER: usize = 45;
+pub const HEADER: usize = 46;
 
-pub const BODY: usize = 46;
+pub const BODY: usize = 47;
 
-pub const ALTERNATE: usize = 47;
+pub const ALTERNATE: usize = 48;
 
-pub const PORT: usize = 48;
+pub const PORT: usize = 49;
 
-pub const LEAVES: usize = 49;
+pub const LEAVES: usize = 50;
 
-pub const WRITES: usize = 50;
+pub const WRITES: usize = 51;
 
-pub const COMPLETER: usize = 51;
+pub const COMPLETER: usize = 52;
 
-pub const REQUESTER: usize = 52;
+pub const REQUESTER: usize = 53;
 
-pub const TAG: usize = 53;
+pub const TAG: usize = 54;
 
-pub const SHOWN: usize = 54;
+pub const SHOWN: usize = 55;
 
-pub const DONE: usize = 55;
+pub const DONE: usize = 56;
 
-pub const UNSUPPORTED: usize = 56;
+pub const UNSUPPORTED: usize = 57;
 
-pub const FIELDS: usize = 57;
+pub const FIELDS: usize = 58;
 
-pub const GROUP: usize = 58;
+pub const GROUP: usize = 59;
 
-pub const LEAVES_BY: usize = 59;
+pub const LEAVES_BY: usize = 60;
 
-pub const DROPPED: usize = 60;
+pub const DROPPED: usize = 61;
 
-pub const NO_HIT: usize = 61;
+pub const NO_HIT: usize = 62;
 
 // The lists, beside the trusted one.
-pub const COMPATIBLE: usize = 62;
+pub const COMPATIBLE: usize = 63;
 
-pub const EXTENDED: usize = 63;
+pub const EXTENDED: usize = 64;
 
 // The marks of an expectation.
-pub const ARROW: usize = 64;
+pub const ARROW: usize = 65;
 
-pub const COMMA: usize = 65;
+pub const COMMA: usize = 66;
 
 // The table has the words in the order of their numbers, from HELP on.
 pub fn word_of(text: &[u8]) -> usize {
@@ -154,6 +156,7 @@ blank
 function
 A
 B
+edition
 captured
 forgotten
 ordinary

@@ -54,140 +54,143 @@ pub const SHOWN: usize = 21;
 
 pub const TWICE: usize = 22;
 
+// An edition that no board has.
+pub const OTHER_EDITION: usize = 23;
+
 // Lists and records.
-pub const LISTED: usize = 23;
+pub const LISTED: usize = 24;
 
-pub const SHORT_HEADER: usize = 24;
+pub const SHORT_HEADER: usize = 25;
 
-pub const LONG_HEADER: usize = 25;
+pub const LONG_HEADER: usize = 26;
 
-pub const HOLDER: usize = 26;
+pub const HOLDER: usize = 27;
 
-pub const NO_HOLDER: usize = 27;
+pub const NO_HOLDER: usize = 28;
 
-pub const ALTERNATE: usize = 28;
+pub const ALTERNATE: usize = 29;
 
-pub const HEADER: usize = 29;
+pub const HEADER: usize = 30;
 
-pub const BODY: usize = 30;
+pub const BODY: usize = 31;
 
 // A Multicast capability.
-pub const GROUPS: usize = 31;
+pub const GROUPS: usize = 32;
 
-pub const WINDOWS: usize = 32;
+pub const WINDOWS: usize = 33;
 
-pub const RECEIVE: usize = 33;
+pub const RECEIVE: usize = 34;
 
-pub const BLOCK_ALL: usize = 34;
+pub const BLOCK_ALL: usize = 35;
 
-pub const CLASH: usize = 35;
+pub const CLASH: usize = 36;
 
-pub const KEPT: usize = 36;
+pub const KEPT: usize = 37;
 
 // What leaves the switch.
-pub const LEAVES: usize = 37;
+pub const LEAVES: usize = 38;
 
-pub const TURNED: usize = 38;
+pub const TURNED: usize = 39;
 
 // An address that is judged at the switch.
-pub const NOT_ENABLED: usize = 39;
+pub const NOT_ENABLED: usize = 40;
 
-pub const BELOW_BASE: usize = 40;
+pub const BELOW_BASE: usize = 41;
 
-pub const PAST_LAST: usize = 41;
+pub const PAST_LAST: usize = 42;
 
-pub const DROPPED: usize = 42;
+pub const DROPPED: usize = 43;
 
-pub const LEAVES_BY: usize = 43;
+pub const LEAVES_BY: usize = 44;
 
-pub const LEAVES_NOWHERE: usize = 44;
+pub const LEAVES_NOWHERE: usize = 45;
 
-pub const TOO_MANY_RECORDS: usize = 45;
+pub const TOO_MANY_RECORDS: usize = 46;
 
-pub const NO_SUCH_PORT: usize = 46;
+pub const NO_SUCH_PORT: usize = 47;
 
-pub const NO_RECORD: usize = 47;
+pub const NO_RECORD: usize = 48;
 
 // What the asking side writes, and what it reads.
-pub const WRITES: usize = 48;
+pub const WRITES: usize = 49;
 
-pub const READS: usize = 49;
+pub const READS: usize = 50;
 
-pub const READS_DATA: usize = 50;
+pub const READS_DATA: usize = 51;
 
-pub const READS_DONE: usize = 51;
+pub const READS_DONE: usize = 52;
 
-pub const READS_UR: usize = 52;
+pub const READS_UR: usize = 53;
 
 // What is not as expected.
-pub const DIFFERENCE: usize = 53;
+pub const DIFFERENCE: usize = 54;
 
-pub const WRONG_NUMBER: usize = 54;
+pub const WRONG_NUMBER: usize = 55;
 
-pub const WRONG_LENGTH: usize = 55;
+pub const WRONG_LENGTH: usize = 56;
 
-pub const WRONG_BYTE: usize = 56;
+pub const WRONG_BYTE: usize = 57;
 
-pub const WRONG_CAPTURE: usize = 57;
+pub const WRONG_CAPTURE: usize = 58;
 
-pub const EXPECTED_CAPTURE: usize = 58;
+pub const EXPECTED_CAPTURE: usize = 59;
 
-pub const WRONG_BYTES: usize = 59;
+pub const WRONG_BYTES: usize = 60;
 
-pub const WRONG_COUNT: usize = 60;
+pub const WRONG_COUNT: usize = 61;
 
-pub const WRONG_PLACE: usize = 61;
+pub const WRONG_PLACE: usize = 62;
 
-pub const WRONG_ENTRY: usize = 62;
+pub const WRONG_ENTRY: usize = 63;
 
-pub const WRONG_FIELDS: usize = 63;
+pub const WRONG_FIELDS: usize = 64;
 
-pub const WRONG_FIELD: usize = 64;
+pub const WRONG_FIELD: usize = 65;
 
-pub const WRONG_BODY: usize = 65;
+pub const WRONG_BODY: usize = 66;
 
-pub const WRONG_BODY_PLACE: usize = 66;
+pub const WRONG_BODY_PLACE: usize = 67;
 
-pub const WRONG_PORT: usize = 67;
+pub const WRONG_PORT: usize = 68;
 
-pub const WRONG_LEAVING: usize = 68;
+pub const WRONG_LEAVING: usize = 69;
 
-pub const WRONG_LEAVING_BYTE: usize = 69;
+pub const WRONG_LEAVING_BYTE: usize = 70;
 
-pub const WRONG_WRITTEN: usize = 70;
+pub const WRONG_WRITTEN: usize = 71;
 
-pub const WRONG_WRITTEN_BYTE: usize = 71;
+pub const WRONG_WRITTEN_BYTE: usize = 72;
 
-pub const WRONG_SAID: usize = 72;
+pub const WRONG_SAID: usize = 73;
 
-pub const WRONG_COMPLETER: usize = 73;
+pub const WRONG_COMPLETER: usize = 74;
 
-pub const WRONG_REQUESTER: usize = 74;
+pub const WRONG_REQUESTER: usize = 75;
 
-pub const WRONG_TAG: usize = 75;
+pub const WRONG_TAG: usize = 76;
 
-pub const WRONG_SHOWN: usize = 76;
+pub const WRONG_SHOWN: usize = 77;
 
-pub const WRONG_GROUP: usize = 77;
+pub const WRONG_GROUP: usize = 78;
 
-pub const WRONG_PORTS: usize = 78;
+pub const WRONG_PORTS: usize = 79;
 
-pub const NONE: usize = 79;
+pub const NONE: usize = 80;
 
-pub const ONE: usize = 80;
+pub const ONE: usize = 81;
 
 // The session.
-pub const LINE: usize = 81;
+pub const LINE: usize = 82;
 
-pub const PROMPT: usize = 82;
+pub const PROMPT: usize = 83;
 
-pub const QUOTE: usize = 83;
+pub const QUOTE: usize = 84;
 
-pub const UNQUOTE: usize = 84;
+pub const UNQUOTE: usize = 85;
 
-pub const LINE_END: usize = 85;
+pub const LINE_END: usize = 86;
 
-pub const TALLY: usize = 86;
+pub const TALLY: usize = 87;
 
 // A text with its numbers, as many as it has places for.
 pub fn say_all(
@@ -222,6 +225,7 @@ nothing
   merged:
 %3:
 %3: rule %2 and mark %2 have a bit in common%n
+  edition %v is neither 1 nor 2%n
   listed: %v%n
   %3: ID %2%n
   %3: ID %4 version %1%n
