@@ -48,10 +48,10 @@ page() {
         echo "ok the blocks of $page are what the desk answers"
     fi
 }
-page LEARN 1 68 26 # LEARN shows a mistake, and what the desk says of it
+page LEARN 1 94 33 # LEARN shows a mistake, and what the desk says of it
 page GROUPS 0 56 23
-page ANSWERS 0 186 86
-page SHARED 0 47 17
+page ANSWERS 0 203 98
+page SHARED 0 94 38
 
 # noticed WORDS TEXT: of the page on standard input, in which every line is to be understood, this is told
 noticed() {
@@ -80,8 +80,10 @@ of_board() { typed "$shared" | awk -v name="$1" '/^# [A-Z][a-z]*$/ { on = $2 == 
 questions() { of_board "$1" | grep -E '^(packet|reset)( |$)'; }
 beginning() { of_board "$1" | grep -v -E '^(packet|reset)( |$)'; }
 asked() { questions "$1" | sed 's/ -> .*//'; }
-trusted() { questions "$1" | grep -i -E '^packet [159D]B '; }
-ordinary() { questions "$1" | grep -v -i -E '^packet [159D]B '; }
+# first_trusted X: the first byte of a packet that is trusted on this board; under edition 2 none with bit 7 is
+first_trusted() { if beginning "$1" | grep -q -x 'edition 2'; then echo '[15]B'; else echo '[159D]B'; fi; }
+trusted() { questions "$1" | grep -i -E "^packet $(first_trusted "$1") "; }
+ordinary() { questions "$1" | grep -v -i -E "^packet $(first_trusted "$1") "; }
 same() { [ -n "$1" ] && [ "$1" = "$2" ]; }
 # differ_only X Y WORDS: the boards begin with these words' lines different, every word's, and with the same lines else
 differ_only() {
@@ -91,8 +93,8 @@ differ_only() {
     done
     same "$(beginning "$1" | grep -v -E "^(${3// /|})( |\$)")" "$(beginning "$2" | grep -v -E "^(${3// /|})( |\$)")"
 }
-agree() { # X Y
-    differ_only "$1" "$2" 'B trusted trusted-rules trusted-marks' && same "$(ordinary "$1")" "$(ordinary "$2")" && [ "$(trusted "$1")" != "$(trusted "$2")" ]
+agree() { # X Y WORDS
+    differ_only "$1" "$2" "$3" && same "$(ordinary "$1")" "$(ordinary "$2")" && [ "$(trusted "$1")" != "$(trusted "$2")" ]
 }
 disagree() { # X Y WORDS
     differ_only "$1" "$2" "$3" && same "$(asked "$1")" "$(asked "$2")" && [ "$(questions "$1")" != "$(questions "$2")" ]
@@ -102,9 +104,14 @@ held() { # WORDS COMMAND..
 }
 every_question_is_a_check() { [ "$(typed "$shared" | grep -c -E '^(packet|reset)( |$)')" -eq "$(checks "$shared")" ]; }
 held 'every packet and every reset is a check' every_question_is_a_check
-held 'Harbour and Ridge differ in B and in trusted things, and agree on every ordinary packet' agree Harbour Ridge
+harbours='B trusted trusted-rules trusted-marks'
+held 'Harbour and Ridge differ in B and in trusted things, and agree on every ordinary packet' agree Harbour Ridge "$harbours"
 held 'Mill and Dune differ in the register, ask the same and disagree' disagree Mill Dune trusted
 held 'Quay and Moor differ in the capture, ask the same and disagree' disagree Quay Moor 'captured forgotten'
+with_bit_7() { ordinary "$1" | grep -q '^packet DB ' && ordinary "$2" | grep -q '^packet DB '; }
+held 'Fell and Glen have a packet among the ordinary ones that would be trusted but for bit 7' with_bit_7 Fell Glen
+held 'Fell and Glen differ in trusted things, and agree on every ordinary packet' agree Fell Glen trusted-rules
+held 'Weir and Crag differ in the edition, ask the same and disagree' disagree Weir Crag edition
 
 # and the same of copies in which it is not so
 refused() { # WORDS COMMAND..: with the page on standard input
@@ -113,8 +120,12 @@ refused() { # WORDS COMMAND..: with the page on standard input
     if "${@:2}"; then echo "FAILED SHARED: $1 would go unnoticed"; else echo "ok SHARED: $1 would be noticed"; fi
 }
 sed 's/ -> forgotten$//' docs/SHARED.md | refused 'a reset without an expectation' every_question_is_a_check
-awk '/^> # Ridge/ { on = 1 } on { sub(/11 22 33 44 ->/, "11 22 33 45 ->") } { print }' docs/SHARED.md | refused 'another ordinary packet' agree Harbour Ridge
-awk '/^> # Ridge/ { on = 1 } on { sub(/ordinary 104 AA/, "ordinary 104 AB") } { print }' docs/SHARED.md | refused 'another ordinary byte at the beginning' agree Harbour Ridge
+awk '/^> # Ridge/ { on = 1 } on { sub(/11 22 33 44 ->/, "11 22 33 45 ->") } { print }' docs/SHARED.md | refused 'another ordinary packet' agree Harbour Ridge "$harbours"
+awk '/^> # Ridge/ { on = 1 } on { sub(/ordinary 104 AA/, "ordinary 104 AB") } { print }' docs/SHARED.md | refused 'another ordinary byte at the beginning' agree Harbour Ridge "$harbours"
 sed 's/trusted 00C FF FF FF FF/trusted 00C 00 00 00 00/' docs/SHARED.md | refused 'the same register twice' disagree Mill Dune trusted
 awk '/^> # Moor/ { on = 1 } on { sub(/18 00 04 ->/, "18 00 08 ->") } { print }' docs/SHARED.md | refused 'another question' disagree Quay Moor 'captured forgotten'
+awk '/^> # Glen/ { on = 1 } on && /^> packet DB/ { getline; next } { print }' docs/SHARED.md | refused 'a packet with bit 7 in one run alone' agree Fell Glen trusted-rules
+awk '/^> # Glen/ { on = 1 } on { sub(/^> edition 2/, "> edition 1") } { print }' docs/SHARED.md | refused 'another edition' agree Fell Glen trusted-rules
+sed 's/^> edition 2/> edition 1/' docs/SHARED.md | refused 'edition 1 where such a packet is trusted' with_bit_7 Fell Glen
+awk '/^> # Weir/ { on = 1 } on { sub(/^> edition 2/, "> edition 1") } { print }' docs/SHARED.md | refused 'the same edition twice' disagree Weir Crag edition
 exit 0
