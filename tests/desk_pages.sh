@@ -51,7 +51,7 @@ page() {
 page LEARN 1 94 33 # LEARN shows a mistake, and what the desk says of it
 page GROUPS 0 56 23
 page ANSWERS 0 203 98
-page SHARED 0 94 38
+page SHARED 0 107 39
 
 # noticed WORDS TEXT: of the page on standard input, in which every line is to be understood, this is told
 noticed() {
@@ -110,7 +110,7 @@ held 'Mill and Dune differ in the register, ask the same and disagree' disagree 
 held 'Quay and Moor differ in the capture, ask the same and disagree' disagree Quay Moor 'captured forgotten'
 with_bit_7() { ordinary "$1" | grep -q '^packet DB ' && ordinary "$2" | grep -q '^packet DB '; }
 held 'Fell and Glen have a packet among the ordinary ones that would be trusted but for bit 7' with_bit_7 Fell Glen
-held 'Fell and Glen differ in trusted things, and agree on every ordinary packet' agree Fell Glen trusted-rules
+held 'Fell and Glen differ in B and in trusted things, and agree on every ordinary packet' agree Fell Glen "$harbours"
 held 'Weir and Crag differ in the edition, ask the same and disagree' disagree Weir Crag edition
 
 # and the same of copies in which it is not so
@@ -124,8 +124,8 @@ awk '/^> # Ridge/ { on = 1 } on { sub(/11 22 33 44 ->/, "11 22 33 45 ->") } { pr
 awk '/^> # Ridge/ { on = 1 } on { sub(/ordinary 104 AA/, "ordinary 104 AB") } { print }' docs/SHARED.md | refused 'another ordinary byte at the beginning' agree Harbour Ridge "$harbours"
 sed 's/trusted 00C FF FF FF FF/trusted 00C 00 00 00 00/' docs/SHARED.md | refused 'the same register twice' disagree Mill Dune trusted
 awk '/^> # Moor/ { on = 1 } on { sub(/18 00 04 ->/, "18 00 08 ->") } { print }' docs/SHARED.md | refused 'another question' disagree Quay Moor 'captured forgotten'
-awk '/^> # Glen/ { on = 1 } on && /^> packet DB/ { getline; next } { print }' docs/SHARED.md | refused 'a packet with bit 7 in one run alone' agree Fell Glen trusted-rules
-awk '/^> # Glen/ { on = 1 } on { sub(/^> edition 2/, "> edition 1") } { print }' docs/SHARED.md | refused 'another edition' agree Fell Glen trusted-rules
+awk '/^> # Glen/ { on = 1 } on && /^> packet DB/ { getline; next } { print }' docs/SHARED.md | refused 'a packet with bit 7 in one run alone' agree Fell Glen "$harbours"
+awk '/^> # Glen/ { on = 1 } on { sub(/^> edition 2/, "> edition 1") } { print }' docs/SHARED.md | refused 'another edition' agree Fell Glen "$harbours"
 sed 's/^> edition 2/> edition 1/' docs/SHARED.md | refused 'edition 1 where such a packet is trusted' with_bit_7 Fell Glen
 awk '/^> # Weir/ { on = 1 } on { sub(/^> edition 2/, "> edition 1") } { print }' docs/SHARED.md | refused 'the same edition twice' disagree Weir Crag edition
 exit 0
