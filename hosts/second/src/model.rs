@@ -1,5 +1,5 @@
 //! Document 01's rules, one module for each of its sections: packets, lists and records, as the requests 2/13, 3/13,
-//! 6/13 and 7/13 change them. And the requests 1/13, the router, 5/13, the asking side, and 8/13, Multicast.
+//! 6/13, 7/13 and 9/13 change them. And the requests 1/13, the router, 5/13, the asking side, and 8/13, Multicast.
 //!
 //! Every function answers every input. A number other than 0 leaves all that was lent as it was.
 
@@ -8,6 +8,7 @@ mod completion;
 mod description;
 mod dual_bdf;
 mod dvsec;
+mod edition;
 mod hear;
 mod judge;
 mod marks;
@@ -33,6 +34,8 @@ mod broken;
 #[cfg(all(test, debug_assertions))]
 mod checked;
 #[cfg(test)]
+mod editions;
+#[cfg(test)]
 mod null;
 #[cfg(test)]
 mod radar;
@@ -47,6 +50,7 @@ pub use ask::{Parts, Written, write_request};
 pub use description::Description;
 pub use dual_bdf::{Alternate, dual_bdf};
 pub use dvsec::{Dvsec, dvsec, dvsec_body};
+pub use edition::counts_as_trusted;
 pub use hear::{Heard, Said, read_completion};
 pub use judge::{Judged, Verdict, judge};
 pub use merge::merged;

@@ -87,6 +87,7 @@ impl Subject for Reference {
                 function: given.function,
                 a: given.a,
                 b: given.b,
+                edition: given.edition,
             },
             meaning(call.kept),
             call.ordinary,

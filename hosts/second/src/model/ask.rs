@@ -1,6 +1,7 @@
 //! A request written, by request 5/13: from its parts, as document 01's section "The packet" lays out its bytes.
 
 use super::description::{LAST_DEVICE, LAST_FUNCTION, LAST_WORD};
+use super::edition::Bit7;
 use super::refusal::Refusal;
 use super::request::{Access, HEADER_BYTES, Request, TAIL_BYTES, type_code};
 use super::space::is_word_offset;
@@ -94,10 +95,10 @@ impl Parts {
         header
     }
 
-    /// "What we write must read back as the same request": by the reading that the board has. Only stated: no answer
-    /// rests on it.
+    /// "What we write must read back as the same request": by the reading that a board has, of either edition. Only stated:
+    /// no answer rests on it.
     fn reads_back(&self, written: &[u8]) -> bool {
-        let Ok((route, writes)) = type_code(self.kind) else {
+        let Ok((route, writes)) = type_code(self.kind, Bit7::Taken) else {
             return false;
         };
         let access = if writes {
@@ -117,6 +118,8 @@ impl Parts {
             function: self.function,
             offset: self.offset as usize,
         };
-        Request::read(written) == Ok(same)
+        [Bit7::Ignored, Bit7::Taken]
+            .into_iter()
+            .all(|bit_7| Request::read(written, bit_7) == Ok(same))
     }
 }

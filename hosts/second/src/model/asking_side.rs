@@ -250,13 +250,21 @@ const SAYINGS: [(u8, Said); 9] = [
     (0x1B, Said::WithData(P2.data)),
 ];
 
-/// "what the board replies must read back as the same completion": what it says is what became of the request.
+/// "what the board replies must read back as the same completion": what it says is what became of the request. No request
+/// that is written has bit 7 set, so a board of either edition says the same.
 #[test]
 fn a_board_between_the_two() {
+    for edition in [1, 2] {
+        board_of_an_edition_between_the_two(edition);
+    }
+}
+
+fn board_of_an_edition_between_the_two(edition: u32) {
     let description = Description {
         function: 0,
         a: 0x104,
         b: 0x00C,
+        edition,
     };
     let (mut ordinary, mut trusted, rules, marks) = ([0x5A; 4096], [0xC3; 4096], [0xFF; 4096], [0; 4096]);
     let mut capture = None;

@@ -30,6 +30,7 @@ impl Bench {
             function: 0,
             a: 0x104,
             b: 0x00C,
+            edition: 1,
         };
         Self {
             description,
@@ -306,7 +307,11 @@ fn replies_of_15_and_16_bytes() {
 fn a_and_b_at_both_ends() {
     let numbers = |a, b| {
         let mut bench = Bench::fresh();
-        bench.description = Description { function: 0, a, b };
+        bench.description = Description {
+            a,
+            b,
+            ..bench.description
+        };
         bench.serve(&P1_PACKET).number
     };
     assert_eq!([(0x104, 0x00C), (0xFFC, 0xFFC)].map(|(a, b)| numbers(a, b)), [0, 0]);
@@ -326,9 +331,9 @@ fn the_word_at_a_shows_the_trusted_bytes_at_b() {
     for (a, b) in [(0x104_u16, 0x00C_u16), (0xFFC, 0xFFC), (0x104, 0xFFC), (0xFFC, 0x00C)] {
         let mut bench = Bench::fresh();
         bench.description = Description {
-            function: 0,
             a: a.into(),
             b: b.into(),
+            ..bench.description
         };
         bench.rules.fill(0xFF);
         bench.ordinary[usize::from(a)..][..4].fill(0x55);

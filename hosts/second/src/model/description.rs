@@ -1,5 +1,6 @@
 //! A board's description, and what it may hold.
 
+use super::edition::Bit7;
 use super::refusal::Refusal;
 use super::space::is_word_offset;
 
@@ -14,7 +15,7 @@ pub(super) const LAST_FUNCTION: u8 = 7;
 /// The highest device number.
 pub(super) const LAST_DEVICE: u8 = 31;
 
-/// A board's function number, and the two places of the Device Correlation word.
+/// A board's function number, the two places of the Device Correlation word, and the edition.
 #[derive(Clone, Copy, Debug, PartialEq, Eq)]
 pub struct Description {
     /// The function number, 0 to 7.
@@ -23,16 +24,23 @@ pub struct Description {
     pub a: u32,
     /// "B is its trusted place: a multiple of 4 from 00Ch to FFCh."
     pub b: u32,
+    /// Request 9/13: "The board description gets an edition", 1 or 2.
+    pub edition: u32,
 }
 
 impl Description {
-    /// Refused with 1 where "a captured device is over 31, or a function number or offset is outside its range".
+    /// Refused with 1 where "a captured device is over 31, or a function number or offset is outside its range", and by
+    /// request 9/13 with "any other edition". Answers what becomes of bit 7 of byte 0.
     #[inline]
-    pub(super) fn check(self, kept: Option<(u8, u8)>) -> Result<(), Refusal> {
+    pub(super) fn check(self, kept: Option<(u8, u8)>) -> Result<Bit7, Refusal> {
         let well_described = self.function <= LAST_FUNCTION
             && is_word_offset(self.a as usize, LOWEST_A, LAST_WORD)
             && is_word_offset(self.b as usize, LOWEST_B, LAST_WORD)
             && kept.is_none_or(|(_, device)| device <= LAST_DEVICE);
-        if well_described { Ok(()) } else { Err(Refusal::Outside) }
+        if well_described {
+            Bit7::of(self.edition)
+        } else {
+            Err(Refusal::Outside)
+        }
     }
 }

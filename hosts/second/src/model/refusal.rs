@@ -1,5 +1,5 @@
 //! The answer numbers 1 to 13, each with the documents' cause: document 01's 1 to 10, with the causes that the requests
-//! 1/13, 5/13, 6/13 and 8/13 add, the 11 and 12 into which request 3/13 splits 7, and the 13 of request 8/13. Number 0 is
+//! 1/13, 5/13, 6/13, 8/13 and 9/13 add, the 11 and 12 into which request 3/13 splits 7, and the 13 of request 8/13. Number 0 is
 //! the absence of a refusal, and "7 is no longer given".
 
 /// Why a call is refused. The lowest number that applies is given.
@@ -8,18 +8,18 @@
 pub(super) enum Refusal {
     /// "a space or rule space isn't 4,096 bytes, a captured device is over 31, or a function number or offset is
     /// outside its range"; of the marks of 6/13, "A bit marked both here and as writable", and "another buffer length";
-    /// for a list of ports, "if it is longer than 32, if a secondary exceeds its subordinate, or if two ranges, ends
-    /// included, meet"; for one who asks, "a kind outside the six, a device over 31, a function over 7, an offset over
-    /// FFCh or not a multiple of 4, or enables over 15"; for the records of ports, "a longer list, no such port, or a
-    /// record the reading can't give"
+    /// of 9/13, "Any other edition"; for a list of ports, "if it is longer than 32, if a secondary exceeds its
+    /// subordinate, or if two ranges, ends included, meet"; for one who asks, "a kind outside the six, a device over 31,
+    /// a function over 7, an offset over FFCh or not a multiple of 4, or enables over 15"; for the records of ports, "a
+    /// longer list, no such port, or a record the reading can't give"
     Outside = 1,
     /// "the reply is under 16 bytes, or the list room is under the list's maximum"; for the router, "What leaves is
     /// written into a lent buffer; under 20 bytes it is 2"; for one who asks, "a buffer shorter than those bytes"
     Room = 2,
     /// "the packet has fewer than 12 bytes"; of a completion, "under 12 bytes"
     Short = 3,
-    /// "the type code isn't one of the six"; "Type 0 at the router", and a trusted request where the port does not
-    /// support it; of a completion, "a first byte other than 4Ah and 0Ah"
+    /// "the type code isn't one of the six", and by 9/13 bit 7 of byte 0 under edition 2; "Type 0 at the router", and a
+    /// trusted request where the port does not support it; of a completion, "a first byte other than 4Ah and 0Ah"
     TypeCode = 4,
     /// "the packet length doesn't fit its type and digest bit"; of a completion, "a length other than 16 or 12 for that
     /// byte"

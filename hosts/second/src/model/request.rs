@@ -1,5 +1,6 @@
 //! A configuration packet taken apart by document 01's section "The packet", or refused with 3, 4, 5 or 6.
 
+use super::edition::Bit7;
 use super::refusal::Refusal;
 use super::space::is_word_offset;
 
@@ -40,11 +41,13 @@ pub(super) struct Request {
 }
 
 impl Request {
-    /// Reads a packet. The tests stand in the order of their numbers, so that the lowest is given.
+    /// Reads a packet, with bit 7 of its first byte ignored or not. The tests stand in the order of their numbers, so that
+    /// the lowest is given.
     #[inline]
-    pub(super) fn read(packet: &[u8]) -> Result<Self, Refusal> {
+    pub(super) fn read(packet: &[u8], bit_7: Bit7) -> Result<Self, Refusal> {
         let (header, tail) = packet.split_first_chunk::<HEADER_BYTES>().ok_or(Refusal::Short)?;
-        let (route, writes) = type_code(header[0])?;
+        let (route, writes) = type_code(header[0], bit_7)?;
+        debug_assert!(!bit_7.refuses(header[0]));
         let digest = header[2] & 0x80 != 0;
         if tail.len() != TAIL_BYTES * (usize::from(writes) + usize::from(digest)) {
             return Err(Refusal::PacketLength);
@@ -83,9 +86,10 @@ impl Request {
 }
 
 /// "Six type codes are served: 04h and 44h (read, write, Type 0), 05h and 45h (read, write, Type 1), 1Bh and 5Bh
-/// (trusted read, write)." Bit 7 of the byte is "reserved and ignored". Answers the route, and whether it is a write.
-pub(super) fn type_code(first: u8) -> Result<(Route, bool), Refusal> {
-    match first & 0x7F {
+/// (trusted read, write)." Whether bit 7 of the byte belongs to its type code, the edition says. Answers the route, and
+/// whether it is a write.
+pub(super) fn type_code(first: u8, bit_7: Bit7) -> Result<(Route, bool), Refusal> {
+    match bit_7.code(first) {
         0x04 => Ok((Route::Type0, false)),
         0x44 => Ok((Route::Type0, true)),
         0x05 => Ok((Route::Type1, false)),

@@ -1,5 +1,6 @@
 //! One packet at the router, by request 1/13: refused, given UR, or written as it leaves.
 
+use super::edition::Bit7;
 use super::ports::{Port, check, port_of};
 use super::refusal::Refusal;
 use super::request::{Request, Route};
@@ -30,11 +31,12 @@ pub fn route(ports: &[Port], packet: &[u8], leaving: &mut [u8]) -> Routed {
 
 /// The port that a packet leaves by, or none for UR. "The list's 1, that 2 and document 01's checks 3 to 6 come first,
 /// in that order." "Type 0 at the router: 4." "No port: the verdict UR, and nothing is written." "A trusted request for
-/// a bus in a range leaves there unchanged if that port supports it, else 4."
+/// a bus in a range leaves there unchanged if that port supports it, else 4." And of bit 7 of byte 0, request 9/13: "The
+/// router keeps ignoring it."
 fn verdict(ports: &[Port], packet: &[u8], leaving: &mut [u8]) -> Result<Option<u8>, Refusal> {
     check(ports)?;
     let leaving = leaving.first_chunk_mut::<LONGEST_PACKET>().ok_or(Refusal::Room)?;
-    let request = Request::read(packet)?;
+    let request = Request::read(packet, Bit7::Ignored)?;
     if request.route == Route::Type0 {
         return Err(Refusal::TypeCode);
     }
@@ -67,5 +69,5 @@ fn is_as_written(request: &Request, port: Port, packet: &[u8], leaving: &[u8]) -
         kept => kept,
     };
     let same_bytes = packet[1..] == leaving[1..] && packet[0] & 0x80 == leaving[0] & 0x80;
-    same_bytes && Request::read(leaving) == Ok(Request { route, ..*request })
+    same_bytes && Request::read(leaving, Bit7::Ignored) == Ok(Request { route, ..*request })
 }

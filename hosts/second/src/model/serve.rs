@@ -2,6 +2,7 @@
 
 use super::completion::{self, LONGEST_COMPLETION, Outcome, SHORT_COMPLETION};
 use super::description::Description;
+use super::edition::Bit7;
 use super::refusal::Refusal;
 use super::request::{Access, Request, Route};
 use super::ruled::RuledSpace;
@@ -46,6 +47,7 @@ struct Board<'lent> {
     function: u8,
     a: usize,
     b: usize,
+    bit_7: Bit7,
     capture: Option<(u8, u8)>,
     ordinary: RuledSpace<'lent>,
     trusted: RuledSpace<'lent>,
@@ -59,11 +61,12 @@ impl<'lent> Board<'lent> {
         ordinary: Result<RuledSpace<'lent>, Refusal>,
         trusted: Result<RuledSpace<'lent>, Refusal>,
     ) -> Result<Self, Refusal> {
-        description.check(kept)?;
+        let bit_7 = description.check(kept)?;
         Ok(Self {
             function: description.function,
             a: description.a as usize,
             b: description.b as usize,
+            bit_7,
             capture: kept,
             ordinary: ordinary?,
             trusted: trusted?,
@@ -73,7 +76,7 @@ impl<'lent> Board<'lent> {
     /// Refused with 2 to 6 before anything is changed; otherwise the access is done and the reply is written.
     fn serve(mut self, packet: &[u8], reply: &mut [u8]) -> Result<Served, Refusal> {
         let reply = reply.first_chunk_mut::<LONGEST_COMPLETION>().ok_or(Refusal::Room)?;
-        let request = Request::read(packet)?;
+        let request = Request::read(packet, self.bit_7)?;
         let kept = self.capture;
         let outcome = self.access(&request);
         debug_assert_eq!(self.capture, captured(&request, outcome).or(kept));

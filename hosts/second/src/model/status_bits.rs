@@ -15,11 +15,12 @@ pub(super) const fn packet(code: u8, offset: usize, enables: u8, data: [u8; 4]) 
 }
 
 /// A board that has captured bus 5 and device 3. In both spaces bits 3:0 of each byte may be written and bits 5:4 are
-/// cleared by writing 1; A is 104h and B is 00Ch.
+/// cleared by writing 1; A is 104h and B is 00Ch. The edition is 1 unless a test says another.
 pub(super) struct Board {
     pub(super) ordinary: [Vec<u8>; 3],
     pub(super) trusted: [Vec<u8>; 3],
     pub(super) reply: [u8; 16],
+    pub(super) edition: u32,
 }
 
 impl Board {
@@ -29,14 +30,21 @@ impl Board {
             ordinary: space(0xFA),
             trusted: space(0xF5),
             reply: [LENT; 16],
+            edition: 1,
         }
     }
 
     pub(super) fn serve(&mut self, packet: &[u8]) -> Served {
+        self.serve_into(packet, 16)
+    }
+
+    /// Serves with so many bytes of the reply.
+    pub(super) fn serve_into(&mut self, packet: &[u8], room: usize) -> Served {
         let description = Description {
             function: 0,
             a: 0x104,
             b: 0x00C,
+            edition: self.edition,
         };
         let [ordinary, ordinary_rules, ordinary_marks] = &mut self.ordinary;
         let [trusted, trusted_rules, trusted_marks] = &mut self.trusted;
@@ -50,7 +58,7 @@ impl Board {
             trusted_rules,
             trusted_marks,
             packet,
-            &mut self.reply,
+            &mut self.reply[..room],
         )
     }
 
