@@ -10,7 +10,7 @@ pub const HELP: &str = "\
 usage: second [--cases N] [--seed N]
 
 Compares the linked library with an independent model of document 01 and of the
-requests 1/13 to 3/13 and 5/13 to 8/13 on random packets, lists, records, ports,
+requests 1/13 to 3/13 and 5/13 to 9/13 on random packets, lists, records, ports,
 requests, completions and addresses, and counts the classes of calls that were
 reached.
 

@@ -1,6 +1,7 @@
 //! The classes of an accepted packet: its form, its causes of Unsupported Request, or what its success reached.
 
 use super::alone::only;
+use super::edition::code_place;
 use super::group::Group;
 use super::marked::{count_forms, count_marked, count_marked_unsupported};
 use super::names::{Captures, Correlation};
@@ -16,7 +17,7 @@ pub const fn enabled(enables: u8) -> u32 {
     spread * 0xFF
 }
 
-/// A packet of number 0, taken apart.
+/// A packet of number 0, or one that would have it were bit 7 ignored, taken apart.
 pub struct Parts {
     code: u8,
     /// Bit 7 of the first byte, poison and the digest bit, as a number of three bits from the lowest on.
@@ -33,7 +34,8 @@ pub struct Parts {
 }
 
 impl Parts {
-    fn of(bytes: &[u8; 24]) -> Self {
+    /// The parts of a packet with one of the six type codes, whatever its bit 7.
+    pub fn of(bytes: &[u8; 24]) -> Self {
         let code = bytes[0] & 0x7F;
         Self {
             code,
@@ -55,6 +57,11 @@ impl Parts {
         2 * self.trusted as usize + self.writes as usize
     }
 
+    /// The bus and the device that it is for.
+    pub const fn target(&self) -> (u8, u8) {
+        (self.bus, self.device)
+    }
+
     /// Whether an ordinary packet asks for the word at A.
     pub const fn is_at_a(&self, view: &ServeView<'_>) -> bool {
         !self.trusted && self.offset == view.case.description.a as usize
@@ -65,12 +72,11 @@ impl Parts {
 pub fn count_accepted(view: &ServeView<'_>, history: &mut History, tally: &mut Tally) {
     let bytes = &view.case.packet.bytes;
     let parts = Parts::of(bytes);
-    let codes = [0x04, 0x44, 0x05, 0x45, 0x1B, 0x5B];
-    let code = codes
-        .iter()
-        .position(|&code| code == parts.code)
-        .expect("number 0 has one of the six type codes");
-    tally.add(Group::TypeForms, 8 * code + parts.form);
+    let code = code_place(bytes[0]);
+    tally.add(
+        Group::TypeForms,
+        type_form(view.case.description.edition, code, parts.form),
+    );
     count_forms(view, tally);
     let causes = unsupported_causes(view, &parts);
     let unsupported = causes.contains(&true);
@@ -82,7 +88,10 @@ pub fn count_accepted(view: &ServeView<'_>, history: &mut History, tally: &mut T
     if unsupported {
         count_unsupported(view, &causes, &parts, tally);
     } else {
-        count_reserved(bytes, Group::ReservedBits, 0, tally);
+        match view.case.description.edition {
+            1 => count_reserved(bytes, &RESERVED, Group::ReservedBits, 0, tally),
+            _ => count_reserved(bytes, &RESERVED[1..], Group::ReservedBits, 15, tally),
+        }
         count_success(view, &parts, tally);
         // First, as the other two forget what has been shown at A.
         count_whole(view, &parts, history, tally);
@@ -92,8 +101,16 @@ pub fn count_accepted(view: &ServeView<'_>, history: &mut History, tally: &mut T
     }
 }
 
+/// The place of a type code and a form, in edition 1 with bit 7 clear and set, and in edition 2 with bit 7 clear.
+const fn type_form(edition: u32, code: usize, form: usize) -> usize {
+    match edition {
+        1 => 8 * code + form,
+        _ => 48 + 4 * code + form / 2,
+    }
+}
+
 /// The causes of Unsupported Request that a request has, in the order of the group's names.
-fn unsupported_causes(view: &ServeView<'_>, parts: &Parts) -> [bool; 7] {
+pub fn unsupported_causes(view: &ServeView<'_>, parts: &Parts) -> [bool; 7] {
     let kept = view.case.kept;
     let type1 = parts.code & 0x3F == 0x05;
     let captured = kept.captured != 0;
@@ -119,13 +136,16 @@ fn count_unsupported(view: &ServeView<'_>, causes: &[bool; 7], parts: &Parts, ta
     }
 }
 
-/// Reserved bits: byte 0 bit 7; byte 1 bits 7 and 3:0; byte 2 bits 3:2; byte 10 bits 7:4; byte 11 bits 1:0. Each is
-/// counted where it is set, in the classes of a group from the first on, and then all of them where all are set.
-pub fn count_reserved(bytes: &[u8; 24], group: Group, first: usize, tally: &mut Tally) {
-    let reserved = [(0, 0x80), (1, 0x8F), (2, 0x0C), (10, 0xF0), (11, 0x03)];
+/// Reserved bits: byte 0 bit 7; byte 1 bits 7 and 3:0; byte 2 bits 3:2; byte 10 bits 7:4; byte 11 bits 1:0. Under edition
+/// 2 the first is none.
+pub const RESERVED: [(usize, u8); 5] = [(0, 0x80), (1, 0x8F), (2, 0x0C), (10, 0xF0), (11, 0x03)];
+
+/// Each of these reserved bits is counted where it is set, in the classes of a group from the first on, and then all of
+/// them where all are set.
+pub fn count_reserved(bytes: &[u8; 24], reserved: &[(usize, u8)], group: Group, first: usize, tally: &mut Tally) {
     let mut class = first;
     let mut all = true;
-    for (place, mask) in reserved {
+    for &(place, mask) in reserved {
         for bit in (0..8).filter(|bit| mask >> bit & 1 == 1) {
             tally.add_if(bytes[place] >> bit & 1 == 1, group, class);
             class += 1;

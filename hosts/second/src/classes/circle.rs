@@ -3,7 +3,7 @@
 use thawribbon::raw::Parts;
 
 use super::alone::only;
-use super::ask_names::Effect;
+use super::ask_names::{CIRCLES, Effect};
 use super::group::Group;
 use super::meaning::{CircleView, is_answer, is_done, shown};
 use super::tally::Tally;
@@ -20,7 +20,10 @@ pub fn count(view: &CircleView<'_>, tally: &mut Tally) {
         view.parts,
         view.heard
     );
-    tally.add(Group::Circles, outcome(view.parts.kind, unsupported));
+    let outcome = outcome(view.parts.kind, unsupported);
+    tally.add(Group::Circles, outcome);
+    let edition = view.description.edition as usize - 1;
+    tally.add(Group::CircleEditions, CIRCLES.len() * edition + outcome);
     if let Some(cause) = only(&causes) {
         let writes = usize::from(is_write(view.parts.kind));
         tally.add(Group::CircleUnsupported, 2 * cause + writes);

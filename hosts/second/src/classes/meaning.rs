@@ -177,6 +177,7 @@ mod tests {
                 function: 1,
                 a: 0x008,
                 b: 0x00C,
+                edition: 1,
             },
             capture: Some((5, 6)),
             captured_then: Some((5, 6)),

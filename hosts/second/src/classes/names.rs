@@ -18,9 +18,11 @@ pub const SERVE_CAUSES: &[&str] = &[
     "B below",
     "B above",
     "B unaligned",
+    "edition neither 1 nor 2",
     "reply under 16",
     "packet under 12",
     "type code",
+    "bit 7 under edition 2",
     "packet length",
     "TC",
     "Attr",
@@ -29,8 +31,8 @@ pub const SERVE_CAUSES: &[&str] = &[
 ];
 
 pub const SERVE_TOGETHER: &[&str] = &[
-    "1 and 2", "1 and 3", "1 and 4", "1 and 5", "1 and 6", "2 and 3", "2 and 4", "2 and 5", "2 and 6", "4 and 6",
-    "5 and 6",
+    "1 and 2", "1 and 3", "1 and 4", "1 and 5", "1 and 6", "2 and 3", "2 and 4", "2 and 5", "2 and 6", "4 and 5",
+    "4 and 6", "5 and 6",
 ];
 
 pub const UNSUPPORTED: &[&str] = &[

@@ -2,17 +2,19 @@
 
 use crate::generate::Packet;
 
-/// One for each cause: under 12 bytes, type code, packet length, TC, Attr, last enables, Length. Where the packet is
-/// too short or has another type code, the later ones are not looked for as far as they depend on what is missing.
-pub fn packet_causes(packet: &Packet) -> [bool; 7] {
+/// One for each cause: under 12 bytes, type code, bit 7 where that is refused, packet length, TC, Attr, last enables,
+/// Length. The type code is that of the other seven bits. Where the packet is too short or has another type code, the
+/// later ones are not looked for as far as they depend on what is missing.
+pub fn packet_causes(packet: &Packet, bit_7_is_refused: bool) -> [bool; 8] {
     let (bytes, length) = (&packet.bytes, packet.length);
     if length < 12 {
-        return [true, false, false, false, false, false, false];
+        return [true, false, false, false, false, false, false, false];
     }
     let known = matches!(bytes[0] & 0x7F, 0x04 | 0x44 | 0x05 | 0x45 | 0x1B | 0x5B);
     [
         false,
         !known,
+        bit_7_is_refused && bytes[0] >= 0x80,
         known && length != packet.right_length(),
         bytes[1] & 0x70 != 0,
         bytes[2] & 0x30 != 0,

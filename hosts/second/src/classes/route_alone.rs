@@ -108,7 +108,7 @@ fn wrong_length(packet: &Packet) -> usize {
 /// Counts the value of a fixed field that stands alone, and tells which field it is.
 fn count_field(packet: &Packet, tally: &mut Tally) -> Option<RouteCause> {
     let bytes = &packet.bytes;
-    let [.., traffic_class, attributes, last_enables, length] = packet_causes(packet);
+    let [.., traffic_class, attributes, last_enables, length] = packet_causes(packet, false);
     let (place, cause) = match only(&[traffic_class, attributes, last_enables, length])? {
         0 => (wrong_traffic_class(bytes), RouteCause::TrafficClass),
         1 => (wrong_attributes(bytes), RouteCause::Attributes),

@@ -2,7 +2,7 @@
 
 use thawribbon::raw::Port;
 
-use super::access::count_reserved;
+use super::access::{RESERVED, count_reserved};
 use super::departure::{Departure, FORMS, form, is_trusted};
 use super::group::Group;
 use super::port_list::{PLACES, Place, PortList};
@@ -34,7 +34,13 @@ pub fn count_leaves(view: &RouteView<'_>, list: &PortList<'_>, tally: &mut Tally
         Departure::AsType1 => tally.add(Group::RouteBuses, 255 + bus),
         Departure::Trusted => tally.add(Group::RouteBuses, 511 + bus),
     }
-    count_reserved(bytes, Group::RouteReservedBits, 15 * departure as usize, tally);
+    count_reserved(
+        bytes,
+        &RESERVED,
+        Group::RouteReservedBits,
+        15 * departure as usize,
+        tally,
+    );
     count_shapes(bytes[8], port, departure, list, tally);
 }
 

@@ -4,6 +4,7 @@ use thawribbon::raw::Served;
 
 use super::access::count_accepted;
 use super::causes::count_causes;
+use super::edition::{count_editions, is_trusted};
 use super::group::Group;
 use super::names::{Captures, KeptForm};
 use super::tally::Tally;
@@ -74,6 +75,7 @@ pub fn count(view: &ServeView<'_>, history: &mut History, tally: &mut Tally) {
     count_lengths(view.case, tally);
     count_kept(view, tally);
     count_causes(view, number, tally);
+    count_editions(view, tally);
     if number == 0 {
         if history.last_number != 0 {
             tally.add(Group::AfterRefusal, usize::from(history.last_number) - 1);
@@ -97,7 +99,9 @@ fn count_lengths(case: &ServeCase, tally: &mut Tally) {
     }
     tally.add(Group::ReplyLengths, case.reply_length.min(21));
     match case.packet.as_slice() {
-        [first, rest @ ..] if matches!(first & 0x7F, 0x1B | 0x5B) => tally.add(Group::TrustedPacketLengths, rest.len()),
+        [first, rest @ ..] if is_trusted(*first, case.description.edition) => {
+            tally.add(Group::TrustedPacketLengths, rest.len());
+        }
         bytes => tally.add(Group::OrdinaryPacketLengths, bytes.len()),
     }
 }

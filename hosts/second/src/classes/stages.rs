@@ -50,7 +50,7 @@ impl Stage {
 /// The stages at which a call has something. Of a packet that is too short or has another type code, what depends on
 /// that is not looked for. The last three leave each other out.
 pub fn stages_of(case: &RouteCase, list: &PortList<'_>) -> Vec<Stage> {
-    let [short, type_code, packet_length, fields @ ..] = packet_causes(&case.packet);
+    let [short, type_code, _, packet_length, fields @ ..] = packet_causes(&case.packet, false);
     let own = if short || type_code {
         None
     } else {

@@ -3,8 +3,12 @@
 use super::ask_names::{
     CIRCLE_UNSUPPORTED, CIRCLES, EFFECTS, HEAR_ANSWERS, HEAR_CAUSES, HEAR_TOGETHER, WRITE_ANSWERS, WRITE_CAUSES,
 };
+use super::edition::ANSWERS;
+use super::edition_names::INSTEAD;
 use super::fault_names::{ELSEWHERE, END_PLACES, LOOP_PLACES, WALK_TOGETHER};
 use super::group::{Classes, Group, Line};
+use super::half::HALF_ANSWERS;
+use super::half_names::DIFFERING;
 use super::judge_names::{EDGES, JUDGE_ANSWERS, JUDGE_CAUSES, JUDGE_TOGETHER, NO_HITS, OTHERS, PORT_SETS};
 use super::marked_names::{DOUBLED_PLACES, MARKED, MARKED_UNSUPPORTED, MARKS_FORMS};
 use super::multicast_names::{MULTICAST_CAUSES, MULTICAST_FORMS};
@@ -12,9 +16,13 @@ use super::names::{
     BOTTOM_BITS, CAPTURES, CORRELATION, DECLARED_EMPTY, DUAL_CAUSES, DUAL_IGNORED, DUAL_ORDER, DVSEC_BODIES,
     DVSEC_CAUSES, FIRST_NULLS, KEPT_FORMS, NOISE, NULL_FORMS, RULES, SERVE_CAUSES, SERVE_TOGETHER, UNSUPPORTED,
 };
+use super::onward::ONWARD_ANSWERS;
+use super::pair::PAIR_ANSWERS;
+use super::pair_names::PAIR_EVENTS;
 use super::route_names::{LIST_SHAPES, MEETINGS, MET_BUSES, ROUTE_ANSWERS, ROUTE_CAUSES, ROUTE_ROOMS, ROUTE_TOGETHER};
 use super::turn::TURN_NAMES;
 use super::whole_names::NEIGHBOURS;
+use crate::generate::WRONG_EDITIONS;
 
 const fn numbered(group: Group, title: &'static str, count: usize, per_million: u64) -> Line {
     Line {
@@ -35,7 +43,7 @@ const fn named(group: Group, title: &'static str, names: &'static [&'static str]
 }
 
 /// All groups. "Alone" means that the call has no other cause for a refusal, or for Unsupported Request.
-pub const TABLE: [Line; 176] = [
+pub const TABLE: [Line; 194] = [
     numbered(Group::ServeAnswers, "serve: answers 0 to 6", 7, 1000),
     named(
         Group::ServeCauses,
@@ -47,12 +55,18 @@ pub const TABLE: [Line; 176] = [
         Group::ServeTogether,
         "serve: causes of two numbers together",
         SERVE_TOGETHER,
-        100,
+        60,
     ),
     numbered(
         Group::MarksTogether,
         "serve: each cause of the marks with each other cause",
-        86,
+        94,
+        10,
+    ),
+    numbered(
+        Group::EditionTogether,
+        "serve: another edition, and bit 7, with each other cause",
+        47,
         10,
     ),
     numbered(
@@ -79,30 +93,73 @@ pub const TABLE: [Line; 176] = [
         DOUBLED_PLACES,
         50,
     ),
-    numbered(
-        Group::OtherFirstBytes,
-        "serve: every first byte without a type code",
-        244,
-        10,
-    ),
+    numbered(Group::FirstBytes, "serve: every first byte, both editions", 512, 8),
     numbered(
         Group::FieldValues,
         "serve: every wrong TC, Attr and last enables alone",
         25,
         100,
     ),
-    numbered(Group::LengthValues, "serve: every Length but 1 alone", 1023, 10),
+    numbered(Group::LengthValues, "serve: every Length but 1 alone", 1023, 8),
     numbered(
         Group::TypeForms,
-        "serve: six type codes, bit 7, digest, poison",
-        48,
-        100,
+        "serve: both editions, type codes, bit 7, digest, poison",
+        72,
+        40,
     ),
     numbered(
         Group::ReservedBits,
         "serve: each reserved bit set, and all, success",
-        15,
+        29,
         1000,
+    ),
+    numbered(
+        Group::EditionAnswers,
+        "serve: editions, bit 7, type codes, what was answered",
+        ANSWERS,
+        8,
+    ),
+    numbered(
+        Group::WrongEditions,
+        "serve: 104 editions that are neither 1 nor 2, bit 7",
+        2 * WRONG_EDITIONS.len(),
+        5,
+    ),
+    numbered(
+        Group::WrongEditionKinds,
+        "serve: another edition alone, type codes, bit 7",
+        12,
+        40,
+    ),
+    numbered(
+        Group::Bit7Forms,
+        "serve: 4 for bit 7 alone, type codes, digest, poison",
+        24,
+        5,
+    ),
+    numbered(
+        Group::Bit7Lengths,
+        "serve: bit 7 set, editions, sorts of codes, 1 to 24 bytes",
+        144,
+        5,
+    ),
+    named(
+        Group::Bit7Instead,
+        "serve: 4 for bit 7 alone, what it would have done",
+        INSTEAD,
+        50,
+    ),
+    named(
+        Group::Bit7Unsupported,
+        "serve: 4 for bit 7, each cause of UR alone otherwise",
+        UNSUPPORTED,
+        10,
+    ),
+    numbered(
+        Group::Bit7Later,
+        "serve: 4 for bit 7, type codes, 5 and 6 otherwise",
+        12,
+        5,
     ),
     named(Group::Unsupported, "serve: each cause of UR alone", UNSUPPORTED, 100),
     named(
@@ -179,7 +236,7 @@ pub const TABLE: [Line; 176] = [
         Group::WholeForms,
         "serve: read, not enabled, bit 7, poison, digest, places",
         24,
-        50,
+        40,
     ),
     named(
         Group::Neighbours,
@@ -292,7 +349,7 @@ pub const TABLE: [Line; 176] = [
         Group::StartsBelow,
         "walks: 11 for a start at every offset below the floor",
         16,
-        10,
+        7,
     ),
     numbered(Group::BelowPlaces, "walks: 11 told at every offset, each list", 2030, 2),
     numbered(
@@ -684,6 +741,12 @@ pub const TABLE: [Line; 176] = [
         48,
         10,
     ),
+    numbered(
+        Group::CircleEditions,
+        "circle: both editions, six kinds, what became of them",
+        2 * CIRCLES.len(),
+        50,
+    ),
     named(
         Group::Effects,
         "circle: what a success came to on the board",
@@ -861,6 +924,49 @@ pub const TABLE: [Line; 176] = [
     ),
     named(Group::JudgeSets, "judge: sets of ports that are left by", PORT_SETS, 15),
     named(Group::JudgeOthers, "judge: what else other ports have", OTHERS, 500),
+    numbered(
+        Group::PairAnswers,
+        "pair: three relations, type codes, what was answered",
+        3 * PAIR_ANSWERS,
+        5,
+    ),
+    named(
+        Group::PairEvents,
+        "pair: three relations, what happened",
+        PAIR_EVENTS,
+        20,
+    ),
+    numbered(
+        Group::LeftOut,
+        "pair: bit 7 refused and left out, type codes, 2 to 4",
+        21,
+        7,
+    ),
+    numbered(
+        Group::HalfShared,
+        "half: packets of both runs, editions, bit 7, answers",
+        HALF_ANSWERS,
+        4,
+    ),
+    numbered(
+        Group::HalfOwn,
+        "half: packets of one run, editions, bit 7, answers",
+        HALF_ANSWERS,
+        4,
+    ),
+    named(Group::HalfDiffering, "half: how two runs differ", DIFFERING, 5),
+    numbered(
+        Group::OnwardAnswers,
+        "onward: editions, bit 7, as it leaves, what was answered",
+        ONWARD_ANSWERS,
+        20,
+    ),
+    numbered(
+        Group::OnwardForms,
+        "onward: editions, as it leaves, bit 7, digest, poison",
+        96,
+        5,
+    ),
     named(Group::Noise, "all: plain noise (as the generator meant it)", NOISE, 100),
 ];
 

@@ -3,9 +3,10 @@
 use thawribbon::raw::{Capture, Description, Served};
 
 use super::difference::Difference;
-use super::reference::Reference;
+use super::reference::{Reference, meaning};
 use super::subject::{ServeCall, Subject};
-use crate::generate::{Board, LONGEST_PACKET, LONGEST_REPLY, Random};
+use crate::classes::Boards;
+use crate::generate::{Board, LONGEST_PACKET, LONGEST_REPLY, Packet, Random};
 use crate::twin::Twin;
 
 /// A board, and what is lent beside its spaces.
@@ -29,10 +30,51 @@ impl Bench {
     pub fn live(&mut self, random: &mut Random) -> bool {
         let is_new = self.board.live(random);
         if is_new {
-            self.packet.shift(random.below(8));
-            self.reply.shift(random.below(8));
+            self.shift(random);
         }
         is_new
+    }
+
+    /// Makes the board anew, and gives the buffers other starts.
+    pub fn renew(&mut self, random: &mut Random) {
+        self.board.renew(random);
+        self.shift(random);
+    }
+
+    fn shift(&mut self, random: &mut Random) {
+        self.packet.shift(random.below(8));
+        self.reply.shift(random.below(8));
+    }
+
+    /// Serves a packet with a random reply of so many bytes. What is captured then, the board keeps.
+    pub fn serve_packet(
+        &mut self,
+        packet: &Packet,
+        reply_length: usize,
+        kept: Capture,
+        random: &mut Random,
+        subject: &mut impl Subject,
+    ) -> Result<Served, Box<Difference>> {
+        self.packet.set(0, &packet.bytes);
+        self.packet.lend(packet.length);
+        self.lend_reply(reply_length, random);
+        let served = self.serve(self.board.description, kept, subject)?;
+        if served.number == 0 {
+            self.board.capture = meaning(served.capture);
+        }
+        Ok(served)
+    }
+
+    /// Resets the board by the model and by the subject.
+    pub fn reset(&mut self, random: &mut Random, subject: &mut impl Subject) -> Result<(), Box<Difference>> {
+        let after = reset(self.board.kept(random), subject)?;
+        self.board.capture = meaning(after);
+        Ok(())
+    }
+
+    /// What the reply has of a call that wrote so many bytes.
+    pub fn written(&self, served: Served) -> &[u8] {
+        &self.reply.ours()[..served.length]
     }
 
     /// Lends a random reply of so many bytes, and remembers all that a call may write.
@@ -126,6 +168,25 @@ impl Bench {
         with_space(difference, "trusted", trusted, &places)
             .look("packet", &self.packet)
             .look("reply", &self.reply)
+    }
+}
+
+/// What two boards have now, by the model.
+pub fn boards<'call>(first: &'call Board, second: &'call Board) -> Boards<'call> {
+    Boards {
+        ordinary: [first.ordinary.ours(), second.ordinary.ours()],
+        trusted: [first.trusted.ours(), second.trusted.ours()],
+        captures: [first.capture, second.capture],
+    }
+}
+
+/// Resets a capture by the model and by the subject.
+pub fn reset(kept: Capture, subject: &mut impl Subject) -> Result<Capture, Box<Difference>> {
+    let (ours, theirs) = (Reference.reset(kept), subject.reset(kept));
+    if ours == theirs {
+        Ok(ours)
+    } else {
+        Err(Box::new(Difference::new("reset", ours, theirs).input("kept", kept)))
     }
 }
 

@@ -2,9 +2,9 @@
 
 use thawribbon::raw::{Capture, Served};
 
-use super::bench::Bench;
+use super::bench::{Bench, reset};
 use super::difference::Difference;
-use super::reference::{Reference, meaning};
+use super::reference::meaning;
 use super::subject::Subject;
 use crate::classes::{Group, History, ServeView, Tally, count_reset, count_serve};
 use crate::generate::{FaultMaker, PacketMaker, Random, ServeCase};
@@ -63,13 +63,10 @@ impl Packets {
         } else {
             self.bench.board.kept(random)
         };
-        let (ours, theirs) = (Reference.reset(kept), subject.reset(kept));
-        if ours != theirs {
-            return Err(Box::new(Difference::new("reset", ours, theirs).input("kept", kept)));
-        }
+        let after = reset(kept, subject)?;
         count_reset(meaning(kept).is_some(), is_noise, tally);
         if !is_noise {
-            self.bench.board.capture = meaning(ours);
+            self.bench.board.capture = meaning(after);
         }
         Ok(())
     }
@@ -87,7 +84,12 @@ impl Packets {
             return ServeCase::noise(board, random);
         }
         let faults = random.weighted(&[59, 29, 9, 3]);
-        let packet = self.packet_maker.sound(board, faults == 0, random);
+        // Now and then bit 7 is the only fault. It is one under edition 2.
+        let only_bit_7 = faults == 0 && board.description.edition == 2 && random.percent(10);
+        let mut packet = self.packet_maker.sound(board, faults == 0 && !only_bit_7, random);
+        if only_bit_7 {
+            packet = packet.with_bit_7(true);
+        }
         let mut case = ServeCase::sound(board, packet, random);
         self.fault_maker.put_some(faults, &mut case, random);
         case

@@ -1,9 +1,9 @@
 //! Packets at a router: made, routed by the model and by the subject, compared and counted.
 
-use thawribbon::raw::{Port, Routed};
+use thawribbon::raw::Port;
 
 use super::difference::Difference;
-use super::reference::Reference;
+use super::routing::route;
 use super::subject::Subject;
 use crate::classes::{Group, RouteView, Tally, count_route};
 use crate::generate::{LONGEST_LEAVING, LONGEST_LIST, LONGEST_PACKET, Random, RouteCase, RouteMaker, any_port};
@@ -47,15 +47,11 @@ impl Routes {
             self.maker.case(random)
         };
         self.load(&case, random);
-        let ours = Reference.route(self.ports.ours(), self.packet.ours(), self.leaving.ours_mut());
-        let theirs = subject.route(self.ports.theirs(), self.packet.theirs(), self.leaving.theirs_mut());
-        if ours != theirs || !self.agrees() {
-            return Err(Box::new(self.difference(ours, theirs)));
-        }
+        let routed = route(&mut self.ports, &mut self.packet, &mut self.leaving, subject)?;
         tally.add_if(is_noise, Group::Noise, 8);
         let view = RouteView {
             case: &case,
-            routed: ours,
+            routed,
             leaving: self.leaving.ours(),
         };
         count_route(&view, tally);
@@ -83,23 +79,5 @@ impl Routes {
         self.packet.lend(case.packet.length);
         self.leaving.refill(|bytes| random.fill(bytes));
         self.leaving.lend(case.leaving_length);
-        self.leaving.remember();
-    }
-
-    /// Whether every byte of every buffer is alike.
-    fn agrees(&self) -> bool {
-        self.ports.agrees() && self.packet.agrees() && self.leaving.agrees()
-    }
-
-    fn difference(&self, ours: Routed, theirs: Routed) -> Difference {
-        Difference::new("route", ours, theirs)
-            .ports("list, with a plus for TCS routing", self.ports.ours())
-            .bytes("packet", self.packet.ours())
-            .bytes("buffer as lent", self.leaving.before())
-            .bytes("buffer of the model", self.leaving.ours())
-            .bytes("buffer of the subject", self.leaving.theirs())
-            .look("ports", &self.ports)
-            .look("packet", &self.packet)
-            .look("buffer", &self.leaving)
     }
 }

@@ -5,9 +5,12 @@ use std::fmt;
 use super::asks::Asks;
 use super::circles::Circles;
 use super::difference::Difference;
+use super::halves::Halves;
 use super::judges::Judges;
 use super::multicasts::Multicasts;
+use super::onwards::Onwards;
 use super::packets::Packets;
+use super::pairs::Pairs;
 use super::records::Records;
 use super::routes::Routes;
 use super::subject::Subject;
@@ -16,8 +19,9 @@ use crate::classes::Tally;
 use crate::generate::{Random, SHAPES};
 
 /// How often each entry is called: serve, reset, the three walks, dvsec, dvsec_body, dual_bdf, route, write_request,
-/// read_completion. Then how often a circle is gone through. Then multicast and judge.
-const WEIGHTS: [usize; 14] = [82, 3, 7, 9, 9, 6, 3, 5, 27, 10, 11, 6, 8, 20];
+/// read_completion. Then how often a circle is gone through. Then multicast and judge. Then how often a pair and a half of
+/// demand 3 go a step on, and a packet goes through a router to a board.
+const WEIGHTS: [usize; 17] = [92, 3, 8, 10, 10, 6, 3, 5, 29, 11, 12, 6, 9, 21, 7, 9, 4];
 
 /// Where a run met a difference.
 #[derive(Debug)]
@@ -46,6 +50,9 @@ pub fn run(subject: &mut impl Subject, seed: u64, cases: u64) -> Result<Tally, F
     let mut circles = Circles::new();
     let mut multicasts = Multicasts::new();
     let mut judges = Judges::new();
+    let mut pairs = Pairs::new();
+    let mut halves = Halves::new();
+    let mut onwards = Onwards::new();
     let mut tally = Tally::new();
     for case in 0..cases {
         tally.call();
@@ -61,7 +68,10 @@ pub fn run(subject: &mut impl Subject, seed: u64, cases: u64) -> Result<Tally, F
             10 => asks.read(subject, &mut random, &mut tally),
             11 => circles.circle(subject, &mut random, &mut tally),
             12 => multicasts.multicast(subject, &mut random, &mut tally),
-            _ => judges.judge(subject, &mut random, &mut tally),
+            13 => judges.judge(subject, &mut random, &mut tally),
+            14 => pairs.step(subject, &mut random, &mut tally),
+            15 => halves.step(subject, &mut random, &mut tally),
+            _ => onwards.onward(subject, &mut random, &mut tally),
         };
         compared.map_err(|difference| Failure { seed, case, difference })?;
     }

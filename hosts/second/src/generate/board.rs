@@ -2,6 +2,7 @@
 
 use thawribbon::raw::{Capture, Description};
 
+use super::edition::right_edition;
 use super::marks::{Doubling, LONGEST_MARKS, fill_marks};
 use super::random::Random;
 use crate::twin::Twin;
@@ -56,7 +57,8 @@ impl Board {
         over
     }
 
-    fn renew(&mut self, random: &mut Random) {
+    /// Makes the board anew, for a life of so many calls, with all of its spaces lent as a whole.
+    pub fn renew(&mut self, random: &mut Random) {
         self.calls_left = random.within(1, LONGEST_LIFE);
         self.capture = None;
         self.description = description(random);
@@ -72,6 +74,21 @@ impl Board {
             marks.shift(random.below(8));
             fill_marks(marks, rules.ours(), random);
         }
+        self.lend([SPACE_BYTES; 6]);
+    }
+
+    /// Gives the board another one's ordinary space, with its rules and its marks.
+    pub fn take_ordinary(&mut self, other: &Self) {
+        self.ordinary.set(0, other.ordinary.ours());
+        self.ordinary_rules.set(0, other.ordinary_rules.ours());
+        self.ordinary_marks.set(0, other.ordinary_marks.ours());
+    }
+
+    /// Gives the board another one's trusted space, with its rules and its marks.
+    pub fn take_trusted(&mut self, other: &Self) {
+        self.trusted.set(0, other.trusted.ours());
+        self.trusted_rules.set(0, other.trusted_rules.ours());
+        self.trusted_marks.set(0, other.trusted_marks.ours());
     }
 
     /// The rules and the marks of the ordinary space, and those of the trusted one.
@@ -170,7 +187,7 @@ fn set_marked_bits(space: &mut Twin<u8>, marks: &Twin<u8>, offset: Option<usize>
     }
 }
 
-/// A function, and places for the Device Correlation word: at their ends, alike, or anywhere.
+/// A function, places for the Device Correlation word, at their ends, alike, or anywhere, and one of the two editions.
 fn description(random: &mut Random) -> Description {
     let a = match random.below(5) {
         0 => 0x104,
@@ -187,6 +204,7 @@ fn description(random: &mut Random) -> Description {
         function: random.below(8) as u8,
         a,
         b,
+        edition: right_edition(random),
     }
 }
 

@@ -57,6 +57,7 @@ impl ServeCase {
             function,
             a: u32::from_le_bytes(a),
             b: random.bits() as u32,
+            edition: random.bits() as u32,
         };
         let lengths = [0; 6].map(|_| random.below(LONGEST_SPACE + 1));
         let reply_length = random.below(LONGEST_REPLY + 1);

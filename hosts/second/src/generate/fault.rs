@@ -4,6 +4,7 @@ use thawribbon::raw::Capture;
 
 use super::case::ServeCase;
 use super::cursor::Cursor;
+use super::edition::WrongEditions;
 use super::lengths::WrongLengths;
 use super::marks::DoublingMaker;
 use super::packet_fault::{PacketFault, PacketFaultMaker};
@@ -22,6 +23,7 @@ enum Fault {
     Function,
     A(Way),
     B(Way),
+    Edition,
     Reply,
     Packet(PacketFault),
 }
@@ -35,15 +37,15 @@ enum Way {
 }
 
 /// The faults, each with how often it is taken where it comes alone: those with many values more often.
-const FAULTS: [(Fault, usize); 24] = [
+const FAULTS: [(Fault, usize); 26] = [
     (Fault::Space(0), 4),
     (Fault::Space(1), 4),
     (Fault::Space(2), 4),
     (Fault::Space(3), 4),
     (Fault::Marks(0), 4),
     (Fault::Marks(1), 4),
-    (Fault::Doubled(0), 16),
-    (Fault::Doubled(1), 16),
+    (Fault::Doubled(0), 22),
+    (Fault::Doubled(1), 22),
     (Fault::Device, 3),
     (Fault::Function, 3),
     (Fault::A(Way::Below), 3),
@@ -52,14 +54,16 @@ const FAULTS: [(Fault, usize); 24] = [
     (Fault::B(Way::Below), 3),
     (Fault::B(Way::Above), 3),
     (Fault::B(Way::Unaligned), 3),
-    (Fault::Reply, 4),
+    (Fault::Edition, 12),
+    (Fault::Reply, 7),
     (Fault::Packet(PacketFault::Short), 5),
-    (Fault::Packet(PacketFault::TypeCode), 8),
+    (Fault::Packet(PacketFault::TypeCode), 18),
+    (Fault::Packet(PacketFault::Bit7), 10),
     (Fault::Packet(PacketFault::PacketLength), 6),
     (Fault::Packet(PacketFault::TrafficClass), 4),
     (Fault::Packet(PacketFault::Attributes), 4),
     (Fault::Packet(PacketFault::LastEnables), 4),
-    (Fault::Packet(PacketFault::LengthField), 22),
+    (Fault::Packet(PacketFault::LengthField), 28),
 ];
 
 /// Puts faults into calls.
@@ -67,6 +71,7 @@ pub struct FaultMaker {
     space_lengths: [WrongLengths; 4],
     marks_lengths: [WrongLengths; 2],
     doublings: [DoublingMaker; 2],
+    editions: WrongEditions,
     replies: Cursor,
     packets: PacketFaultMaker,
 }
@@ -77,19 +82,26 @@ impl FaultMaker {
             space_lengths: [const { WrongLengths::new() }; 4],
             marks_lengths: [const { WrongLengths::new() }; 2],
             doublings: [const { DoublingMaker::new() }; 2],
+            editions: WrongEditions::new(),
             replies: Cursor::new(16),
             packets: PacketFaultMaker::new(),
         }
     }
 
-    /// Puts so many faults into a call.
+    /// Puts so many faults into a call. Where there are any, bit 7 comes beside them now and then: under edition 2 that is
+    /// one more.
     pub fn put_some(&mut self, number: usize, case: &mut ServeCase, random: &mut Random) {
+        let beside_bit_7 = number > 0 && random.percent(10);
         if number == 1 {
             let place = random.weighted(&FAULTS.map(|(_, weight)| weight));
-            return self.put(FAULTS[place].0, true, case, random);
+            self.put(FAULTS[place].0, !beside_bit_7, case, random);
+        } else {
+            for _ in 0..number {
+                self.put(random.pick(&FAULTS).0, false, case, random);
+            }
         }
-        for _ in 0..number {
-            self.put(random.pick(&FAULTS).0, false, case, random);
+        if beside_bit_7 {
+            case.packet = case.packet.with_bit_7(true);
         }
     }
 
@@ -103,7 +115,18 @@ impl FaultMaker {
             Fault::Function => description.function = wrong_function(description.function, random),
             Fault::A(way) => description.a = wrong_offset(way, description.a, 0x104, random),
             Fault::B(way) => description.b = wrong_offset(way, description.b, 0x00C, random),
-            Fault::Reply => case.reply_length = self.replies.draw(in_turn, random),
+            Fault::Edition => {
+                // Bit 7 is no fault then, and so is set as often as not.
+                description.edition = self.editions.draw(in_turn, random);
+                case.packet = case.packet.with_bit_7(random.percent(50));
+            }
+            Fault::Reply => {
+                case.reply_length = self.replies.draw(in_turn, random);
+                case.packet = case.packet.with_bit_7(random.percent(30));
+                if random.percent(5) {
+                    case.packet.length = 0;
+                }
+            }
             Fault::Packet(fault) => self.packets.put(fault, in_turn, &mut case.packet, random),
         }
     }

@@ -19,6 +19,12 @@ impl Packet {
         &self.bytes[..self.length]
     }
 
+    /// The same packet with bit 7 of its first byte set or clear.
+    pub const fn with_bit_7(mut self, set: bool) -> Self {
+        self.bytes[0] = self.bytes[0] & 0x7F | (set as u8) << 7;
+        self
+    }
+
     /// The offset of the word that it asks for, if it has so many bytes.
     pub fn offset(&self) -> usize {
         usize::from(self.bytes[10] & 0x0F) << 8 | usize::from(self.bytes[11] & 0xFC)
@@ -84,11 +90,15 @@ impl PacketMaker {
         }
     }
 
-    /// A packet with no cause for a refusal. Where the call has none either, and the packet none for Unsupported
-    /// Request, the words have their turn.
+    /// A packet with no cause for a refusal: under edition 2 its bit 7 is clear. Where the call has none either, and the
+    /// packet none for Unsupported Request, the words have their turn.
     pub fn sound(&mut self, board: &Board, in_turn: bool, random: &mut Random) -> Packet {
         let fields = self.fields(board, in_turn, random);
-        encode(&fields, random)
+        let packet = encode(&fields, random);
+        match board.description.edition {
+            2 => packet.with_bit_7(false),
+            _ => packet,
+        }
     }
 
     /// The fields of such a packet.

@@ -4,11 +4,12 @@ use super::cursor::Cursor;
 use super::packet::{LONGEST_PACKET, Packet};
 use super::random::Random;
 
-/// A cause for one of the numbers 3 to 6.
+/// A cause for one of the numbers 3 to 6. Bit 7 is one for a board of edition 2 only.
 #[derive(Clone, Copy)]
 pub enum PacketFault {
     Short,
     TypeCode,
+    Bit7,
     PacketLength,
     TrafficClass,
     Attributes,
@@ -21,7 +22,8 @@ const NEAR_1: [u16; 14] = [
     0x000, 0x003, 0x005, 0x009, 0x011, 0x021, 0x041, 0x081, 0x101, 0x201, 0x002, 0x301, 0x100, 0x3FF,
 ];
 
-/// Puts faults into packets. A fault with many values takes them in turn where it is the call's only one.
+/// Puts faults into packets. A fault with many values takes them in turn where it is the call's only one. Bit 7 of a short
+/// packet is set as often as not, and one that is set as a fault comes with another length now and then.
 pub struct PacketFaultMaker {
     short_lengths: Cursor,
     wrong_lengths: Cursor,
@@ -45,21 +47,29 @@ impl PacketFaultMaker {
 
     /// Puts a fault into a packet.
     pub fn put(&mut self, fault: PacketFault, in_turn: bool, packet: &mut Packet, random: &mut Random) {
-        let bytes = &mut packet.bytes;
         match fault {
-            PacketFault::Short => packet.length = self.short_lengths.draw(in_turn, random),
-            PacketFault::TypeCode => bytes[0] = self.other_first_bytes[self.first_bytes.draw(in_turn, random)],
+            PacketFault::Short => {
+                packet.length = self.short_lengths.draw(in_turn, random);
+                *packet = packet.with_bit_7(random.percent(50));
+            }
+            PacketFault::TypeCode => packet.bytes[0] = self.other_first_bytes[self.first_bytes.draw(in_turn, random)],
+            PacketFault::Bit7 => {
+                *packet = packet.with_bit_7(true);
+                if random.percent(25) {
+                    packet.length = random.within(1, LONGEST_PACKET);
+                }
+            }
             PacketFault::PacketLength => {
                 let drawn = 12 + self.wrong_lengths.draw(in_turn, random);
                 packet.length = drawn + usize::from(drawn >= packet.right_length());
             }
-            PacketFault::TrafficClass => bytes[1] = bytes[1] & 0x8F | (random.within(1, 7) as u8) << 4,
-            PacketFault::Attributes => bytes[2] = bytes[2] & 0xCF | (random.within(1, 3) as u8) << 4,
-            PacketFault::LastEnables => bytes[7] = bytes[7] & 0x0F | (random.within(1, 15) as u8) << 4,
+            PacketFault::TrafficClass => put_bits(&mut packet.bytes[1], 0x70, random.within(1, 7) << 4),
+            PacketFault::Attributes => put_bits(&mut packet.bytes[2], 0x30, random.within(1, 3) << 4),
+            PacketFault::LastEnables => put_bits(&mut packet.bytes[7], 0xF0, random.within(1, 15) << 4),
             PacketFault::LengthField => {
                 let [high, low] = self.length_field(in_turn, random).to_be_bytes();
-                bytes[2] = bytes[2] & 0xFC | high;
-                bytes[3] = low;
+                put_bits(&mut packet.bytes[2], 0x03, high.into());
+                packet.bytes[3] = low;
             }
         }
     }
@@ -72,4 +82,9 @@ impl PacketFaultMaker {
         let drawn = self.length_fields.draw(in_turn, random) as u16;
         drawn + u16::from(drawn >= 1)
     }
+}
+
+/// Puts other bits in the place of those that a mask tells.
+fn put_bits(byte: &mut u8, mask: u8, bits: usize) {
+    *byte = *byte & !mask | bits as u8;
 }

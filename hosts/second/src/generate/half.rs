@@ -1,0 +1,62 @@
+//! The two halves of demand 3: what two runs have in common, and what they may differ in.
+
+use super::board::Board;
+use super::random::Random;
+
+/// Which half it is, by the packets that both runs have.
+#[derive(Clone, Copy, Debug, PartialEq, Eq)]
+pub enum Half {
+    Ordinary,
+    Trusted,
+}
+
+pub const HALVES: [Half; 2] = [Half::Ordinary, Half::Trusted];
+
+impl Half {
+    /// Makes two boards, each made by itself, begin as the half says. By request 9/13 "both its runs have the same
+    /// edition".
+    ///
+    /// In the first half, they have the same ordinary state: "the function number, A, the ordinary bytes and rules, and the
+    /// capture", and by 6/13 the ordinary marks. The word at B, which may lie elsewhere, has the same bytes in both, and the
+    /// same rules and marks, so that it can be made the same again. In the second, they have the same function number,
+    /// trusted bytes, rules and marks; A, B and all that is ordinary differ. Nothing is captured in either.
+    pub fn relate(self, boards: [&mut Board; 2], random: &mut Random) {
+        let [first, second] = boards;
+        second.description.function = first.description.function;
+        second.description.edition = first.description.edition;
+        match self {
+            Self::Ordinary => {
+                second.description.a = first.description.a;
+                if random.percent(30) {
+                    second.description.b = first.description.b;
+                }
+                second.take_ordinary(first);
+                take_register(second, first);
+            }
+            Self::Trusted => second.take_trusted(first),
+        }
+    }
+
+    /// What has to be the same in both runs whenever a packet comes that both have: "If the correlation register holds the
+    /// same value in both whenever an ordinary packet is served"; "equal capture at each trusted packet".
+    pub fn may_meet(self, boards: [&Board; 2]) -> bool {
+        let [first, second] = boards;
+        match self {
+            Self::Ordinary => register(first) == register(second),
+            Self::Trusted => first.capture == second.capture,
+        }
+    }
+}
+
+/// "the correlation register's value is the four trusted bytes at B."
+pub fn register(board: &Board) -> u32 {
+    board.trusted.word(board.description.b as usize)
+}
+
+/// Gives a board's word at B the bytes of another's, and its rules and marks.
+fn take_register(board: &mut Board, other: &Board) {
+    let (at, from) = (board.description.b as usize, other.description.b as usize);
+    board.trusted.set_word(at, other.trusted.word(from));
+    board.trusted_rules.set_word(at, other.trusted_rules.word(from));
+    board.trusted_marks.set_word(at, other.trusted_marks.word(from));
+}
