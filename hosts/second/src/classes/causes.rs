@@ -17,6 +17,8 @@ const BIT_7: u32 = 20;
 /// The places of some others.
 const SHORT: u32 = 18;
 const TYPE_CODE: u32 = 19;
+/// The causes of 1 and of 2, a bit for each.
+const BELOW_3: u32 = (1 << SHORT) - 1;
 /// How many causes there are.
 const CAUSES: u32 = 26;
 
@@ -92,6 +94,9 @@ pub fn count_causes(view: &ServeView<'_>, number: u8, tally: &mut Tally) {
     let lowest_number = if causes == 0 { 0 } else { number_of(lowest) };
     assert_eq!(lowest_number, number, "the model and the causes disagree on a call");
     count_first_byte(view.case, causes, tally);
+    if causes & BELOW_3 == 1 << EDITION {
+        tally.add(Group::WrongEditionLengths, view.case.packet.length);
+    }
     if causes.is_power_of_two() {
         tally.add(Group::ServeCauses, lowest as usize);
         count_values(view, lowest, tally);

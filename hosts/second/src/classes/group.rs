@@ -20,6 +20,7 @@ pub enum Group {
     EditionAnswers,
     WrongEditions,
     WrongEditionKinds,
+    WrongEditionLengths,
     Bit7Forms,
     Bit7Lengths,
     Bit7Instead,

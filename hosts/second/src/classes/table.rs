@@ -43,7 +43,7 @@ const fn named(group: Group, title: &'static str, names: &'static [&'static str]
 }
 
 /// All groups. "Alone" means that the call has no other cause for a refusal, or for Unsupported Request.
-pub const TABLE: [Line; 194] = [
+pub const TABLE: [Line; 195] = [
     numbered(Group::ServeAnswers, "serve: answers 0 to 6", 7, 1000),
     named(
         Group::ServeCauses,
@@ -130,6 +130,12 @@ pub const TABLE: [Line; 194] = [
         "serve: another edition alone, type codes, bit 7",
         12,
         40,
+    ),
+    numbered(
+        Group::WrongEditionLengths,
+        "serve: another edition, packets of 0 to 24 bytes",
+        25,
+        20,
     ),
     numbered(
         Group::Bit7Forms,

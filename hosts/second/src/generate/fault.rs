@@ -7,6 +7,7 @@ use super::cursor::Cursor;
 use super::edition::WrongEditions;
 use super::lengths::WrongLengths;
 use super::marks::DoublingMaker;
+use super::packet::LONGEST_PACKET;
 use super::packet_fault::{PacketFault, PacketFaultMaker};
 use super::random::Random;
 
@@ -54,7 +55,7 @@ const FAULTS: [(Fault, usize); 26] = [
     (Fault::B(Way::Below), 3),
     (Fault::B(Way::Above), 3),
     (Fault::B(Way::Unaligned), 3),
-    (Fault::Edition, 12),
+    (Fault::Edition, 15),
     (Fault::Reply, 7),
     (Fault::Packet(PacketFault::Short), 5),
     (Fault::Packet(PacketFault::TypeCode), 18),
@@ -115,19 +116,28 @@ impl FaultMaker {
             Fault::Function => description.function = wrong_function(description.function, random),
             Fault::A(way) => description.a = wrong_offset(way, description.a, 0x104, random),
             Fault::B(way) => description.b = wrong_offset(way, description.b, 0x00C, random),
-            Fault::Edition => {
-                // Bit 7 is no fault then, and so is set as often as not.
-                description.edition = self.editions.draw(in_turn, random);
-                case.packet = case.packet.with_bit_7(random.percent(50));
-            }
-            Fault::Reply => {
-                case.reply_length = self.replies.draw(in_turn, random);
-                case.packet = case.packet.with_bit_7(random.percent(30));
-                if random.percent(5) {
-                    case.packet.length = 0;
-                }
-            }
+            Fault::Edition => self.put_edition(in_turn, case, random),
+            Fault::Reply => self.put_reply(in_turn, case, random),
             Fault::Packet(fault) => self.packets.put(fault, in_turn, &mut case.packet, random),
+        }
+    }
+
+    /// A reply under 16 bytes. Bit 7 comes with it more often than with other faults, and now and then the packet is empty.
+    fn put_reply(&mut self, in_turn: bool, case: &mut ServeCase, random: &mut Random) {
+        case.reply_length = self.replies.draw(in_turn, random);
+        case.packet = case.packet.with_bit_7(random.percent(30));
+        if random.percent(5) {
+            case.packet.length = 0;
+        }
+    }
+
+    /// Another edition. Bit 7 is no fault then, and so is set as often as not; now and then the packet has any length.
+    fn put_edition(&mut self, in_turn: bool, case: &mut ServeCase, random: &mut Random) {
+        let other_length = random.percent(20);
+        case.description.edition = self.editions.draw(in_turn && !other_length, random);
+        case.packet = case.packet.with_bit_7(random.percent(50));
+        if other_length {
+            case.packet.length = random.below(LONGEST_PACKET + 1);
         }
     }
 }
