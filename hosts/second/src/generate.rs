@@ -6,6 +6,7 @@
 mod aim;
 mod ask;
 mod board;
+mod board_fault;
 mod case;
 mod completion;
 mod cursor;
@@ -43,6 +44,7 @@ mod shape;
 
 pub use ask::{AskCase, AskMaker, LONGEST_BUFFER};
 pub use board::{Board, SPACE_BYTES};
+pub use board_fault::BoardFault;
 pub use case::{LONGEST_REPLY, ServeCase};
 pub use completion::CompletionMaker;
 pub use dual_bdf::DualMaker;

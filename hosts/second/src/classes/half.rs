@@ -164,7 +164,9 @@ fn is_read_at(packet: &[u8], offset: u32) -> bool {
 
 #[cfg(test)]
 mod tests {
-    use super::{HALF_ANSWERS, answer_place};
+    use thawribbon::raw::{Capture, Description, Served};
+
+    use super::{Boards, HALF_ANSWERS, Half, HalfView, Met, Tally, answer_place, count_shared};
 
     /// A reply of success, and one of UR.
     const REPLIES: [[u8; 7]; 2] = [[0; 7], [0x20; 7]];
@@ -188,5 +190,76 @@ mod tests {
     #[should_panic(expected = "of its kind may be answered")]
     fn a_success_with_bit_7_under_edition_2_stops_the_run() {
         answer_place(2, &[0x9B], 0, &REPLIES[0]);
+    }
+
+    const SPACE: [u8; 8] = [0x3C; 8];
+    const OTHER: [u8; 8] = [0x3D; 8];
+    const SERVED: Served = Served {
+        length: 7,
+        number: 0,
+        capture: Capture {
+            captured: 0,
+            bus: 0,
+            device: 0,
+        },
+    };
+
+    /// Counts a Type 1 read, or a trusted one, in two runs that agree but for a change.
+    fn counted(half: Half, change: impl Fn(&mut HalfView<'_>)) {
+        let description = Description {
+            edition: 1,
+            ..Description::default()
+        };
+        let mut view = HalfView {
+            half,
+            descriptions: [description; 2],
+            packet: if half == Half::Ordinary {
+                &[0x05; 12]
+            } else {
+                &[0x1B; 12]
+            },
+            served: [SERVED; 2],
+            written: [&REPLIES[1]; 2],
+            boards: Boards {
+                ordinary: [&SPACE; 2],
+                trusted: [&SPACE; 2],
+                captures: [None; 2],
+            },
+        };
+        change(&mut view);
+        count_shared(&view, &mut Met::default(), &mut Tally::new());
+    }
+
+    #[test]
+    fn two_runs_that_agree_in_what_they_should_are_counted() {
+        counted(Half::Ordinary, |view| view.boards.trusted[0] = &OTHER);
+        counted(Half::Trusted, |view| {
+            view.boards.ordinary[1] = &OTHER;
+            view.boards.captures[1] = Some((0, 0));
+        });
+    }
+
+    #[test]
+    #[should_panic(expected = "do not answer alike")]
+    fn another_reply_stops_the_run() {
+        counted(Half::Ordinary, |view| view.written[1] = &REPLIES[0]);
+    }
+
+    #[test]
+    #[should_panic(expected = "do not answer alike")]
+    fn another_number_stops_the_run() {
+        counted(Half::Trusted, |view| view.served[0].number = 4);
+    }
+
+    #[test]
+    #[should_panic(expected = "do not agree")]
+    fn another_ordinary_byte_stops_the_run() {
+        counted(Half::Ordinary, |view| view.boards.ordinary[1] = &OTHER);
+    }
+
+    #[test]
+    #[should_panic(expected = "do not agree")]
+    fn another_trusted_byte_stops_the_run() {
+        counted(Half::Trusted, |view| view.boards.trusted[1] = &OTHER);
     }
 }

@@ -5,7 +5,7 @@ use thawribbon::raw::{Port, Routed, Served};
 
 use super::answers::{self, Answers, SORTS, answer, place};
 use super::departure::Departure;
-use super::edition::{code_place, has_bit_7, set_place};
+use super::edition::{code_place, set_place};
 use super::group::Group;
 use super::tally::Tally;
 use crate::generate::Packet;
@@ -49,8 +49,8 @@ const SETS: [Answers; 4 * SORTS] = {
 /// How many classes there are for what a board answered.
 pub const ONWARD_ANSWERS: usize = answers::count(&SETS);
 
-/// Counts a packet. Where the router does not let it through by the right port as it should, where the board answers what
-/// its edition does not let it, or where a refusal changes anything, the run stops.
+/// Counts a packet. Where the router does not let it through by the right port and with its bit 7, where the board answers
+/// what its edition does not let it, or where a refusal changes anything, the run stops.
 pub fn count(view: &OnwardView<'_>, tally: &mut Tally) {
     let due = Departure::of(&view.sent.bytes, view.port).bytes(view.sent.as_slice());
     assert_eq!(
@@ -59,11 +59,6 @@ pub fn count(view: &OnwardView<'_>, tally: &mut Tally) {
         "a packet does not leave as it should"
     );
     let first = view.left[0];
-    assert_eq!(
-        has_bit_7(first),
-        has_bit_7(view.sent.bytes[0]),
-        "bit 7 is lost on the way"
-    );
     let answered = answer(view.served.number, view.written);
     let place = place(&SETS, set_place(view.edition, first), answered);
     let place = place.expect("what is answered is what the edition lets be");
@@ -79,4 +74,78 @@ pub fn count(view: &OnwardView<'_>, tally: &mut Tally) {
 
 fn differs([before, after]: [&[u8]; 2]) -> bool {
     before != after
+}
+
+#[cfg(test)]
+mod tests {
+    use thawribbon::raw::{Capture, Port, Routed, Served};
+
+    use super::{ONWARD_ANSWERS, OnwardView, Packet, count};
+    use crate::classes::Tally;
+
+    const SPACE: [u8; 8] = [0x3C; 8];
+    const OTHER: [u8; 8] = [0x3D; 8];
+
+    /// Counts a Type 1 read with bit 7 that leaves as Type 0, at a board of edition 2, with a change.
+    fn counted(change: impl Fn(&mut OnwardView<'_>)) {
+        let mut sent = Packet {
+            bytes: [0; 24],
+            length: 12,
+        };
+        (sent.bytes[0], sent.bytes[8]) = (0x85, 5);
+        let mut left = [0; 12];
+        (left[0], left[8]) = (0x84, 5);
+        let mut view = OnwardView {
+            edition: 2,
+            port: Port {
+                secondary: 5,
+                subordinate: 6,
+                tcs: true,
+            },
+            place: 1,
+            sent: &sent,
+            routed: Routed {
+                length: 12,
+                number: 0,
+                leaves: 1,
+                port: 1,
+            },
+            left: &left,
+            served: Served {
+                length: 0,
+                number: 4,
+                capture: Capture::default(),
+            },
+            written: &[],
+            ordinary: [&SPACE; 2],
+            trusted: [&SPACE; 2],
+            captures: [None; 2],
+        };
+        change(&mut view);
+        count(&view, &mut Tally::new());
+    }
+
+    #[test]
+    fn what_edition_2_refuses_is_counted() {
+        counted(|_| {});
+        assert_eq!(ONWARD_ANSWERS, 36);
+    }
+
+    #[test]
+    #[should_panic(expected = "what the edition lets be")]
+    fn another_answer_stops_the_run() {
+        counted(|view| view.served.number = 5);
+    }
+
+    #[test]
+    #[should_panic(expected = "does not leave as it should")]
+    fn bit_7_that_is_lost_stops_the_run() {
+        counted(|view| view.left = &[4, 0, 0, 0, 0, 0, 0, 0, 5, 0, 0, 0]);
+    }
+
+    #[test]
+    #[should_panic(expected = "a refusal changes something")]
+    fn a_refusal_that_changes_something_stops_the_run() {
+        counted(|view| view.trusted[1] = &OTHER);
+    }
 }

@@ -3,7 +3,7 @@
 
 use thawribbon::raw::{Description, Served};
 
-use super::answers::{Answers, OF_SORTS, SORTS, answer, count, place, well_described};
+use super::answers::{OF_SORTS, answer, count, place};
 use super::edition::{code_place, has_bit_7};
 use super::group::Group;
 use super::pair_names::PairEvent;
@@ -41,10 +41,8 @@ pub struct PairView<'call> {
     pub boards: Boards<'call>,
 }
 
-/// What packets of the six type codes and others may be answered.
-const SETS: [Answers; SORTS] = well_described(OF_SORTS);
-/// How many classes there are for the answers of each relation: those of the empty packet are the last two.
-pub const PAIR_ANSWERS: usize = count(&SETS) + 2;
+/// How many classes there are for the answers of each relation. Those of the empty packet are the last three.
+pub const PAIR_ANSWERS: usize = count(&OF_SORTS) + 3;
 
 /// Counts a packet that both boards were given. Where they do not answer alike, or are not alike then, the run stops.
 ///
@@ -73,11 +71,11 @@ pub fn count_pair(view: &PairView<'_>, left_out_before: bool, tally: &mut Tally)
 /// Counts a packet with bit 7 set that the second board was not given. Where anything changed, the run stops.
 pub fn count_left_out(packet: &[u8], served: Served, boards: &Boards<'_>, tally: &mut Tally) {
     assert!(
-        boards.are_alike() && matches!(served.number, 2..=4),
+        boards.are_alike() && matches!(served.number, 1..=4),
         "a packet with bit 7 set is not just refused: {packet:02x?}, {served:x?}"
     );
     let code = code_place(packet[0]);
-    tally.add(Group::LeftOut, 3 * code + usize::from(served.number) - 2);
+    tally.add(Group::LeftOut, 4 * code + usize::from(served.number) - 1);
 }
 
 /// Counts a reset of both boards.
@@ -97,10 +95,10 @@ pub fn count_pair_reset(relation: Relation, captured: bool, boards: &Boards<'_>,
 fn count_answer(view: &PairView<'_>, tally: &mut Tally) {
     let number = view.served[0].number;
     let place = match view.packet.first() {
-        Some(&first) => place(&SETS, code_place(first), answer(number, view.written[0])),
-        None => Some(PAIR_ANSWERS - 4 + usize::from(number)),
+        Some(&first) => place(&OF_SORTS, code_place(first), answer(number, view.written[0])),
+        None => Some(count(&OF_SORTS) + usize::from(number) - 1),
     };
-    let place = place.expect("what is answered is what a board that is well described may answer");
+    let place = place.expect("what is answered is what such a packet may be answered");
     tally.add(Group::PairAnswers, PAIR_ANSWERS * view.relation as usize + place);
 }
 
@@ -133,5 +131,107 @@ fn count_event(view: &PairView<'_>, tally: &mut Tally) {
             add_if(old & !new & mark != 0, PairEvent::TrustedCleared);
             add_if(code == 0x1B, PairEvent::TrustedRead);
         }
+    }
+}
+
+#[cfg(test)]
+mod tests {
+    use thawribbon::raw::{Capture, Description, Served};
+
+    use super::{Boards, PairView, Relation, Tally, count_left_out, count_pair, count_pair_reset};
+
+    const SPACE: [u8; 4096] = [0x3C; 4096];
+    const OTHER: [u8; 4096] = {
+        let mut other = SPACE;
+        other[4095] = 0x3D;
+        other
+    };
+    const SERVED: Served = Served {
+        length: 12,
+        number: 0,
+        capture: Capture {
+            captured: 0,
+            bus: 0,
+            device: 0,
+        },
+    };
+    /// A Type 1 read with bit 7, and the reply to it.
+    const PACKET: [u8; 12] = [0x85, 0, 0, 1, 1, 0, 7, 0x0F, 5, 0x18, 0, 4];
+    const REPLY: [u8; 12] = [0x0A, 0, 0, 0, 0, 0, 0x20, 4, 1, 0, 7, 0];
+
+    const fn boards<'call>() -> Boards<'call> {
+        Boards {
+            ordinary: [&SPACE, &SPACE],
+            trusted: [&SPACE, &SPACE],
+            captures: [None, None],
+        }
+    }
+
+    /// Counts a packet of two boards that are alike but for a change.
+    fn counted(change: impl Fn(&mut PairView<'_>)) {
+        let mut view = PairView {
+            relation: Relation::Cleared,
+            description: Description::default(),
+            packet: &PACKET,
+            served: [SERVED; 2],
+            written: [&REPLY, &REPLY],
+            before: [&SPACE, &SPACE],
+            marks: [&SPACE, &SPACE],
+            capture: None,
+            boards: boards(),
+        };
+        change(&mut view);
+        count_pair(&view, false, &mut Tally::new());
+    }
+
+    #[test]
+    fn two_boards_that_are_alike_are_counted() {
+        counted(|_| {});
+    }
+
+    #[test]
+    #[should_panic(expected = "do not answer alike")]
+    fn another_number_stops_the_run() {
+        counted(|view| view.served[1].number = 4);
+    }
+
+    #[test]
+    #[should_panic(expected = "do not answer alike")]
+    fn another_reply_stops_the_run() {
+        counted(|view| view.written[1] = &PACKET);
+    }
+
+    #[test]
+    #[should_panic(expected = "do not answer alike")]
+    fn another_ordinary_byte_stops_the_run() {
+        counted(|view| view.boards.ordinary[1] = &OTHER);
+    }
+
+    #[test]
+    #[should_panic(expected = "do not answer alike")]
+    fn another_trusted_byte_stops_the_run() {
+        counted(|view| view.boards.trusted[0] = &OTHER);
+    }
+
+    #[test]
+    #[should_panic(expected = "do not answer alike")]
+    fn another_capture_stops_the_run() {
+        counted(|view| view.boards.captures[1] = Some((0, 0)));
+    }
+
+    #[test]
+    #[should_panic(expected = "is not just refused")]
+    fn a_packet_that_is_served_cannot_be_left_out() {
+        count_left_out(&PACKET, SERVED, &boards(), &mut Tally::new());
+    }
+
+    #[test]
+    #[should_panic(expected = "not alike after a reset")]
+    fn a_reset_of_one_board_stops_the_run() {
+        let boards = Boards {
+            captures: [None, Some((5, 3))],
+            ..boards()
+        };
+        count_pair_reset(Relation::Editions, true, &boards, &mut Tally::new());
     }
 }

@@ -93,7 +93,7 @@ pub const TABLE: [Line; 195] = [
         DOUBLED_PLACES,
         50,
     ),
-    numbered(Group::FirstBytes, "serve: every first byte, both editions", 512, 8),
+    numbered(Group::FirstBytes, "serve: every first byte, both editions", 512, 6),
     numbered(
         Group::FieldValues,
         "serve: every wrong TC, Attr and last enables alone",
@@ -594,7 +594,7 @@ pub const TABLE: [Line; 195] = [
         Group::RoutePorts,
         "route: leaves by 32 ports, as Type 0, as Type 1, trusted",
         96,
-        20,
+        16,
     ),
     numbered(
         Group::RoutePortsOfLists,
@@ -934,7 +934,7 @@ pub const TABLE: [Line; 195] = [
         Group::PairAnswers,
         "pair: three relations, type codes, what was answered",
         3 * PAIR_ANSWERS,
-        5,
+        3,
     ),
     named(
         Group::PairEvents,
@@ -944,21 +944,21 @@ pub const TABLE: [Line; 195] = [
     ),
     numbered(
         Group::LeftOut,
-        "pair: bit 7 refused and left out, type codes, 2 to 4",
-        21,
-        7,
+        "pair: bit 7 refused and left out, type codes, 1 to 4",
+        28,
+        4,
     ),
     numbered(
         Group::HalfShared,
         "half: packets of both runs, editions, bit 7, answers",
         HALF_ANSWERS,
-        4,
+        3,
     ),
     numbered(
         Group::HalfOwn,
         "half: packets of one run, editions, bit 7, answers",
         HALF_ANSWERS,
-        4,
+        3,
     ),
     named(Group::HalfDiffering, "half: how two runs differ", DIFFERING, 5),
     numbered(
@@ -971,7 +971,7 @@ pub const TABLE: [Line; 195] = [
         Group::OnwardForms,
         "onward: editions, as it leaves, bit 7, digest, poison",
         96,
-        5,
+        4,
     ),
     named(Group::Noise, "all: plain noise (as the generator meant it)", NOISE, 100),
 ];

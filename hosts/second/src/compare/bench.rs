@@ -55,14 +55,24 @@ impl Bench {
         random: &mut Random,
         subject: &mut impl Subject,
     ) -> Result<Served, Box<Difference>> {
+        self.load(packet, reply_length, random);
+        let served = self.serve(self.board.description, kept, subject)?;
+        self.keep(served);
+        Ok(served)
+    }
+
+    /// Lends a packet, and a random reply of so many bytes.
+    pub fn load(&mut self, packet: &Packet, reply_length: usize, random: &mut Random) {
         self.packet.set(0, &packet.bytes);
         self.packet.lend(packet.length);
         self.lend_reply(reply_length, random);
-        let served = self.serve(self.board.description, kept, subject)?;
+    }
+
+    /// Keeps what is captured after a call. A refusal captures nothing.
+    pub fn keep(&mut self, served: Served) {
         if served.number == 0 {
             self.board.capture = meaning(served.capture);
         }
-        Ok(served)
     }
 
     /// Resets the board by the model and by the subject.

@@ -5,7 +5,6 @@ use thawribbon::raw::Port;
 
 use super::bench::Bench;
 use super::difference::Difference;
-use super::reference::meaning;
 use super::routing::route;
 use super::subject::Subject;
 use crate::classes::{OnwardView, Tally, count_onward};
@@ -54,9 +53,7 @@ impl Onwards {
         bench.lend_reply(random.within(16, 20), random);
         let (capture, kept) = (bench.board.capture, bench.board.kept(random));
         let served = bench.serve(bench.board.description, kept, subject)?;
-        if served.number == 0 {
-            bench.board.capture = meaning(served.capture);
-        }
+        bench.keep(served);
         let board = &bench.board;
         let view = OnwardView {
             edition: board.description.edition,

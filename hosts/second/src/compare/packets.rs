@@ -42,9 +42,7 @@ impl Packets {
         tally.add_if(is_noise, Group::Noise, 0);
         self.count(&case, served, tally);
         self.bench.board.undo_doubling();
-        if served.number == 0 {
-            self.bench.board.capture = meaning(served.capture);
-        }
+        self.bench.keep(served);
         Ok(())
     }
 
@@ -101,9 +99,7 @@ impl Packets {
         bench.board.raise(case.packet.offset(), random);
         bench.board.double(case.doubled);
         bench.board.lend(case.lengths);
-        bench.packet.set(0, &case.packet.bytes);
-        bench.packet.lend(case.packet.length);
-        bench.lend_reply(case.reply_length, random);
+        bench.load(&case.packet, case.reply_length, random);
     }
 
     fn count(&mut self, case: &ServeCase, served: Served, tally: &mut Tally) {

@@ -1,13 +1,13 @@
 //! Pairs: two boards side by side that differ in their editions, or in bit 7 of what they are given, and have to answer
 //! alike. Each packet is served by the model and by the subject, and what the two boards came to is compared.
 
-use thawribbon::raw::Served;
+use thawribbon::raw::{Capture, Served};
 
 use super::bench::{Bench, boards};
 use super::difference::Difference;
 use super::subject::Subject;
 use crate::classes::{Boards, PairView, Tally, count_left_out, count_pair, count_pair_reset};
-use crate::generate::{RELATIONS, Random, Relation, RunPacketMaker, some_reply_length};
+use crate::generate::{Board, BoardFault, Packet, RELATIONS, Random, Relation, RunPacketMaker, some_reply_length};
 
 /// What a comparison answers.
 type Compared = Result<(), Box<Difference>>;
@@ -46,18 +46,15 @@ impl Pairs {
         }
         let packet = self.maker.draw(&self.first.board, random);
         let (packet, second_packet) = self.relation.given(packet, random);
-        let reply_length = some_reply_length(random);
-        let kept = self.first.board.kept(random);
         let capture = self.first.board.capture;
-        let first = self.first.serve_packet(&packet, reply_length, kept, random, subject)?;
+        let common = Common::draw(&self.first.board, random);
+        let first = common.serve(&mut self.first, &packet, random, subject)?;
         let Some(second_packet) = second_packet else {
             self.left_out_before = true;
             count_left_out(packet.as_slice(), first, &self.boards(), tally);
             return Ok(());
         };
-        let second = self
-            .second
-            .serve_packet(&second_packet, reply_length, kept, random, subject)?;
+        let second = common.serve(&mut self.second, &second_packet, random, subject)?;
         let view = self.view(packet.as_slice(), [first, second], capture);
         count_pair(&view, self.left_out_before, tally);
         Ok(())
@@ -107,5 +104,39 @@ impl Pairs {
             self.left_out_before = false;
         }
         self.calls_left -= 1;
+    }
+}
+
+/// What is the same for both boards of a pair in a call: the length of the reply, the kept capture, and a fault.
+struct Common {
+    reply_length: usize,
+    kept: Capture,
+    fault: Option<BoardFault>,
+}
+
+impl Common {
+    fn draw(board: &Board, random: &mut Random) -> Self {
+        let (kept, fault) = (board.kept(random), BoardFault::draw(random));
+        Self {
+            reply_length: some_reply_length(random),
+            kept: fault.map_or(kept, |fault| fault.kept(kept)),
+            fault,
+        }
+    }
+
+    /// Serves a packet on one of the boards.
+    fn serve(
+        &self,
+        bench: &mut Bench,
+        packet: &Packet,
+        random: &mut Random,
+        subject: &mut impl Subject,
+    ) -> Result<Served, Box<Difference>> {
+        bench.load(packet, self.reply_length, random);
+        let right = bench.board.description;
+        let description = self.fault.map_or(right, |fault| fault.description(right));
+        let served = bench.serve(description, self.kept, subject)?;
+        bench.keep(served);
+        Ok(served)
     }
 }

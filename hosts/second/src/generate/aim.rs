@@ -155,8 +155,10 @@ fn anywhere(random: &mut Random) -> Aim {
     let entered = sound_groups(random);
     let any = random.bits();
     let near = entered.base.wrapping_add(any >> random.below(64));
+    let edges = [0, u64::MAX, 1 << 63, (1 << 63) - 1];
+    let edge = random.pick(&edges);
     Aim {
-        address: random.pick(&[0, u64::MAX, entered.base, near, near, any, any]),
+        address: random.pick(&[edge, edge, entered.base, near, near, any, any]),
         group: random.bits() % 64,
         entered,
     }

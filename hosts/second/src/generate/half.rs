@@ -60,3 +60,66 @@ fn take_register(board: &mut Board, other: &Board) {
     board.trusted_rules.set_word(at, other.trusted_rules.word(from));
     board.trusted_marks.set_word(at, other.trusted_marks.word(from));
 }
+
+#[cfg(test)]
+mod tests {
+    use super::{Board, HALVES, Half, Random, register};
+
+    /// Two boards, each made by itself, that begin as a half says.
+    fn related(half: Half, random: &mut Random) -> [Board; 2] {
+        let [mut first, mut second] = [(); 2].map(|()| Board::spent());
+        first.renew(random);
+        second.renew(random);
+        half.relate([&mut first, &mut second], random);
+        [first, second]
+    }
+
+    #[test]
+    fn both_runs_have_the_same_function_and_edition_and_may_meet() {
+        let mut random = Random::new(1);
+        for half in HALVES.repeat(8) {
+            let boards = related(half, &mut random);
+            let [first, second] = boards.each_ref().map(|board| board.description);
+            assert_eq!((first.function, first.edition), (second.function, second.edition));
+            assert!(half.may_meet(boards.each_ref()));
+        }
+    }
+
+    #[test]
+    fn in_the_first_half_the_ordinary_state_is_the_same_and_so_is_the_register() {
+        let mut random = Random::new(2);
+        for _ in 0..8 {
+            let [first, second] = related(Half::Ordinary, &mut random);
+            assert_eq!(first.description.a, second.description.a);
+            assert_eq!((first.capture, register(&first)), (second.capture, register(&second)));
+            assert_eq!(first.ordinary.ours(), second.ordinary.ours());
+            assert_eq!(first.ordinary_rules.ours(), second.ordinary_rules.ours());
+            assert_eq!(first.ordinary_marks.ours(), second.ordinary_marks.ours());
+            assert_ne!(first.trusted_rules.ours(), second.trusted_rules.ours());
+        }
+    }
+
+    #[test]
+    fn in_the_second_half_the_trusted_space_is_the_same() {
+        let mut random = Random::new(3);
+        for _ in 0..8 {
+            let [first, second] = related(Half::Trusted, &mut random);
+            assert_eq!(first.trusted.ours(), second.trusted.ours());
+            assert_eq!(first.trusted_rules.ours(), second.trusted_rules.ours());
+            assert_eq!(first.trusted_marks.ours(), second.trusted_marks.ours());
+            assert_ne!(first.ordinary_rules.ours(), second.ordinary_rules.ours());
+        }
+    }
+
+    #[test]
+    fn a_register_or_a_capture_of_one_run_only_keeps_them_apart() {
+        let mut random = Random::new(4);
+        let [mut first, second] = related(Half::Ordinary, &mut random);
+        let b = first.description.b as usize;
+        first.trusted.set_word(b, !register(&first));
+        assert!(!Half::Ordinary.may_meet([&first, &second]));
+        let [mut first, second] = related(Half::Trusted, &mut random);
+        first.capture = Some((0, 0));
+        assert!(!Half::Trusted.may_meet([&first, &second]));
+    }
+}

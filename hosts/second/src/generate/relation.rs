@@ -48,3 +48,56 @@ impl Relation {
         }
     }
 }
+
+#[cfg(test)]
+mod tests {
+    use super::super::packet::{LONGEST_PACKET, Packet};
+    use super::{Board, RELATIONS, Random, Relation};
+
+    #[test]
+    fn two_boards_are_alike_but_for_their_editions() {
+        let mut random = Random::new(1);
+        for relation in RELATIONS {
+            let [mut first, mut second] = [(); 2].map(|()| Board::spent());
+            first.renew(&mut random);
+            second.renew(&mut random);
+            relation.relate([&mut first, &mut second]);
+            let editions = [&first, &second].map(|board| board.description.edition);
+            assert_eq!(editions, relation.editions());
+            second.description.edition = first.description.edition;
+            assert_eq!(first.description, second.description);
+            assert_eq!(first.capture, second.capture);
+            for (one, other) in [
+                (&first.ordinary, &second.ordinary),
+                (&first.ordinary_rules, &second.ordinary_rules),
+                (&first.ordinary_marks, &second.ordinary_marks),
+                (&first.trusted, &second.trusted),
+                (&first.trusted_rules, &second.trusted_rules),
+                (&first.trusted_marks, &second.trusted_marks),
+            ] {
+                assert_eq!(one.ours(), other.ours());
+            }
+        }
+    }
+
+    #[test]
+    fn what_two_boards_are_given_differs_in_bit_7_or_not_at_all() {
+        let mut random = Random::new(1);
+        for first_byte in 0..=0xFF {
+            let packet = Packet {
+                bytes: [first_byte; LONGEST_PACKET],
+                length: usize::from(first_byte) % 25,
+            };
+            let clear = first_byte & 0x7F;
+            let first_bytes = |relation: Relation, random: &mut Random| {
+                let (first, second) = relation.given(packet, random);
+                assert_eq!((first.length, &first.bytes[1..]), (packet.length, &packet.bytes[1..]));
+                (first.bytes[0], second.map(|second| second.bytes[0]))
+            };
+            assert_eq!(first_bytes(Relation::Editions, &mut random), (clear, Some(clear)));
+            assert_eq!(first_bytes(Relation::Cleared, &mut random), (first_byte, Some(clear)));
+            let left_out = first_bytes(Relation::LeftOut, &mut random);
+            assert!(left_out == (clear, Some(clear)) || left_out == (clear | 0x80, None));
+        }
+    }
+}

@@ -51,7 +51,7 @@ impl RunPacketMaker {
         packet.with_bit_7(random.percent(50))
     }
 
-    /// A packet for a board, of those that a condition holds of. It must hold of some of each type code.
+    /// A packet for a board that a condition holds of: others are thrown away.
     pub fn draw_such(&mut self, board: &Board, random: &mut Random, is_such: impl Fn(&Packet) -> bool) -> Packet {
         loop {
             let packet = self.draw(board, random);
@@ -105,5 +105,55 @@ pub fn some_reply_length(random: &mut Random) -> usize {
         random.within(16, 20)
     } else {
         random.below(16)
+    }
+}
+
+#[cfg(test)]
+mod tests {
+    use super::{Board, Random, RunPacketMaker, capturing_write, write_at_b};
+
+    fn some_board(random: &mut Random) -> Board {
+        let mut board = Board::spent();
+        board.renew(random);
+        board.capture = Some((5, 3));
+        board
+    }
+
+    #[test]
+    fn packets_have_bit_7_and_not_in_both_editions() {
+        let mut random = Random::new(1);
+        let mut maker = RunPacketMaker::new();
+        let mut board = some_board(&mut random);
+        for edition in [1, 2] {
+            board.description.edition = edition;
+            let mut met = [0; 2];
+            for _ in 0..200 {
+                met[usize::from(maker.draw(&board, &mut random).bytes[0] >> 7)] += 1;
+            }
+            assert!(met.into_iter().all(|count| count > 50), "{met:?}");
+        }
+    }
+
+    #[test]
+    fn the_two_writes_are_for_the_board_and_have_bit_7_clear() {
+        let mut random = Random::new(2);
+        let board = some_board(&mut random);
+        for _ in 0..20 {
+            let packet = write_at_b(&board, &mut random);
+            assert_eq!((packet.bytes[0], packet.offset()), (0x5B, board.description.b as usize));
+            assert_eq!((packet.bytes[7], &packet.bytes[12..16]), (0x0F, &[0xFF; 4][..]));
+            let captures = capturing_write(&board, (7, 2), &mut random);
+            assert_eq!((captures.bytes[0], captures.bytes[8]), (0x44, 7));
+            let target = board.description.function;
+            assert_eq!(
+                [packet.bytes[9], captures.bytes[9]],
+                [3, 2].map(|device| device << 3 | target)
+            );
+            assert!(
+                [packet, captures]
+                    .iter()
+                    .all(|packet| packet.length == packet.right_length())
+            );
+        }
     }
 }

@@ -9,7 +9,7 @@ use thawribbon::raw::{
 /// The seed of every run here.
 const SEED: u64 = 20_050_701;
 /// The calls within which a wrong subject must be caught, and a right one must not.
-const CALLS: u64 = 120_000;
+const CALLS: u64 = 150_000;
 
 type ServeEntry = Box<dyn FnMut(ServeCall<'_>) -> Served>;
 type ResetEntry = Box<dyn FnMut(Capture) -> Capture>;
@@ -102,6 +102,14 @@ impl Wrong {
         Self {
             route: Box::new(entry),
             ..Self::nothing()
+        }
+    }
+
+    /// The same subject with another router.
+    pub fn and_route(self, entry: impl FnMut(&[Port], &[u8], &mut [u8]) -> Routed + 'static) -> Self {
+        Self {
+            route: Box::new(entry),
+            ..self
         }
     }
 

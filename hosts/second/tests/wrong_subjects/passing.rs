@@ -1,6 +1,9 @@
 //! Wrong ways to take bit 7 of a packet's first byte at a router, and on the asking side. By request 9/13 "The router keeps
 //! ignoring it", and what is written has it clear.
 
+use std::cell::Cell;
+use std::rc::Rc;
+
 use second::compare::{Reference, Subject};
 use thawribbon::raw::Routed;
 
@@ -8,7 +11,7 @@ use crate::asker::{expect_writer_caught, with_written};
 use crate::harness::Wrong;
 use crate::reviser::has_bit_7;
 use crate::router::{
-    TRUSTED, TYPE_0, TYPE_1, UNSUPPORTED, expect_router_caught, is_of, or_else, refused, with_leaving,
+    TRUSTED, TYPE_0, TYPE_1, UNSUPPORTED, expect_router_caught, is_of, or_else, refused, rehearsed, with_leaving,
 };
 
 /// Fails unless a router is caught that answers something else to packets with bit 7 set that leave.
@@ -50,6 +53,24 @@ fn bit_7_tested_before_3_5_or_6_at_the_router() {
             (routed.number == number && has_bit_7(packet)).then_some(refused(4))
         }));
     }
+}
+
+/// A router has no edition, also not that of a board.
+#[test]
+fn bit_7_refused_at_the_router_by_the_edition_of_the_board_before() {
+    let edition = Rc::new(Cell::new(0));
+    let last = Rc::clone(&edition);
+    let board = Wrong::serve(move |call| {
+        last.set(call.description.edition);
+        Reference.serve(call)
+    });
+    expect_router_caught(board.and_route(move |ports, packet, leaving| {
+        let (routed, _) = rehearsed(ports, packet, leaving);
+        if edition.get() == 2 && routed.number == 0 && has_bit_7(packet) {
+            return refused(4);
+        }
+        Reference.route(ports, packet, leaving)
+    }));
 }
 
 #[test]
