@@ -7,8 +7,8 @@ export CARGO_TERM_COLOR=never CARGO_TERM_QUIET=false CARGO_TERM_VERBOSE=false
 release=(--release)
 checked=(--config profile.dev.opt-level=1)
 # The tests that there are, neither more nor fewer. The build with debug assertions has two more, which see that it has them.
-release_tests='lib 124, main 2, wrong_subjects 613'
-checked_tests='lib 126, main 2, wrong_subjects 613'
+release_tests='lib 168, main 2, wrong_subjects 683'
+checked_tests='lib 170, main 2, wrong_subjects 683'
 least=1000000
 few=200000
 archive=target/library/libthawribbon.a
