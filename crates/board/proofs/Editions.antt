@@ -1,15 +1,15 @@
 -- THEOREMS. Document 02, 9/13. "Show once, for either edition, that packets with bit 7 clear are answered alike": a board, and the same with another
 -- edition, give the same number and reply and leave the same spaces and capture; so do the calls of `board::serve`. "1 ignores bit 7 as now": under edition 1
--- packets that differ in bit 7 only are answered alike. "2 gives answer 4 when it is set": and 3 where the packet is too short, and nothing changes.
--- Assumes nothing.
+-- packets that differ in bit 7 only are answered alike. "2 gives answer 4 when it is set": and 3 where the packet is too short, and nothing changes. "Any other
+-- edition is answer 1": whatever the packet and the reply are. Assumes nothing.
 use Prim.Native.Nat.{ℕ, zero, suc, _≤_}
-use mathlib.Core.Bool.{Bool, true, false, cond}
+use mathlib.Core.Bool.{Bool, true, false, cond, or-true}
 use mathlib.Core.List.{List, []}
 use mathlib.Core.Logic.{_⊎_, inl, inr}
 use mathlib.Core.Path.{_≡_, refl, sym, ap, ap₂, _∙_}
 use lib.Dec.{ltb}
 use lib.ListN.{length}
-use borrow.Author.Tests.{le-ltb}
+use borrow.Author.Tests.{le-ltb, ne-eqb}
 use Rattle.words.specs.Bytes.{byte}
 use Rattle.packet.specs.declared.Request.{Request}
 use Rattle.packet.specs.Fields.{bit7Set, dataOf}
@@ -17,12 +17,16 @@ use Rattle.packet.specs.Request.{isTrusted, numberUnder, packetNumber, requestO
 use Rattle.packet.specs.declared.Status.the-variants.{Success}
 use Rattle.packet.proofs.Laws.{number-under, clear-accepted}
 use Rattle.packet.proofs.Bit7Aside.{Bit7Aside, SameButBit7, bit-7-aside}
+use Rattle.capture.specs.declared.Capture.{Capture}
+use Rattle.board.specs.declared.Description.{Description}
 use Rattle.board.specs.declared.Served.{Served}
-use Rattle.board.specs.Description.{Board, withEdition, otherEdition, badlyDescribed, WellDescribed}
+use Rattle.board.specs.Description.{Board, withEdition, otherEdition, outOfRange, badlyDescribed, WellDescribed}
 use Rattle.board.specs.Access.{unsupported, afterWrite, shownWord}
 use Rattle.board.specs.Serving.{Outcome, replies, respond, serveNumber, refused, byNumber, serve}
 use Rattle.board.specs.Promise.{seen, shows, Serves}
+use Rattle.board.proofs.Causes.{Cause, range, one-exactly}
 use Rattle.board.proofs.Laws.{unsupported-same}
+use Rattle.board.proofs.Refusals.{outcome-number}
 use Rattle.board.proofs.Outcomes.{respond-unsupported, respond-write, respond-read}
 
 -- a packet with bit 7 of its first byte clear; the empty packet counts as one, since it has no such bit (`empty-is-clear`)
@@ -61,6 +65,10 @@ TwoRefuses =
     (d : Board) (p : List ℕ) (size : ℕ) → d .description .edition ≡ 2 → WellDescribed d → 16 ≤ size → bit7Set (byte p 0) ≡ true
     → serve d p size ≡ refused (cond (ltb (length p) 12) 3 4) d
 
+-- and any other edition is answer 1
+abbrev pub OtherIsOne : Type 0
+OtherIsOne = (d : Board) (p : List ℕ) (size : ℕ) → (OneOrTwo (d .description .edition) → ⊥) → serve d p size ≡ refused 1 d
+
 pub empty-is-clear : Bit7Clear []
 empty-is-clear = refl
 
@@ -70,13 +78,13 @@ not-other : (edition : ℕ) → OneOrTwo edition → otherEdition edition ≡ fa
 not-other edition (inl e) = rw e
 not-other edition (inr e) = rw e
 
+clear-number : (p : List ℕ) → Bit7Clear p → (n : ℕ) → numberUnder n p ≡ packetNumber p
+clear-number p clear n = number-under n p (clear-accepted n (byte p 0) clear)
+
 module _ (d : Board) (edition : ℕ) (k : OneOrTwo (d .description .edition)) (j : OneOrTwo edition) where
   bad-same : badlyDescribed (withEdition d edition) ≡ badlyDescribed d
   unfolding badlyDescribed
   bad-same = rw (not-other (d .description .edition) k, not-other edition j)
-
-  clear-number : (p : List ℕ) → Bit7Clear p → (n : ℕ) → numberUnder n p ≡ packetNumber p
-  clear-number p clear n = number-under n p (clear-accepted n (byte p 0) clear)
 
   number-same : (p : List ℕ) (size : ℕ) → Bit7Clear p → serveNumber (withEdition d edition) p size ≡ serveNumber d p size
   number-same p size clear =
@@ -152,3 +160,17 @@ pub two-refuses : TwoRefuses
 unfolding serve
 two-refuses d p size two w h set =
     ap (λ (n : ℕ). byNumber n d p) (two-number d p size two w h set) ∙ short-or d p (ltb (length p) 12)
+
+-- ---- any other
+
+is-other : (edition : ℕ) → (OneOrTwo edition → ⊥) → otherEdition edition ≡ true
+is-other edition h = rw (ne-eqb edition 1 (λ e. h (inl e)), ne-eqb edition 2 (λ e. h (inr e)))
+
+out-of-range : (description : Description) (kept : Capture) → otherEdition (description .edition) ≡ true → outOfRange description kept ≡ true
+out-of-range description kept e = simp (e, or-true)
+
+pub other-is-one : OtherIsOne
+unfolding serve
+other-is-one d p size h =
+    let out = out-of-range (d .description) (d .capture) (is-other (d .description .edition) h) in
+    ap (λ (n : ℕ). byNumber n d p) (sym (outcome-number d p size) ∙ one-exactly d p size .1 (range out))

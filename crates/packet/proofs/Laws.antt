@@ -56,9 +56,6 @@ offset-is ten eleven high low h e f =
 
 -- the four ways to be refused, and the way through: what each test of the code has shown, and the number
 module _ (p : List ℕ) where
-  pub number-short : length p < 12 → packetNumber p ≡ 3
-  number-short h = rw (lt-ltb (length p) 12 h)
-
   pub number-unknown : 12 ≤ length p → typed p ≡ Unknown → packetNumber p ≡ 4
   number-unknown long e = rw (le-ltb (length p) 12 long, e)
 
@@ -102,6 +99,9 @@ module _ (edition : ℕ) (p : List ℕ) where
 
   pub sound-under : numberUnder edition p ≡ 0 → packetNumber p ≡ 0
   sound-under n = sym (number-under (accepted n)) ∙ n
+
+pub number-short : (p : List ℕ) → length p < 12 → packetNumber p ≡ 3
+number-short p h = number-short-under 1 p h
 
 -- with bit 7 clear, no edition refuses it
 pub clear-accepted : (edition first : ℕ) → bit7Set first ≡ false → refusesBit7 edition first ≡ false

@@ -87,7 +87,8 @@ trusted (first ∷ rest) = eqb (typeCode first) 0x1b || eqb (typeCode first) 0x5
 abbrev pub trustedUnder : ℕ → List ℕ → Bool
 trustedUnder edition p = not (refusesBit7 edition (byte p 0)) && trusted p
 
--- what `packet::decode_under` answers: the request of a packet without a fault, else the refusal with the lowest number
+-- what `packet::decode_under` answers: the request of a packet without a fault, else the refusal with the lowest number. An edition that is neither 1 nor 2 is no
+-- board's (02, 9/13: "Any other edition is answer 1", which the board gives before): here it ignores bit 7, as 1 does
 abbrev pub DecodesUnder : ℕ → List ℕ → Decoded → Type 0
 DecodesUnder edition p (Asks request) = (numberUnder edition p ≡ 0) × (request ≡ requestOf p)
 DecodesUnder edition p (Refused refusal) = numberUnder edition p ≡ numberOf refusal

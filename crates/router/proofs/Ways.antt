@@ -1,6 +1,6 @@
 -- THEOREMS. What a packet is when it leaves. A trusted packet's bytes never alter, through any number of routers in a row. A Type 1 packet leaves as it is,
--- or as Type 0 where its bus is the port's secondary; then a board's own decoder reads the same request but for its type. Through a row it becomes Type 0 at
--- most once, at the last router: none lets a Type 0 packet leave. Assumes nothing.
+-- or as Type 0 where its bus is the port's secondary; then a board's own decoder, of edition 1 (02, 9/13), reads the same request but for its type. Through a
+-- row it becomes Type 0 at most once, at the last router: none lets a Type 0 packet leave. Assumes nothing.
 use Prim.Native.Nat.{ℕ, suc, _+_, _*_, _<_}
 use mathlib.Core.Bool.{Bool, true, false, not, cond, true≢false}
 use mathlib.Core.List.{List, [], _∷_, _++_}
@@ -50,8 +50,8 @@ atType0 q =
       offset = q .offset;
     }
 
--- one packet is another that became Type 0: bit 7 of its first byte and every other byte are the same, it has no fault, and a board's decoder reads the
--- same request but for its type, with the same data
+-- one packet is another that became Type 0: bit 7 of its first byte and every other byte are the same, it has no fault, and the decoder of a board of edition
+-- 1 reads the same request but for its type, with the same data
 pub record BecameType0 (p q : List ℕ) : Type 0 where
   pub type1 : targetIn p ≡ Type1
   pub changed : q ≡ asType0 p

@@ -1,5 +1,5 @@
 -- Servers that do not keep to the edition (document 02, 9/13), for any server: each is wrong about a packet to the bench sheet's board, or to the same with
--- another edition. And there are such servers, right in all else. Assumes nothing.
+-- another edition. And there are such servers. Assumes nothing.
 use Prim.Native.Nat.{ℕ}
 use mathlib.Core.Bool.{Bool, not, _&&_, cond}
 use mathlib.Core.List.{List, [], _∷_, _++_}
@@ -13,28 +13,28 @@ use Rattle.packet.specs.Request.{packetNumber}
 use Rattle.board.specs.Description.{Board, withEdition, WellDescribed}
 use Rattle.board.specs.Promise.{Seen}
 use Rattle.board.proofs.Computing.{computing}
-use Rattle.runs.specs.Bench.{bench, zeros, p2, changed}
+use Rattle.runs.specs.Bench.{bench, zeros, p2, readAt, changed}
 use Rattle.runs.specs.Servers.{Server, promised, untouched, RightAt}
 use Rattle.runs.specs.Bit7.{TestsBit7First, TestsBit7Last, RefusesUnderOne, TakesFor}
 
--- P2's write with bit 7 set, and the same with a byte too many
-abbrev pub p2Bit7 : List ℕ
-p2Bit7 = changed p2 0 0xc4
+-- a read with bit 7 set, and the same with a byte too many
+abbrev pub readBit7 : List ℕ
+readBit7 = changed (readAt 0x00 0x04) 0 0x84
 
-abbrev pub p2Long : List ℕ
-p2Long = p2Bit7 ++ (0x00 ∷ [])
+abbrev pub readLong : List ℕ
+readLong = readBit7 ++ (0x00 ∷ [])
 
 -- the bench sheet's board under an edition
 abbrev pub benchUnder : ℕ → Board
 benchUnder edition = withEdition (bench zeros) edition
 
--- the statements: a packet of one byte, C4h; a write with a byte too many; a write; 2 taken for 1; another edition taken for 1 or for 2
+-- the statements: a packet of one byte, 84h; a read with a byte too many; a read; 2 taken for 1; another edition taken for 1 or for 2
 pub record EditionFaultsCaught : Type 0 where
   pub boards : WellDescribed (benchUnder 1) × WellDescribed (benchUnder 2)
-  pub first : (server : Server) → TestsBit7First server → RightAt server (benchUnder 2) (0xc4 ∷ []) → ⊥
-  pub last : (server : Server) → TestsBit7Last server → RightAt server (benchUnder 2) p2Long → ⊥
-  pub underOne : (server : Server) → RefusesUnderOne server → RightAt server (benchUnder 1) p2Bit7 → ⊥
-  pub twoForOne : (server : Server) → TakesFor 2 1 server → RightAt server (benchUnder 2) p2Bit7 → RightAt server (benchUnder 1) p2Bit7 → ⊥
+  pub first : (server : Server) → TestsBit7First server → RightAt server (benchUnder 2) (0x84 ∷ []) → ⊥
+  pub last : (server : Server) → TestsBit7Last server → RightAt server (benchUnder 2) readLong → ⊥
+  pub underOne : (server : Server) → RefusesUnderOne server → RightAt server (benchUnder 1) readBit7 → ⊥
+  pub twoForOne : (server : Server) → TakesFor 2 1 server → RightAt server (benchUnder 2) readBit7 → RightAt server (benchUnder 1) readBit7 → ⊥
   pub zeroForOne : (server : Server) → TakesFor 0 1 server → RightAt server (benchUnder 0) p2 → RightAt server (benchUnder 1) p2 → ⊥
   pub threeForTwo : (server : Server) → TakesFor 3 2 server → RightAt server (benchUnder 3) p2 → RightAt server (benchUnder 2) p2 → ⊥
 
@@ -47,18 +47,18 @@ edition-faults-caught =
     record {
       boards = (refl, refl);
       first = λ server fault right.
-          omega (arith, sym (fault (benchUnder 2) (0xc4 ∷ []) untouched (record { is = refl; well = refl; set = refl; room = omega arith })) ∙ ap number right);
+          omega (arith, sym (fault (benchUnder 2) (0x84 ∷ []) untouched (record { is = refl; well = refl; set = refl; room = omega arith })) ∙ ap number right);
       last = λ server fault right.
           omega (
             arith,
-            sym (fault (benchUnder 2) p2Long untouched (record { is = refl; well = refl; set = refl; room = omega arith }) (λ e. omega (arith, e))) ∙ ap number right,
+            sym (fault (benchUnder 2) readLong untouched (record { is = refl; well = refl; set = refl; room = omega arith }) (λ e. omega (arith, e))) ∙ ap number right,
           );
       underOne = λ server fault right.
           omega (
             arith,
-            sym (fault (benchUnder 1) p2Bit7 untouched (record { is = refl; well = refl; set = refl; room = omega arith }) (omega arith)) ∙ ap number right,
+            sym (fault (benchUnder 1) readBit7 untouched (record { is = refl; well = refl; set = refl; room = omega arith }) (omega arith)) ∙ ap number right,
           );
-      twoForOne = λ server fault two one. omega (arith, sym (ap number two) ∙ fault (bench zeros) p2Bit7 untouched ∙ ap number one);
+      twoForOne = λ server fault two one. omega (arith, sym (ap number two) ∙ fault (bench zeros) readBit7 untouched ∙ ap number one);
       zeroForOne = λ server fault zero one. omega (arith, sym (ap number zero) ∙ fault (bench zeros) p2 untouched ∙ ap number one);
       threeForTwo = λ server fault three two. omega (arith, sym (ap number three) ∙ fault (bench zeros) p2 untouched ∙ ap number two);
     }

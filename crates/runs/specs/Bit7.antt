@@ -30,7 +30,7 @@ TestsBit7Last server =
 abbrev pub RefusesUnderOne : Server → Type 0
 RefusesUnderOne server = (d : Board) (p reply : List ℕ) → Bit7Sent 1 d p reply → 12 ≤ length p → server d p reply .number ≡ 4
 
--- the edition makes no difference, of two that the board is given: 2 as 1, or "edition 0 taken as 1"
+-- one edition is taken for another: 2 for 1, as where it is not asked; or 0 for 1
 abbrev pub TakesFor : ℕ → ℕ → Server → Type 0
 TakesFor edition other server =
     (d : Board) (p reply : List ℕ) → server (withEdition d edition) p reply .number ≡ server (withEdition d other) p reply .number

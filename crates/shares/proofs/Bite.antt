@@ -2,8 +2,8 @@
 -- first half's premises, and in A, so by the half in both, an ordinary read at A is answered with the data in the register, not with the stale bytes there, and one of
 -- the status with the bits that a write has left. Runs C and D differ in A, B, ordinary bytes, rules and marks, capture and the number of
 -- ordinary packets and resets, meet the second half's premises, and in C, so in both, a trusted read is answered with the data written before, and one of
--- the trusted status with the bits that are left. The same under edition 2, with trusted codes whose bit 7 is set among the packets: they are compared as
--- ordinary ones. Assumes nothing.
+-- the trusted status with the bits that are left. Each pair of boards meets them under edition 2 too,
+-- in shorter runs with a trusted code whose bit 7 is set, which counts as ordinary. Assumes nothing.
 use Prim.Native.Nat.{ℕ}
 use mathlib.Core.Bool.{false}
 use mathlib.Core.List.{List, [], _∷_, _++_}
@@ -63,8 +63,8 @@ pub record SecondHalfBites : Type 0 where
   pub reply : nth 1 (trustedSights boardC runC) .written ≡ completed (0x05 ∷ 0x18 ∷ []) 0x08 (0x5a ∷ 0x6b ∷ 0x7c ∷ 0x8d ∷ [])
   pub cleared : nth 3 (trustedSights boardC runC) .written ≡ completed (0x05 ∷ 0x18 ∷ []) 0x08 (0xee ∷ 0xdd ∷ 0xcc ∷ 0xbb ∷ [])
 
--- and under edition 2, with trusted codes whose bit 7 is set, which count as ordinary. First half: the n-th of them is compared too; it is the second
--- ordinary packet in both, is answered 4, and leaves the register as it was
+-- and under edition 2, with a trusted code whose bit 7 is set: under edition 1 it would be a trusted packet more. First half: it is compared too, as the second
+-- ordinary packet of both; it is answered 4, and leaves the register as it was
 pub record FirstHalfBitesUnderTwo : Type 0 where
   pub editions : (editionOf boardA2 ≡ 2) × (editionOf boardB2 ≡ 2)
   pub well : WellDescribed boardA2 × WellDescribed boardB2
@@ -73,6 +73,7 @@ pub record FirstHalfBitesUnderTwo : Type 0 where
   pub registers : correlations boardA2 runA2 ≡ correlations boardB2 runB2
   pub ordinaryOnes : (length (only (ordinaryPacket 2) runA2) ≡ 3) × (length (only (ordinaryPacket 2) runB2) ≡ 3)
   pub differentPackets : (length (trustedPackets boardA2 runA2) ≡ 1) × (length (trustedPackets boardB2 runB2) ≡ 2)
+  pub underOne : (length (trustedPackets boardA runA2) ≡ 2) × (length (trustedPackets boardB runB2) ≡ 3)
   pub bit7 : (nth 1 (ordinarySights boardA2 runA2) .number ≡ 4) × (nth 1 (ordinarySights boardA2 runA2) .written ≡ [])
   pub reply : nth 2 (ordinarySights boardA2 runA2) .written ≡ completed (0x05 ∷ 0x18 ∷ []) 0x09 (0x5a ∷ 0x6b ∷ 0x7c ∷ 0x8d ∷ [])
 
@@ -196,6 +197,7 @@ first-half-bites-under-two =
       registers = registers-agree boardA2 boardB2 runA2 runB2 well-a2 well-b2 refl;
       ordinaryOnes = (refl, refl);
       differentPackets = (refl, refl);
+      underOne = (refl, refl);
       bit7 = let s = ordinary-nth 1 boardA2 runA2 well-a2 in (ap (λ (x : Sight). x .number) s, ap written s);
       reply = ap written (ordinary-nth 2 boardA2 runA2 well-a2);
     }

@@ -126,7 +126,7 @@ runD =
 
 -- ---- under edition 2: A and B, C and D, with trusted codes whose bit 7 is set among the packets
 
--- a trusted write, and then one whose bit 7 is set, of other data to the same place
+-- a trusted write but for its bit 7, which is set, by byte 11
 abbrev pub bit7Write : ℕ → List ℕ
 bit7Write eleven = changed (trustedWriteAt 0x0f 0x00 eleven (0xd1 ∷ 0xd2 ∷ 0xd3 ∷ 0xd4 ∷ [])) 0 0xdb
 
@@ -136,7 +136,7 @@ boardA2 = withEdition boardA 2
 abbrev pub boardB2 : Board
 boardB2 = withEdition boardB 2
 
--- the same write with bit 7 in both, to where the register of one is, and a read at A
+-- the same write with bit 7 in both, to where the register of one is, and a read at A. At the write with bit 7, which is not served, the registers differ
 abbrev pub runA2 : List Event
 runA2 = sent p2 ∷ sent (trustedWriteAt 0x0f 0x00 0x0c (0x5a ∷ 0x6b ∷ 0x7c ∷ 0x8d ∷ [])) ∷ sent (bit7Write 0x0c) ∷ sent (readAt 0x01 0x04) ∷ []
 
@@ -144,8 +144,8 @@ abbrev pub runB2 : List Event
 runB2 =
     sent p2
     ∷ sent (trustedWriteAt 0x03 0x00 0x10 (0x5a ∷ 0x6b ∷ 0x00 ∷ 0x00 ∷ []))
-    ∷ sent (trustedWriteAt 0x0c 0x00 0x10 (0x00 ∷ 0x00 ∷ 0x7c ∷ 0x8d ∷ []))
     ∷ sent (bit7Write 0x0c)
+    ∷ sent (trustedWriteAt 0x0c 0x00 0x10 (0x00 ∷ 0x00 ∷ 0x7c ∷ 0x8d ∷ []))
     ∷ sent (readAt 0x01 0x04)
     ∷ []
 

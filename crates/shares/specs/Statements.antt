@@ -31,7 +31,7 @@ FirstHalfAtEach =
 -- "The other way round, with the same function number, trusted packets, their reply sizes, trusted bytes and rules, and equal capture at
 -- each trusted packet, all trusted answers, written reply bytes and trusted bytes agree": at each trusted packet, and at the end. "A, B
 -- and all ordinary bytes, rules, packets and resets may differ in its second [half]." With 02, 6/13, "the new trusted buffer" is the same, and the ordinary
--- one may differ as the ordinary rules may.
+-- one may differ as the ordinary rules may; with 02, 9/13, "both its runs have the same edition", and packets with bit 7 set are ordinary under edition 2.
 abbrev pub SecondHalf : Type 0
 SecondHalf =
     (d e : Board) (run other : List Event) → WellDescribed d → WellDescribed e

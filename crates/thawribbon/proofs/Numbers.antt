@@ -2,7 +2,7 @@
 -- there and that of none before it is, and no other number is given. And a refusal changes nothing that a host holds. Assumes nothing.
 use Prim.Native.Nat.{ℕ}
 use mathlib.Core.List.{List, [], _∷_, List·Memᴰ}
-use mathlib.Core.Path.{_≡_, sym, ap, _∙_, subst}
+use mathlib.Core.Path.{_≡_, refl, sym, ap, _∙_, subst}
 use lib.ListN.{length}
 use borrow.Author.Tests.{ne-eqb}
 use Rattle.answers.proofs.Checks.{First}
@@ -23,11 +23,18 @@ use Rattle.thawribbon.specs.declared.HostDescription.{HostDescription}
 use Rattle.thawribbon.specs.declared.HostDvsec.{HostDvsec}
 use Rattle.thawribbon.specs.declared.HostServed.{HostServed}
 use Rattle.thawribbon.specs.declared.HostWalked.{HostWalked}
-use Rattle.thawribbon.specs.Packets.{HostSeen, hostShows, hostBoard, HostServes}
+use Rattle.thawribbon.specs.Packets.{HostSeen, described, hostShows, hostBoard, HostServes}
 use Rattle.thawribbon.specs.Walks.{HostWalks}
 use Rattle.thawribbon.specs.Records.{toldDvsec, toldDual}
 
--- the statements: of `thawribbon_serve`
+-- the statements: the board that a host describes has the host's own four numbers
+pub record HandedOn (description : HostDescription) : Type 0 where
+  pub function : described description .function ≡ description .function
+  pub a : described description .a ≡ description .a
+  pub b : described description .b ≡ description .b
+  pub edition : described description .edition ≡ description .edition
+
+-- of `thawribbon_serve`
 abbrev pub HostServeNumber : Type 0
 HostServeNumber =
     (description : HostDescription) (kept : HostCapture) (ordinary trusted : Space) (p reply : List ℕ) (r : HostServed)
@@ -105,3 +112,6 @@ host-dual-number s at r e =
     let says = dual-number-says s at in
     let n = sym (ap (λ (x : HostAlternate). x .number) e) in
     (subst (First (dualChecks s at)) n (says .0), subst (λ (k : ℕ). List·Memᴰ k (0 ∷ 1 ∷ 8 ∷ 9 ∷ 10 ∷ [])) n (says .1))
+
+pub handed-on : (description : HostDescription) → HandedOn description
+handed-on description = record { function = refl; a = refl; b = refl; edition = refl }
