@@ -187,7 +187,7 @@ pub const TABLE: [Line; 195] = [
         Group::TrustedWrites,
         "serve: every word changed by a write, trusted",
         1024,
-        10,
+        8,
     ),
     named(Group::Rules, "serve: rules of enabled bytes, success", RULES, 1000),
     named(
@@ -546,7 +546,7 @@ pub const TABLE: [Line; 195] = [
         Group::RouteWrongLengths,
         "route: four type codes, digest, twelve wrong lengths",
         96,
-        4,
+        3,
     ),
     numbered(
         Group::RouteFieldValues,
@@ -570,7 +570,7 @@ pub const TABLE: [Line; 195] = [
         Group::RouteUnsupported,
         "route: UR, Type 1 and trusted, forms, ranges beside it",
         160,
-        5,
+        3,
     ),
     numbered(
         Group::RouteUnsupportedLists,
@@ -600,7 +600,7 @@ pub const TABLE: [Line; 195] = [
         Group::RoutePortsOfLists,
         "route: leaves by each port of lists of 1 to 32",
         528,
-        10,
+        7,
     ),
     numbered(
         Group::RouteBuses,
@@ -794,7 +794,7 @@ pub const TABLE: [Line; 195] = [
         Group::MulticastOver,
         "multicast: Num Group over each Max Group by 1, Enable",
         126,
-        2,
+        1,
     ),
     numbered(
         Group::MulticastUnder,
@@ -952,13 +952,13 @@ pub const TABLE: [Line; 195] = [
         Group::HalfShared,
         "half: packets of both runs, editions, bit 7, answers",
         HALF_ANSWERS,
-        3,
+        2,
     ),
     numbered(
         Group::HalfOwn,
         "half: packets of one run, editions, bit 7, answers",
         HALF_ANSWERS,
-        3,
+        2,
     ),
     named(Group::HalfDiffering, "half: how two runs differ", DIFFERING, 5),
     numbered(

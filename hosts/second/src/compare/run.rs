@@ -21,7 +21,7 @@ use crate::generate::{Random, SHAPES};
 /// How often each entry is called: serve, reset, the three walks, dvsec, dvsec_body, dual_bdf, route, write_request,
 /// read_completion. Then how often a circle is gone through. Then multicast and judge. Then how often a pair and a half of
 /// demand 3 go a step on, and a packet goes through a router to a board.
-const WEIGHTS: [usize; 17] = [92, 3, 8, 10, 10, 6, 3, 5, 29, 11, 12, 6, 9, 21, 7, 9, 4];
+const WEIGHTS: [usize; 17] = [92, 3, 8, 11, 11, 6, 3, 5, 30, 11, 12, 6, 9, 22, 7, 9, 4];
 
 /// Where a run met a difference.
 #[derive(Debug)]
