@@ -24,7 +24,7 @@ use Rattle.board.specs.Description.{Board, withEdition, otherEdition, ou
 use Rattle.board.specs.Access.{unsupported, afterWrite, shownWord}
 use Rattle.board.specs.Serving.{Outcome, replies, respond, serveNumber, refused, byNumber, serve}
 use Rattle.board.specs.Promise.{seen, shows, Serves}
-use Rattle.board.proofs.Causes.{Cause, range, one-exactly}
+use Rattle.board.proofs.Causes.{Cause.range, one-exactly}
 use Rattle.board.proofs.Laws.{unsupported-same}
 use Rattle.board.proofs.Refusals.{outcome-number}
 use Rattle.board.proofs.Outcomes.{respond-unsupported, respond-write, respond-read}
