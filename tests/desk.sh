@@ -287,7 +287,7 @@ packet 84 00 00 01 01 00 08 0F 05 18 00 04
 packet 80 00 00 01 01 00 08 0F 05 18 00 04
 LINES
 bad='number 1: badly described: a buffer of another size than 1000, a number or an offset out of range, an edition other than 1 and 2, or a bit that is writable and marked'
-set_bit='number 4: bit 7 of byte 0 is set: under edition 2 it is part of the type code, and none of the six has it'
+set_bit='number 4: bit 7 of byte 0 is set: under edition 2 it belongs to the format field, and none of the six has it'
 unknown='number 4: byte 0 without bit 7 is none of the six type codes'
 asks='bus 05 device 03 function 0, offset 004, enables 1111, requester 01 00 tag 08'
 stays='  captured: nothing

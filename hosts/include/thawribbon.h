@@ -85,7 +85,7 @@ enum thawribbon_number {
     THAWRIBBON_SERVED = 0,
     /* a space, its rules or its marks aren't 4,096 bytes, a bit is 1 in the rules and in the marks of a space, a captured device is over
        31, a function number or A or B is outside its range, the edition is neither THAWRIBBON_EDITION_1 nor THAWRIBBON_EDITION_2 (one that
-       a host does not name is 0), a record is asked for where none may stand (rule 2.2); at thawribbon_board_serve, also where buffers
+       an initialiser leaves out is 0), a record is asked for where none may stand (rule 2.2); at thawribbon_board_serve, also where buffers
        overlap; at a router, a list has over 32 ports, a port's secondary bus is over its subordinate bus, or two ranges of buses meet (rule
        10.2); at thawribbon_ports_route, also where what leaves overlaps the ports or the packet; of a request to be written, its kind is
        none of the six, its device is over 31, its function over 7, its offset over FFCh or not a multiple of 4, or its enables over 15; at
@@ -172,9 +172,10 @@ enum thawribbon_number {
 /*
  * What stays while a board runs.
  *
- * Name all four members. One that is not named is 0, and 0 is no edition: such a board answers 1 to every packet, and is never taken for one
- * of edition 1 or 2. The edition has 32 bits, so that 257 is seen as 257, and answered 1. A number of more than 32 bits is cut by the C
- * compiler before the library sees it: check those that come from outside first.
+ * Name all four members. One that an initialiser leaves out is 0, and 0 is no edition: such a board answers 1 to every packet. Where members
+ * are set one by one in a struct that was not zeroed, an edition that is not set may be any number, 1 and 2 among them. The edition has 32
+ * bits, so that 257 is seen as 257, and answered 1. A number of more than 32 bits is cut by the C compiler before the library sees it: check
+ * those that come from outside first.
  */
 typedef struct thawribbon_description {
     uint8_t function; /* the board's function number, 0 to 7 */

@@ -1,13 +1,13 @@
--- Document 01, "Answer numbers", and document 02, 3/13 and 8/13: the number that each answer stands for. Assumes nothing.
+-- Document 01, "Answer numbers", and document 02, 3/13, 8/13 and 9/13: the number that each answer stands for. Assumes nothing.
 use Prim.Native.Nat.{ℕ}
 use Rattle.answers.specs.declared.Refusal.{Refusal}
 use Rattle.answers.specs.declared.Refusal.the-variants.{BadDescription, NoRoom, ShortPacket, UnknownType, WrongLength, WrongField, OtherStructure, WrongExtent, NotOneFunction, BelowFloor, ComesBack, WrongGroups}
 use Rattle.answers.specs.declared.Answer.{Answer}
 use Rattle.answers.specs.declared.Answer.the-variants.{Done, Refused}
 
--- 1 a space, device, function number or offset is out of its range, and by document 02, 6/13, "A bit marked both [as cleared by writing 1] and as writable" or
+-- 1 a space, device, function number, offset or, by 9/13, edition is out of its range, and by document 02, 6/13, "A bit marked both [as cleared by writing 1] and as writable" or
 -- "another buffer length" of the marks · 2 no room · 3 fewer than 12 bytes · 4 not one of the six
--- types · 5 the packet's length · 6 a fixed header field · 8 not the structure asked for · 9 a wrong length, or out of the space · 10 not
+-- types, or by 9/13 bit 7 under edition 2 · 5 the packet's length · 6 a fixed header field · 8 not the structure asked for · 9 a wrong length, or out of the space · 10 not
 -- exactly one function. Document 01's "7 broken chain" is split by document 02, 3/13: "11 for a pointer below the floor, 12 for a pointer to an offset
 -- already in the chain [..] 7 is no longer given". By document 02, 8/13, of a Multicast capability: "Num Group over Max Group, or index under 12 while
 -- enabled: 13", and 1 also for "a longer list, no such port, or a record the reading can't give"

@@ -18,7 +18,7 @@ Octets p = (k : ℕ) → byte p k < 256
 
 -- "digest bit clear, reserved bits 0". A reserved bit is one that no field of document 01's "Bytes as sent" has
 pub record Plain (p : List ℕ) : Type 0 where
-  -- "0: bit 7 reserved and ignored; bits 6 to 0 the type code."
+  -- "0: bit 7 reserved and ignored; bits 6 to 0 the type code.", and by 02, 9/13, refused under edition 2
   pub first : bit 7 (byte p 0) ≡ 0
   -- "1: bits 6:4 TC. [..] Other bits are ignored."
   pub one : (bit 7 (byte p 1) ≡ 0) × (bits 3 0 (byte p 1) ≡ 0)

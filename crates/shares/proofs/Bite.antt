@@ -9,7 +9,7 @@ use mathlib.Core.Bool.{false}
 use mathlib.Core.List.{List, [], _∷_, _++_}
 use mathlib.Core.Path.{_≡_, refl, sym, ap, _∙_}
 use lib.Dec.{eqb}
-use lib.ListN.{length}
+use lib.ListN.{length, getD}
 use borrow.Author.Tests.{eqb-false}
 use Rattle.words.specs.Bytes.{byte}
 use Rattle.capture.specs.declared.Capture.{Capture}
@@ -18,9 +18,9 @@ use Rattle.board.specs.Description.{Board, WellDescribed}
 use Rattle.board.proofs.Computing.{computing}
 use Rattle.runs.specs.Run.{Event}
 use Rattle.shares.specs.Kinds.{only}
-use Rattle.shares.specs.Views.{Sight, editionOf, ordinaryPacket, ordinaryState, trustedState, ordinaryEvents, trustedPackets, ordinarySights, trustedSights, correlations, captures}
+use Rattle.shares.specs.Views.{Sight, editionOf, ordinaryPacket, ordinaryState, trustedState, ordinaryEvents, trustedPackets, ordinarySights, trustedSights, correlations, correlationsAtEach, captures}
 use Rattle.shares.proofs.Needed.{nth, isReset}
-use Rattle.shares.proofs.Quickly.{quickRegisters, quickCaptures, quickOrdinary, quickTrusted, registers-quickly, captures-quickly, ordinary-quickly, trusted-quickly}
+use Rattle.shares.proofs.Quickly.{quickRegisters, quickAtEach, at-each-quickly, quickCaptures, quickOrdinary, quickTrusted, registers-quickly, captures-quickly, ordinary-quickly, trusted-quickly}
 use Rattle.shares.proofs.Examples.{boardA, boardB, boardC, boardD, runA, runB, runC, runD, boardA2, boardB2, boardC2, boardD2, runA2, runB2, runC2, runD2}
 
 -- two values that a number tells apart
@@ -64,7 +64,7 @@ pub record SecondHalfBites : Type 0 where
   pub cleared : nth 3 (trustedSights boardC runC) .written ≡ completed (0x05 ∷ 0x18 ∷ []) 0x08 (0xee ∷ 0xdd ∷ 0xcc ∷ 0xbb ∷ [])
 
 -- and under edition 2, with a trusted code whose bit 7 is set: under edition 1 it would be a trusted packet more. First half: it is compared too, as the second
--- ordinary packet of both; it is answered 4, and leaves the register as it was
+-- ordinary packet of both; it is answered 4, and leaves the register as it was. The registers differ while it comes, which nothing asks since it is not served
 pub record FirstHalfBitesUnderTwo : Type 0 where
   pub editions : (editionOf boardA2 ≡ 2) × (editionOf boardB2 ≡ 2)
   pub well : WellDescribed boardA2 × WellDescribed boardB2
@@ -74,6 +74,7 @@ pub record FirstHalfBitesUnderTwo : Type 0 where
   pub ordinaryOnes : (length (only (ordinaryPacket 2) runA2) ≡ 3) × (length (only (ordinaryPacket 2) runB2) ≡ 3)
   pub differentPackets : (length (trustedPackets boardA2 runA2) ≡ 1) × (length (trustedPackets boardB2 runB2) ≡ 2)
   pub underOne : (length (trustedPackets boardA runA2) ≡ 2) × (length (trustedPackets boardB runB2) ≡ 3)
+  pub registersDiffer : Apart (correlationsAtEach boardA2 runA2) (correlationsAtEach boardB2 runB2)
   pub bit7 : (nth 1 (ordinarySights boardA2 runA2) .number ≡ 4) × (nth 1 (ordinarySights boardA2 runA2) .written ≡ [])
   pub reply : nth 2 (ordinarySights boardA2 runA2) .written ≡ completed (0x05 ∷ 0x18 ∷ []) 0x09 (0x5a ∷ 0x6b ∷ 0x7c ∷ 0x8d ∷ [])
 
@@ -142,6 +143,11 @@ captures-agree : (d e : Board) (es fs : List Event) → WellDescribed d → Well
     → captures d es ≡ captures e fs
 captures-agree d e es fs w u k = captures-quickly d es w ∙ k ∙ sym (captures-quickly e fs u)
 
+-- the registers at the second ordinary packet of the runs under edition 2, by their third byte
+registers-apart : Apart (quickAtEach boardA2 runA2) (quickAtEach boardB2 runB2)
+unfolding computing
+registers-apart = apart (λ l. byte (getD l 1 []) 2) refl
+
 -- the n-th sight of either kind
 ordinary-nth : (n : ℕ) (d : Board) (es : List Event) → WellDescribed d → nth n (ordinarySights d es) ≡ nth n (quickOrdinary d es)
 ordinary-nth n d es w = ap (nth n) (ordinary-quickly d es w)
@@ -198,6 +204,7 @@ first-half-bites-under-two =
       ordinaryOnes = (refl, refl);
       differentPackets = (refl, refl);
       underOne = (refl, refl);
+      registersDiffer = λ e. registers-apart (sym (at-each-quickly boardA2 runA2 well-a2) ∙ e ∙ at-each-quickly boardB2 runB2 well-b2);
       bit7 = let s = ordinary-nth 1 boardA2 runA2 well-a2 in (ap (λ (x : Sight). x .number) s, ap written s);
       reply = ap written (ordinary-nth 2 boardA2 runA2 well-a2);
     }

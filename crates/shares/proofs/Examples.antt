@@ -1,5 +1,5 @@
--- Packets, boards and runs for the examples: runs A and B of the first half, C and D of the second (docs/SHARED.md shows A and B), and each under
--- edition 2 with packets whose bit 7 is set (02, 9/13).
+-- Packets, boards and runs for the examples: runs A and B of the first half, C and D of the second, and each pair under edition 2, with a
+-- packet whose bit 7 is set in A, B and D (02, 9/13; docs/SHARED.md shows A and B, and both under edition 2).
 -- Assumes nothing.
 use Prim.Native.Nat.{ℕ}
 use mathlib.Core.List.{List, [], _∷_, _++_}
@@ -124,7 +124,7 @@ runD =
     ∷ sent (trustedReadAt 0x00 0x08)
     ∷ []
 
--- ---- under edition 2: A and B, C and D, with trusted codes whose bit 7 is set among the packets
+-- ---- under edition 2: A and B, C and D, with a trusted code whose bit 7 is set in all but C
 
 -- a trusted write but for its bit 7, which is set, by byte 11
 abbrev pub bit7Write : ℕ → List ℕ

@@ -10,11 +10,12 @@ use Rattle.answers.specs.Checks.{check, firstThatApplies}
 use Rattle.packet.specs.Request.{checksUnder}
 use Rattle.capture.specs.declared.Capture.{Capture}
 use Rattle.board.specs.Description.{Space, Board, WellDescribed, afterReset}
+use Rattle.board.specs.Access.{correlation}
 use Rattle.board.specs.Serving.{Outcome, byNumber, serve}
 use Rattle.runs.specs.Run.{Event, packet, reset, next}
 use Rattle.runs.proofs.Calls.{run-keeps-well}
 use Rattle.shares.specs.Kinds.{keep, along}
-use Rattle.shares.specs.Views.{Sight, editionOf, sightAt, register, ordinaryPacket, trustedPacket, ordinarySights, trustedSights, correlations, captures}
+use Rattle.shares.specs.Views.{Sight, editionOf, sightAt, register, ordinaryPacket, trustedPacket, ordinarySights, trustedSights, correlations, correlationsAtEach, captures}
 
 -- serving, by the checks from 2 on
 abbrev pub quick : Board → List ℕ → ℕ → Outcome
@@ -60,6 +61,9 @@ module _ {Value : Type 0} (counts : Event → Bool) (value quickly : Board → E
 abbrev pub quickRegisters : Board → List Event → List (Option (List ℕ))
 quickRegisters d es = along (ordinaryPacket (editionOf d)) quickNext register d es
 
+abbrev pub quickAtEach : Board → List Event → List (List ℕ)
+quickAtEach d es = along (ordinaryPacket (editionOf d)) quickNext (λ x event. correlation x) d es
+
 abbrev pub quickCaptures : Board → List Event → List Capture
 quickCaptures d es = along (trustedPacket (editionOf d)) quickNext (λ x event. x .capture) d es
 
@@ -72,6 +76,9 @@ quickTrusted d es = along (trustedPacket (editionOf d)) quickNext (quickSight (�
 module _ (d : Board) (es : List Event) (w : WellDescribed d) where
   pub registers-quickly : correlations d es ≡ quickRegisters d es
   registers-quickly = along-same (ordinaryPacket (editionOf d)) register register (λ b x v. refl) d es w
+
+  pub at-each-quickly : correlationsAtEach d es ≡ quickAtEach d es
+  at-each-quickly = along-same (ordinaryPacket (editionOf d)) (λ x event. correlation x) (λ x event. correlation x) (λ b x v. refl) d es w
 
   pub captures-quickly : captures d es ≡ quickCaptures d es
   captures-quickly = along-same (trustedPacket (editionOf d)) (λ x event. x .capture) (λ x event. x .capture) (λ b x v. refl) d es w

@@ -210,8 +210,8 @@ impl Bench {
             self.reply.part_mut(),
         );
         self.check();
-        // A board has a reply of its own, so it is never refused with 2; and only C can name a place that is no `Offset`, and a
-        // number that is no edition.
+        // A board has a reply of its own, so it is never refused with 2; and only C and `raw` can name a place that is no
+        // `Offset`, and a number that is no edition.
         if let (Some(description), true) = (safe(self.description), served.number != 2) {
             other.serves_alike(description, served, &self.reply.part()[..served.length]);
         }
