@@ -5,7 +5,7 @@ use mathlib.Core.Path.{_≡_, refl, sym, ap, _∙_}
 use native.Mathlib.Omega.{arith}
 use lib.ListN.{getD}
 use Rattle.answers.specs.declared.Refusal.{Refusal}
-use Rattle.answers.specs.declared.Refusal.the-variants.{BadDescription, NoRoom, ShortPacket, UnknownType, WrongLength, WrongField, OtherStructure, WrongExtent, NotOneFunction, BelowFloor, ComesBack, WrongGroups}
+use Rattle.answers.specs.declared.Refusal.the-variants.{BadDescription, NoRoom, ShortPacket, UnknownType, WrongLength, WrongField, OtherStructure, WrongExtent, NotOneFunction, BelowFloor, ComesBack, WrongGroups, NoLayout, NotAccepted}
 use Rattle.answers.specs.declared.Answer.{Answer}
 use Rattle.answers.specs.declared.Answer.the-variants.{Done, Refused}
 use Rattle.answers.specs.Numbers.{numberOf, answerOf}
@@ -24,7 +24,7 @@ NoSeven = (answer : Answer) → answerOf answer ≡ 7 → ⊥
 -- the refusal that a number stands for (the first, where it stands for none)
 refusalOf : ℕ → Refusal
 refusalOf n =
-    getD (BadDescription ∷ BadDescription ∷ NoRoom ∷ ShortPacket ∷ UnknownType ∷ WrongLength ∷ WrongField ∷ BadDescription ∷ OtherStructure ∷ WrongExtent ∷ NotOneFunction ∷ BelowFloor ∷ ComesBack ∷ WrongGroups ∷ []) n BadDescription
+    getD (BadDescription ∷ BadDescription ∷ NoRoom ∷ ShortPacket ∷ UnknownType ∷ WrongLength ∷ WrongField ∷ BadDescription ∷ OtherStructure ∷ WrongExtent ∷ NotOneFunction ∷ BelowFloor ∷ ComesBack ∷ WrongGroups ∷ NoLayout ∷ BadDescription ∷ BadDescription ∷ BadDescription ∷ NotAccepted ∷ []) n BadDescription
 
 back : (r : Refusal) → refusalOf (numberOf r) ≡ r
 unfolding refusalOf
@@ -40,6 +40,8 @@ back NotOneFunction = refl
 back BelowFloor = refl
 back ComesBack = refl
 back WrongGroups = refl
+back NoLayout = refl
+back NotAccepted = refl
 
 pub number-tells : NumberTells
 number-tells r q e = sym (back r) ∙ ap refusalOf e ∙ back q
@@ -58,6 +60,8 @@ number-positive NotOneFunction e = omega arith
 number-positive BelowFloor e = omega arith
 number-positive ComesBack e = omega arith
 number-positive WrongGroups e = omega arith
+number-positive NoLayout e = omega arith
+number-positive NotAccepted e = omega arith
 
 -- "7 is no longer given": no answer has that number
 pub no-seven : NoSeven
@@ -77,6 +81,8 @@ no-seven (Refused r) e = none r e
     none BelowFloor e = omega arith
     none ComesBack e = omega arith
     none WrongGroups e = omega arith
+    none NoLayout e = omega arith
+    none NotAccepted e = omega arith
 
 pub answer-tells : AnswerTells
 answer-tells Done Done e = refl

@@ -17,6 +17,8 @@ pub enum Refusal {
     BelowFloor, // 11
     ComesBack, // 12
     WrongGroups, // 13
+    NoLayout, // 14
+    NotAccepted, // 18
 }
 
 pub enum Answer {
@@ -41,6 +43,8 @@ impl Refusal {
             Refusal::BelowFloor => 11,
             Refusal::ComesBack => 12,
             Refusal::WrongGroups => 13,
+            Refusal::NoLayout => 14,
+            Refusal::NotAccepted => 18,
         }
     }
 }

@@ -1,0 +1,5 @@
+pub mod Structures
+pub mod Accepting
+pub mod Proposing
+pub mod Laying
+pub mod Inner
