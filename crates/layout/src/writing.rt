@@ -1,6 +1,6 @@
 // The writer: the headers of a layout that the checker accepts, put into a lent space. Nothing is written before it has accepted.
 ghost use mathlib.Core.Path.{_≡_};
-ghost use Prim.Native.Nat.{_≤_};
+ghost use Prim.Native.Nat.{_+_, _*_, _/_, _%_, _≤_};
 ghost use Rattle.layout.specs.Structures.{version};
 ghost use Rattle.layout.specs.Laying.{fourOf, headerWord, Writes};
 ghost use Rattle.layout.specs.Inner.{laid, MayBeLaid};
@@ -26,18 +26,38 @@ pub fn write(structures: &[Structure], offsets: &[u16], space: &mut [u8]) -> Ans
     Answer::Done
 }
 
+fn low_byte(number: u16) -> u8
+    ensures { λ r. ⌜ r ≡ number % 256 ⌝ }
+{
+    (number & 0xff) as u8
+}
+
+fn high_byte(number: u16) -> u8
+    ensures { λ r. ⌜ r ≡ number / 256 ⌝ }
+{
+    (number >> 8) as u8
+}
+
+// The upper half of a header: version 3:0, next 15:4.
+fn upper_half(version: u16, next: u16) -> u16
+    requires { ⌜ (version ≤ 15) × (next ≤ 0xfff) ⌝ }
+    ensures { λ r. ⌜ r ≡ version + 16 * next ⌝ }
+{
+    next << 4 | version
+}
+
 // The bytes of a header: ID 15:0, version 19:16, next 31:20.
 fn header_of(structure: Structure, next: u16) -> [u8; 4]
     requires { ⌜ (version structure ≤ 15) × (next ≤ 0xfff) ⌝ }
     ensures { λ r. ⌜ r ≡ fourOf (headerWord structure next) ⌝ }
 {
     let id = structure[ID];
-    let version = structure[VERSION];
+    let upper = upper_half(structure[VERSION], next);
     [
-        (id & 0xff) as u8,
-        (id >> 8) as u8,
-        ((next & 0xf) << 4 | version) as u8,
-        (next >> 4) as u8,
+        low_byte(id),
+        high_byte(id),
+        low_byte(upper),
+        high_byte(upper),
     ]
 }
 

@@ -1,0 +1,6 @@
+pub mod Headers
+pub mod Laid
+pub mod Orderly
+pub mod Packing
+pub mod Sound
+pub mod Steps

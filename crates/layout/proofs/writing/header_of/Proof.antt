@@ -1,0 +1,58 @@
+use native.Mathlib.Omega.{arith}
+use Rattle.layout.proofs.Headers.{header-bytes}
+use borrow.Author.Needs.{needs}
+use Rattle.layout.proofs.writing.header_of.Statement.{statement}
+use Rattle.layout.proofs.writing.header_of.Tie as tie
+use Rattle.layout.proofs.writing.header_of.Reads as reads
+use Rattle.layout.proofs.writing.header_of.Lts as lts
+use Rattle.layout.proofs.writing.high_byte.Reads as high-byte-reads
+use Rattle.layout.proofs.writing.low_byte.Reads as low-byte-reads
+use Rattle.layout.proofs.writing.upper_half.Reads as upper-half-reads
+
+-- src/writing.rt:54:14
+array-read-id : tie.Need-array-read-id
+array-read-id c = search needs
+
+-- src/writing.rt:55:28
+array-read-upper-half : tie.Need-array-read-upper-half
+array-read-upper-half c = search needs
+
+-- src/writing.rt:55:9
+upper-half-requires : tie.Need-upper-half-requires
+upper-half-requires c κs = search needs
+
+-- src/writing.rt:57:9
+low-byte-requires : tie.Need-low-byte-requires
+low-byte-requires c κs = search needs
+
+-- src/writing.rt:58:9
+high-byte-requires : tie.Need-high-byte-requires
+high-byte-requires c κs = search needs
+
+-- src/writing.rt:59:9
+low-byte-requires-2 : tie.Need-low-byte-requires-2
+low-byte-requires-2 c κs = search needs
+
+-- src/writing.rt:60:9
+high-byte-requires-2 : tie.Need-high-byte-requires-2
+high-byte-requires-2 c κs = search needs
+
+-- src/writing.rt:50:1
+returns : tie.Need-returns
+returns c =
+    let a = c .before .before .before .before .before .args in
+    rw (c .high-byte2 .ensures, c .before .low-byte2 .ensures, c .before .before .high-byte .ensures, c .before .before .before .low-byte .ensures, c .before .before .before .before .upper-half .ensures)
+    (header-bytes (a .t1) (a .next) (omega (arith, c .before .before .high-byte .ensures)) (c .before .before .before .before .before .pre .0) (c .before .before .before .before .before .pre .1))
+
+pub header-of-spec : {M : Type 1} → statement M
+header-of-spec =
+    tie.close
+    (tie.spec
+    array-read-id
+    array-read-upper-half
+    upper-half-requires
+    low-byte-requires
+    high-byte-requires
+    low-byte-requires-2
+    high-byte-requires-2
+    returns)
