@@ -4,3 +4,4 @@ pub mod Orderly
 pub mod Packing
 pub mod Sound
 pub mod Steps
+pub mod Unique
