@@ -1,5 +1,6 @@
 pub mod Headers
 pub mod Laid
+pub mod Listed
 pub mod Orderly
 pub mod Packing
 pub mod Sound
