@@ -1,8 +1,12 @@
+pub mod Edges
 pub mod Headers
 pub mod Laid
 pub mod Listed
+pub mod Numbers
 pub mod Orderly
 pub mod Packing
 pub mod Sound
 pub mod Steps
+pub mod Together
 pub mod Unique
+pub mod Wrong

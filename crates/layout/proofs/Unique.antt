@@ -41,7 +41,7 @@ WriteUnique =
 same : {r q : Answer} {n : ℕ} → answerOf r ≡ n → answerOf q ≡ n → r ≡ q
 same {r} {q} e f = answer-tells r q (e ∙ sym f)
 
-unlike : {b : Bool} → b ≡ true → b ≡ false → ⊥
+pub unlike : {b : Bool} → b ≡ true → b ≡ false → ⊥
 unlike e f = let z : _≡_ {A = Bool} true false = sym e ∙ f in let n : _≡_ {A = ℕ} 0 1 = cc in omega arith
 
 pub check-unique : CheckUnique
@@ -130,7 +130,7 @@ refused-space : {n : ℕ} {s l m : List ℕ} {r q : Answer} → RefusesSpace n s
 refused-space a b = (same (a .given) (b .given), a .kept ∙ sym (b .kept))
 
 -- a cause of 1 is there, or none is
-blamed : (structures : List (List ℕ)) (s : List ℕ) → (length s ≡ 4096 → ⊥) ⊎ (areBad structures ≡ true) → length s ≡ 4096
+pub blamed : (structures : List (List ℕ)) (s : List ℕ) → (length s ≡ 4096 → ⊥) ⊎ (areBad structures ≡ true) → length s ≡ 4096
     → areBad structures ≡ false → ⊥
 blamed structures s cause whole good = ⊎-elim (λ n. n whole) (λ bad. unlike bad good) cause
 
