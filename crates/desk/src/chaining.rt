@@ -5,6 +5,11 @@ use crate::tokens;
 use crate::tokens::Tokens;
 use crate::vocabulary;
 
+// What a header of an extended or a trusted list says of itself that is put in this way.
+const ID: usize = 0x000b;
+
+const VERSION: usize = 1;
+
 // Puts so many headers of a list, the first at an offset and each other at the one before it with a step added. Each points to the
 // next, and the last to a pointer of its own. The numbers are the count, the first, the step and that pointer. Says whether all fit; where
 // not, nothing is put.
@@ -51,10 +56,12 @@ fn is_header(list: usize, at: usize, next: usize) -> bool {
 fn put_header(store: &mut Store, list: usize, at: usize, next: usize) {
     match list {
         vocabulary::COMPATIBLE => put_short(store, at, next),
-        vocabulary::EXTENDED => put_long(store, at, next),
+        vocabulary::EXTENDED => put_long(store, at, ID, VERSION, next),
         _ => put_long(
             store,
             std::num::wrapping_add_usize(spaces::TRUSTED, at),
+            ID,
+            VERSION,
             next,
         ),
     }
@@ -66,11 +73,16 @@ fn put_short(store: &mut Store, place: usize, next: usize) {
 }
 
 // ID 15:0, version 19:16, next 31:20.
-fn put_long(store: &mut Store, place: usize, next: usize) {
+pub fn put_long(store: &mut Store, place: usize, id: usize, version: usize, next: usize) {
     words::put(
         store,
         place,
-        &[0x0b, 0x00, low(next) << 4 | 0x01, low(next >> 4)],
+        &[
+            low(id),
+            low(id >> 8),
+            low(next) << 4 | low(version),
+            low(next >> 4),
+        ],
     );
 }
 

@@ -7,7 +7,9 @@ use crate::helping;
 use crate::judging;
 use crate::keeping;
 use crate::keeping::Records;
+use crate::laying;
 use crate::packets;
+use crate::planning;
 use crate::reading;
 use crate::requests;
 use crate::routing;
@@ -17,20 +19,31 @@ use crate::slots::Sizes;
 use crate::spaces;
 use crate::spaces::LONG;
 use crate::spaces::Store;
+use crate::structures;
+use crate::structures::Structures;
 use crate::tokens;
 use crate::tokens::Tokens;
 use crate::verdicts;
 use crate::vocabulary;
 use crate::walking;
+use crate::walking::Room;
 use crate::wording;
 use crate::wording::say;
+use layout::Structure;
 
 // The bytes that stand in a fresh board's spaces.
 const ORDINARY: u8 = 0x51;
 
 const TRUSTED: u8 = 0x72;
 
-pub fn perform(desk: &mut Desk, tokens: &Tokens, store: &mut Store, records: &mut Records) {
+pub fn perform(
+    desk: &mut Desk,
+    tokens: &Tokens,
+    store: &mut Store,
+    records: &mut Records,
+    structures: &mut Structures,
+    proposal: &mut Room,
+) {
     let word = tokens::word(tokens, 0);
     match word {
         vocabulary::FRESH | vocabulary::OPEN | vocabulary::BLANK => begin_board(desk, store, word),
@@ -47,6 +60,8 @@ pub fn perform(desk: &mut Desk, tokens: &Tokens, store: &mut Store, records: &mu
         vocabulary::PORTS => put_ports(desk, tokens, store),
         vocabulary::RECORDS => begin_records(desk, tokens, records),
         vocabulary::RECORD => put_record(desk, tokens, records),
+        vocabulary::STRUCTURES | vocabulary::MORE => put_structures(desk, tokens, structures),
+        vocabulary::PROPOSAL | vocabulary::MOVE => put_proposal(desk, tokens, proposal),
         vocabulary::SHOW => show(tokens, store),
         vocabulary::PACKET
         | vocabulary::RESET
@@ -60,6 +75,9 @@ pub fn perform(desk: &mut Desk, tokens: &Tokens, store: &mut Store, records: &mu
         | vocabulary::MULTICAST
         | vocabulary::KEEP
         | vocabulary::JUDGE => ask(desk, tokens, store, records),
+        vocabulary::PLAN | vocabulary::ACCEPT | vocabulary::WRITE => {
+            ask_of_layout(desk, tokens, store, structures, proposal);
+        }
         _ => perform_on_desk(desk, tokens),
     }
 }
@@ -119,6 +137,50 @@ fn put_record(desk: &mut Desk, tokens: &Tokens, records: &mut Records) {
     } else {
         faults::tell_whole(desk, faults::NO_RECORD);
     }
+}
+
+fn put_structures(desk: &mut Desk, tokens: &Tokens, structures: &mut Structures) {
+    if structures::put(desk, tokens, structures) {
+        done();
+    } else {
+        faults::tell_whole(desk, faults::NO_STRUCTURES);
+    }
+}
+
+fn put_proposal(desk: &mut Desk, tokens: &Tokens, proposal: &mut Room) {
+    if structures::propose(desk, tokens, proposal) {
+        done();
+    } else {
+        faults::tell_whole(desk, faults::NO_OFFSET);
+    }
+}
+
+// A question about the structures of a new board. Headers that are expected fit into a space.
+fn ask_of_layout(
+    desk: &mut Desk,
+    tokens: &Tokens,
+    store: &mut Store,
+    structures: &[Structure],
+    proposal: &mut Room,
+) {
+    if !laying::fits(tokens) {
+        faults::tell_whole(desk, faults::NO_HEADER);
+        return;
+    }
+    let right = match tokens::word(tokens, 0) {
+        vocabulary::PLAN => planning::plan(desk, tokens, structures, proposal),
+        vocabulary::ACCEPT => planning::accept(desk, tokens, structures, proposal),
+        _ => laying::ask(
+            desk,
+            tokens,
+            store,
+            base_asked(tokens::word(tokens, 1)),
+            structures,
+            proposal,
+        ),
+    };
+    judging::count(desk, tokens, right);
+    slots::lend_all(desk);
 }
 
 // A question is lent what was said before it, and the next one everything again. What is to be kept wants a place first.

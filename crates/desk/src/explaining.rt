@@ -46,7 +46,14 @@ const BIT_7: usize = 14;
 // And 1 where an address is judged.
 pub const BAD_RECORDS: usize = 15;
 
-const BOARD: usize = 16;
+// And 0 of each question about a new board, in their order, and then 1 and 2.
+pub const PROPOSED: usize = 16;
+
+pub const BAD_STRUCTURES: usize = 19;
+
+pub const FEW_ENTRIES: usize = 20;
+
+const BOARD: usize = 21;
 
 // An answer number and what it means.
 pub fn put_number(number: u8) {
@@ -70,7 +77,7 @@ pub fn put_number_as(number: u8, meaning: usize) {
     say(wording::END);
 }
 
-// The board gives no 7: 11 and 12 stand in its place.
+// The board gives no 7: 11 and 12 stand in its place. Nothing gives 15 to 17 yet.
 fn put_meaning(number: usize) {
     put(texts::entry(
         b"routed
@@ -89,6 +96,11 @@ a byte that no reply with this first byte has at its place
 badly described: a buffer of another size than 1000, a number or an offset out of range, an edition other than 1 and 2, or a bit that is writable and marked
 bit 7 of byte 0 is set: under edition 2 it belongs to the format field, and none of the six has it
 badly described: too many records, no such port, or a record that no capability gives
+a proposal, which is kept
+accepted
+written
+badly described: no structure or more than 3C0; one with ID 0, a version over F, or a length under 4 or over F00; or a space of another size than 1000
+no room: the list room has fewer entries than there are structures
 answered
 badly described: a space of another size than 1000, or a number or an offset out of range
 no room: the reply's buffer or the list room is too small
@@ -103,6 +115,11 @@ its function vector has not exactly one bit
 a pointer below the floor
 a pointer to an offset that is in the chain already
 Num Group is over Max Group, or the index is under C while enabled
+no layout: no proposal for these structures is accepted
+
+
+
+the proposal is not accepted
 ",
         number,
     ));

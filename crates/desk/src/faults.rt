@@ -67,6 +67,12 @@ pub const NO_MARKS_MERGED: usize = 27;
 
 pub const NO_RECORD: usize = 28;
 
+pub const NO_STRUCTURES: usize = 29;
+
+pub const NO_OFFSET: usize = 30;
+
+pub const NO_HEADER: usize = 31;
+
 // A line is not understood: from `from` on it does not fit.
 pub fn tell(desk: &mut Desk, line: &[u8], from: usize, what: usize) {
     begin(desk);
@@ -117,7 +123,7 @@ says again what is expected already
 stands a second time
 stands outside an expectation
 stands where the expected number is wanted first
-is no answer number: those are 0 to 13, and the only numbers in decimal
+is no answer number: those are 0 to 14 and 18, and the only numbers in decimal
 has 4,000 characters or more; none of it is read
 has more than 128 words and numbers; none of it is read
 a sheet begins before the last one has ended
@@ -130,6 +136,9 @@ is given no more: a broken list is 11 or 12, with its place
 stands where two numbers more are wanted: sizes has six, each space with its rules and its marks
 stands where four numbers more are wanted: merge has seventeen, with four marks behind the rules
 the list of records has no such port: records C begins one for C ports
+the list of structures has no place for so many: there are 3C1
+the proposal has no such offset: plan makes one, and so does proposal
+a header that is expected does not fit: its offset is over FFC, or its version over F
 ",
         what,
     ));

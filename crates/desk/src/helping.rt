@@ -25,6 +25,13 @@ The switch:
                      records 0, and a new board leaves them as they are
   record P M N E I B R A
                      the record of port P: Max Group, Num Group, Enable, index, base, Receive, Block All; also such as no capability gives
+A new board:
+  structures I V L ..
+                     its structures in order, three numbers each: ID, version, length; also such as may not be laid out. A session begins
+                     without any, and another board leaves them as they are
+  more C I V L       C structures behind them, all alike; 3C1 in all
+  proposal N N ..    an offset for each of them
+  move K N           N for offset K of the proposal, counted from 0
 Lent to the next question only:
   sizes O R M T S N  so many bytes of the ordinary space, its rules, its marks, the trusted space, its rules, its marks
   room N             so many bytes of the reply's buffer, of the one for what leaves or for what ask writes, or entries of the list room
@@ -42,11 +49,14 @@ Questions:
   dvsec SPACE N      the record at offset N; SPACE is ordinary or trusted; also: dual, multicast
   keep SPACE N P     as multicast, and what is found becomes the record of port P
   judge P A          what becomes of a packet for address A that enters by port P
+  plan               offsets are proposed for the structures; where there are any, they become the proposal
+  accept             the checker decides on the proposal
+  write SPACE        the headers of the proposal are written into a space, and its extended list is shown as the listing shows it
   merge b b ..       four old bytes, four rules, four marks, four data bytes, the enables
 A question with an expectation is a check, and everything that is not said is expected to stay.
 A refusal has no reply, no port, no offsets and no fields; that of a broken list, 11 or 12, has the place of the fault, 0 for the start.
 A request that cannot be written has no bytes and is not sent.
-Only the answer numbers, 0 to 13, are decimal:
+Only the answer numbers, 0 to 14 and 18, are decimal:
   packet .. -> number N, reply b b .., captured BUS DEVICE, ordinary N b b .., trusted N b b ..
   route .. -> number N, port P, leaves b b ..      UR is number 0 without a port
   ask .. -> number N, writes b b .., and behind it as for packet
@@ -58,6 +68,9 @@ Only the answer numbers, 0 to 13, are decimal:
   dual SPACE N -> number N, alternate FUNCTION DEVICE
   multicast SPACE N -> number N, fields M N E I B R A      the same of keep
   judge P A -> number N, group G, leaves-by P P ..      without numbers for no port; or: group G, dropped; or no-hit alone
+  plan -> number N, offsets N N ..      or: steps C F S
+  accept -> number N
+  write SPACE -> number N, headers N I V N I V ..      or: alike C F S I V, C headers from F on by S, with ID I and version V
   merge .. -> bytes b b b b
 Sheets: sheet begins one and end ends it; echo writes out each line as it is read. help writes this.
 ",

@@ -11,11 +11,13 @@ mod helping;
 mod input;
 mod judging;
 mod keeping;
+mod laying;
 mod leaving;
 mod marking;
 mod missing;
 mod packets;
 mod pieces;
+mod planning;
 mod reading;
 mod requests;
 mod routing;
@@ -23,8 +25,10 @@ mod saying;
 mod session;
 mod slots;
 mod spaces;
+mod structures;
 mod texts;
 mod tokens;
+mod unlaid;
 mod verdicts;
 mod vocabulary;
 mod walking;
@@ -34,11 +38,21 @@ use keeping::MOST;
 use session::PIECE;
 use slots::SLOTS;
 use spaces::STORE;
+use walking::ROOM;
 
 fn main() {
     let mut desk = [0; SLOTS];
     let mut piece = [0; PIECE];
     let mut store = [0; STORE];
     let mut records = [[0; 7]; MOST];
-    session::run(&mut desk, &mut piece, &mut store, &mut records);
+    let mut structures = [[0; 3]; structures::MOST];
+    let mut proposal = [0; ROOM];
+    session::run(
+        &mut desk,
+        &mut piece,
+        &mut store,
+        &mut records,
+        &mut structures,
+        &mut proposal,
+    );
 }

@@ -10,10 +10,12 @@ use crate::saying::put_plain;
 use crate::slots;
 use crate::slots::Desk;
 use crate::spaces::Store;
+use crate::structures::Structures;
 use crate::tokens;
 use crate::tokens::MOST;
 use crate::tokens::Tokens;
 use crate::tokens::WIDTH;
+use crate::walking::Room;
 use crate::wording;
 use crate::wording::say;
 use crate::wording::say_three;
@@ -22,13 +24,20 @@ use crate::wording::say_three;
 pub const PIECE: usize = 4000;
 
 // A line is understood and done, or its first fault is told.
-fn take(desk: &mut Desk, line: &[u8], store: &mut Store, records: &mut Records) {
+fn take(
+    desk: &mut Desk,
+    line: &[u8],
+    store: &mut Store,
+    records: &mut Records,
+    structures: &mut Structures,
+    proposal: &mut Room,
+) {
     let mut tokens = [0usize; WIDTH];
     slots::count(desk, slots::LINE);
     echo(desk, line);
     tokens::read(line, &mut tokens);
     if is_understood(desk, line, &tokens) {
-        doing::perform(desk, &tokens, store, records);
+        doing::perform(desk, &tokens, store, records, structures, proposal);
     }
 }
 
@@ -72,9 +81,23 @@ fn fits(desk: &mut Desk, line: &[u8], tokens: &Tokens, count: usize) -> bool {
 }
 
 // A whole line, or the end of one whose beginning was given up.
-fn take_whole(desk: &mut Desk, line: &[u8], store: &mut Store, records: &mut Records) {
+fn take_whole(
+    desk: &mut Desk,
+    line: &[u8],
+    store: &mut Store,
+    records: &mut Records,
+    structures: &mut Structures,
+    proposal: &mut Room,
+) {
     if slots::at(desk, slots::SKIPPING) == 0 {
-        take(desk, input::without_return(line), store, records);
+        take(
+            desk,
+            input::without_return(line),
+            store,
+            records,
+            structures,
+            proposal,
+        );
         return;
     }
     slots::set(desk, slots::SKIPPING, 0);
@@ -89,6 +112,8 @@ fn take_lines(
     end: usize,
     store: &mut Store,
     records: &mut Records,
+    structures: &mut Structures,
+    proposal: &mut Room,
 ) -> usize {
     let mut from = 0;
     while from < end {
@@ -96,7 +121,14 @@ fn take_lines(
         if end <= to {
             return from;
         }
-        take_whole(desk, pieces::between(piece, from, to), store, records);
+        take_whole(
+            desk,
+            pieces::between(piece, from, to),
+            store,
+            records,
+            structures,
+            proposal,
+        );
         from = to + 1;
     }
     from
@@ -118,13 +150,15 @@ fn go_on(
     piece: &mut [u8; PIECE],
     store: &mut Store,
     records: &mut Records,
+    structures: &mut Structures,
+    proposal: &mut Room,
 ) -> bool {
     let rest = slots::at(desk, slots::REST);
     let end = input::read_more(desk, piece, rest);
     if end <= rest {
         return false;
     }
-    let from = take_lines(desk, piece, end, store, records);
+    let from = take_lines(desk, piece, end, store, records, structures, proposal);
     give_up(desk, input::keep_rest(piece, from, end));
     true
 }
@@ -138,7 +172,14 @@ fn is_between(desk: &Desk) -> bool {
 }
 
 // A line without a line end, where the input ends; what an input that could not be read breaks off is no line.
-fn take_last(desk: &mut Desk, piece: &[u8; PIECE], store: &mut Store, records: &mut Records) {
+fn take_last(
+    desk: &mut Desk,
+    piece: &[u8; PIECE],
+    store: &mut Store,
+    records: &mut Records,
+    structures: &mut Structures,
+    proposal: &mut Room,
+) {
     if is_between(desk) {
         return;
     }
@@ -148,24 +189,33 @@ fn take_last(desk: &mut Desk, piece: &[u8; PIECE], store: &mut Store, records: &
             pieces::between(piece, 0, slots::at(desk, slots::REST)),
             store,
             records,
+            structures,
+            proposal,
         );
     }
 }
 
 // The whole input. A proved loop has to end, and nothing says that the input does: so the turns are counted down, from a number that no
 // session uses up.
-pub fn run(desk: &mut Desk, piece: &mut [u8; PIECE], store: &mut Store, records: &mut Records) {
+pub fn run(
+    desk: &mut Desk,
+    piece: &mut [u8; PIECE],
+    store: &mut Store,
+    records: &mut Records,
+    structures: &mut Structures,
+    proposal: &mut Room,
+) {
     let mut turns = u64::MAX;
     begin(desk);
     while turns > 0 {
         turns -= 1;
         prompt(desk);
-        if !go_on(desk, piece, store, records) {
+        if !go_on(desk, piece, store, records, structures, proposal) {
             break;
         }
     }
     end_typing(desk);
-    take_last(desk, piece, store, records);
+    take_last(desk, piece, store, records, structures, proposal);
     tell_end(desk);
 }
 

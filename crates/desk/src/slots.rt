@@ -1,5 +1,5 @@
 // What the desk keeps in numbers from line to line, each at a place of its own.
-pub const SLOTS: usize = 25;
+pub const SLOTS: usize = 27;
 
 // The line's number; how many statements had an expectation, and how many of them were right; how many lines were not understood.
 pub const LINE: usize = 0;
@@ -62,6 +62,11 @@ pub const SENT: usize = 23;
 
 // How many of the switch's ports have a record.
 pub const RECORDS: usize = 24;
+
+// How many structures a new board is to have, and how many offsets are proposed for them.
+pub const STRUCTURES: usize = 25;
+
+pub const PROPOSED: usize = 26;
 
 // The capture while there is none: over every bus and device.
 pub const NOTHING: usize = 0x10000;

@@ -15,7 +15,8 @@ pub const SHEET: usize = 4;
 
 pub const END: usize = 5;
 
-// Statements that set the board, and the ports of the switch with their records; some of them are expected too.
+// Statements that set the board, the ports of the switch with their records, and the structures of a new board with their proposal; some of them are
+// expected too.
 pub const FRESH: usize = 6;
 
 pub const OPEN: usize = 7;
@@ -54,93 +55,111 @@ pub const RECORDS: usize = 23;
 
 pub const RECORD: usize = 24;
 
-pub const SIZES: usize = 25;
+pub const STRUCTURES: usize = 25;
 
-pub const ROOM: usize = 26;
+pub const MORE: usize = 26;
+
+pub const PROPOSAL: usize = 27;
+
+pub const MOVE: usize = 28;
+
+pub const SIZES: usize = 29;
+
+pub const ROOM: usize = 30;
 
 // To look, and the questions.
-pub const SHOW: usize = 27;
+pub const SHOW: usize = 31;
 
-pub const PACKET: usize = 28;
+pub const PACKET: usize = 32;
 
-pub const RESET: usize = 29;
+pub const RESET: usize = 33;
 
-pub const MERGE: usize = 30;
+pub const MERGE: usize = 34;
 
-pub const WALK: usize = 31;
+pub const WALK: usize = 35;
 
-pub const DVSEC: usize = 32;
+pub const DVSEC: usize = 36;
 
-pub const DUAL: usize = 33;
+pub const DUAL: usize = 37;
 
-pub const ROUTE: usize = 34;
+pub const ROUTE: usize = 38;
 
-pub const ASK: usize = 35;
+pub const ASK: usize = 39;
 
-pub const COMPLETION: usize = 36;
+pub const COMPLETION: usize = 40;
 
-pub const MULTICAST: usize = 37;
+pub const MULTICAST: usize = 41;
 
-pub const KEEP: usize = 38;
+pub const KEEP: usize = 42;
 
-pub const JUDGE: usize = 39;
+pub const JUDGE: usize = 43;
+
+pub const PLAN: usize = 44;
+
+pub const ACCEPT: usize = 45;
+
+pub const WRITE: usize = 46;
 
 // What is only expected.
-pub const NUMBER: usize = 40;
+pub const NUMBER: usize = 47;
 
-pub const REPLY: usize = 41;
+pub const REPLY: usize = 48;
 
-pub const BYTES: usize = 42;
+pub const BYTES: usize = 49;
 
-pub const OFFSETS: usize = 43;
+pub const OFFSETS: usize = 50;
 
-pub const STEPS: usize = 44;
+pub const STEPS: usize = 51;
 
-pub const PLACE: usize = 45;
+pub const PLACE: usize = 52;
 
-pub const HEADER: usize = 46;
+pub const HEADER: usize = 53;
 
-pub const BODY: usize = 47;
+pub const BODY: usize = 54;
 
-pub const ALTERNATE: usize = 48;
+pub const ALTERNATE: usize = 55;
 
-pub const PORT: usize = 49;
+pub const PORT: usize = 56;
 
-pub const LEAVES: usize = 50;
+pub const LEAVES: usize = 57;
 
-pub const WRITES: usize = 51;
+pub const WRITES: usize = 58;
 
-pub const COMPLETER: usize = 52;
+pub const COMPLETER: usize = 59;
 
-pub const REQUESTER: usize = 53;
+pub const REQUESTER: usize = 60;
 
-pub const TAG: usize = 54;
+pub const TAG: usize = 61;
 
-pub const SHOWN: usize = 55;
+pub const SHOWN: usize = 62;
 
-pub const DONE: usize = 56;
+pub const DONE: usize = 63;
 
-pub const UNSUPPORTED: usize = 57;
+pub const UNSUPPORTED: usize = 64;
 
-pub const FIELDS: usize = 58;
+pub const FIELDS: usize = 65;
 
-pub const GROUP: usize = 59;
+pub const GROUP: usize = 66;
 
-pub const LEAVES_BY: usize = 60;
+pub const LEAVES_BY: usize = 67;
 
-pub const DROPPED: usize = 61;
+pub const DROPPED: usize = 68;
 
-pub const NO_HIT: usize = 62;
+pub const NO_HIT: usize = 69;
+
+pub const HEADERS: usize = 70;
+
+pub const ALIKE: usize = 71;
 
 // The lists, beside the trusted one.
-pub const COMPATIBLE: usize = 63;
+pub const COMPATIBLE: usize = 72;
 
-pub const EXTENDED: usize = 64;
+pub const EXTENDED: usize = 73;
 
 // The marks of an expectation.
-pub const ARROW: usize = 65;
+pub const ARROW: usize = 74;
 
-pub const COMMA: usize = 66;
+pub const COMMA: usize = 75;
 
 // The table has the words in the order of their numbers, from HELP on.
 pub fn word_of(text: &[u8]) -> usize {
@@ -169,6 +188,10 @@ chain
 ports
 records
 record
+structures
+more
+proposal
+move
 sizes
 room
 show
@@ -184,6 +207,9 @@ completion
 multicast
 keep
 judge
+plan
+accept
+write
 number
 reply
 bytes
@@ -207,6 +233,8 @@ group
 leaves-by
 dropped
 no-hit
+headers
+alike
 compatible
 extended
 ->

@@ -11,7 +11,6 @@ use crate::wording;
 use crate::wording::say;
 use crate::wording::say_one;
 use crate::wording::say_three;
-use crate::wording::say_two;
 use answers::Answer;
 use answers::Refusal;
 use lists::Kind;
@@ -19,11 +18,11 @@ use lists::Walked;
 ghost use Rattle.io.specs.Counts.{Counts};
 
 // More entries than any list may have headers, and the entry that fills a room before a walk.
-const ROOM: usize = 1030;
+pub const ROOM: usize = 1030;
 
-const UNTOUCHED: u16 = 0xeeee;
+pub const UNTOUCHED: u16 = 0xeeee;
 
-type Room = [u16; ROOM];
+pub type Room = [u16; ROOM];
 
 fn kind_of(name: usize) -> Kind {
     match name {
@@ -59,7 +58,7 @@ fn answer(
     false
 }
 
-fn within_room(size: usize, room: &[u16]) -> usize
+pub fn within_room(size: usize, room: &[u16]) -> usize
     ensures { λ r. ⌜ Counts r (now (room .entry)) ⌝ }
 {
     if room.len() < size { room.len() } else { size }
@@ -70,14 +69,23 @@ fn number_of(walked: Walked) -> u8 {
     answer.number()
 }
 
-// The number; the place; the offsets that are expected one by one, and then so many by steps; the rest of the room is untouched.
+// The number; the place; the room.
 fn judge(desk: &Desk, tokens: &Tokens, walked: Walked, room: &Room) -> bool {
-    let mut wanted = [UNTOUCHED; ROOM];
-    let listed = list(&mut wanted, tokens);
-    let stepped = step(&mut wanted, tokens, listed);
     let told = judge_told(desk, tokens, walked);
-    if judging::value(desk, wording::WRONG_COUNT, walked.count, stepped) {
-        return told & judge_entries(desk, room, &wanted);
+    told & judge_room(desk, tokens, walked.count, room)
+}
+
+// So many offsets: those that are expected one by one, and then so many by steps; the rest of the room is untouched.
+pub fn judge_room(desk: &Desk, tokens: &Tokens, count: usize, room: &Room) -> bool {
+    let mut wanted = [UNTOUCHED; ROOM];
+    let listed = list(
+        &mut wanted,
+        tokens,
+        tokens::behind(tokens, vocabulary::OFFSETS),
+    );
+    let stepped = step(&mut wanted, tokens, listed);
+    if judging::value(desk, wording::WRONG_COUNT, count, stepped) {
+        return judge_entries(desk, room, &wanted);
     }
     false
 }
@@ -126,9 +134,8 @@ fn enter(room: &mut Room, entry: usize, offset: usize) {
     }
 }
 
-// The offsets behind their word; answers how many there are.
-fn list(room: &mut Room, tokens: &Tokens) -> usize {
-    let from = tokens::behind(tokens, vocabulary::OFFSETS);
+// The offsets from a place of the line on; answers how many there are.
+pub fn list(room: &mut Room, tokens: &Tokens, from: usize) -> usize {
     let count = tokens::numbers_from(tokens, from);
     let mut entry = 0;
     while entry < count {
@@ -167,7 +174,7 @@ fn tell(kind: Kind, space: &[u8], walked: Walked, room: &Room) {
     match answer {
         Answer::Done => {
             say_one(wording::LISTED, walked.count);
-            tell_headers(kind, space, walked.count, room);
+            tell_headers(text_of(kind), space, walked.count, room);
         }
         Answer::Refused(refusal) => tell_place(refusal, walked.place),
     }
@@ -186,27 +193,32 @@ fn tell_place(refusal: Refusal, place: u16) {
     }
 }
 
-fn tell_headers(kind: Kind, space: &[u8], count: usize, room: &Room) {
+// What a header of a list says of itself, in words.
+fn text_of(kind: Kind) -> usize {
+    match kind {
+        Kind::Compatible => wording::SHORT_HEADER,
+        Kind::Extended | Kind::Trusted => wording::LONG_HEADER,
+    }
+}
+
+fn tell_headers(text: usize, space: &[u8], count: usize, room: &Room) {
     for entry in 0..ROOM {
         if entry < count {
-            tell_header(kind, space, room[entry]);
+            tell_header(text, space, room[entry]);
         }
     }
 }
 
-// What a header says of itself.
-fn tell_header(kind: Kind, space: &[u8], offset: u16) {
+fn tell_header(text: usize, space: &[u8], offset: u16) {
     let at = offset as usize;
     let word = words::word(space, at);
-    match kind {
-        Kind::Compatible => say_two(wording::SHORT_HEADER, at, word as usize),
-        Kind::Extended | Kind::Trusted => {
-            say_three(
-                wording::LONG_HEADER,
-                at,
-                word as usize,
-                (word >> 16) as usize,
-            );
-        }
-    }
+    say_three(text, at, word as usize, (word >> 16) as usize);
+}
+
+// The extended list of a space, as the listing shows it.
+pub fn tell_listing(space: &[u8]) {
+    let mut room = [UNTOUCHED; ROOM];
+    let walked = lists::walk(Kind::Extended, space, &mut room);
+    say_one(wording::LISTING, walked.count);
+    tell_headers(wording::LISTED_HEADER, space, walked.count, &room);
 }

@@ -111,86 +111,118 @@ pub const NO_SUCH_PORT: usize = 47;
 
 pub const NO_RECORD: usize = 48;
 
+// A new board: what is proposed for its structures, what is written, and why not.
+pub const PLACED: usize = 49;
+
+pub const LISTING: usize = 50;
+
+pub const LISTED_HEADER: usize = 51;
+
+pub const NO_STRUCTURE: usize = 52;
+
+pub const TOO_MANY_STRUCTURES: usize = 53;
+
+pub const BAD_STRUCTURE: usize = 54;
+
+pub const FEW_ENTRIES: usize = 55;
+
+pub const NEEDED: usize = 56;
+
+pub const OTHER_COUNT: usize = 57;
+
+// The rules behind one offset a structure, in the order of the request.
+pub const NOT_FIRST: usize = 58;
+
+pub const UNALIGNED: usize = 59;
+
+pub const NOT_RISING: usize = 60;
+
+pub const OVERLAPS: usize = 61;
+
+pub const PAST_END: usize = 62;
+
+pub const OTHER_SIZE: usize = 63;
+
 // What the asking side writes, and what it reads.
-pub const WRITES: usize = 49;
+pub const WRITES: usize = 64;
 
-pub const READS: usize = 50;
+pub const READS: usize = 65;
 
-pub const READS_DATA: usize = 51;
+pub const READS_DATA: usize = 66;
 
-pub const READS_DONE: usize = 52;
+pub const READS_DONE: usize = 67;
 
-pub const READS_UR: usize = 53;
+pub const READS_UR: usize = 68;
 
 // What is not as expected.
-pub const DIFFERENCE: usize = 54;
+pub const DIFFERENCE: usize = 69;
 
-pub const WRONG_NUMBER: usize = 55;
+pub const WRONG_NUMBER: usize = 70;
 
-pub const WRONG_LENGTH: usize = 56;
+pub const WRONG_LENGTH: usize = 71;
 
-pub const WRONG_BYTE: usize = 57;
+pub const WRONG_BYTE: usize = 72;
 
-pub const WRONG_CAPTURE: usize = 58;
+pub const WRONG_CAPTURE: usize = 73;
 
-pub const EXPECTED_CAPTURE: usize = 59;
+pub const EXPECTED_CAPTURE: usize = 74;
 
-pub const WRONG_BYTES: usize = 60;
+pub const WRONG_BYTES: usize = 75;
 
-pub const WRONG_COUNT: usize = 61;
+pub const WRONG_COUNT: usize = 76;
 
-pub const WRONG_PLACE: usize = 62;
+pub const WRONG_PLACE: usize = 77;
 
-pub const WRONG_ENTRY: usize = 63;
+pub const WRONG_ENTRY: usize = 78;
 
-pub const WRONG_FIELDS: usize = 64;
+pub const WRONG_FIELDS: usize = 79;
 
-pub const WRONG_FIELD: usize = 65;
+pub const WRONG_FIELD: usize = 80;
 
-pub const WRONG_BODY: usize = 66;
+pub const WRONG_BODY: usize = 81;
 
-pub const WRONG_BODY_PLACE: usize = 67;
+pub const WRONG_BODY_PLACE: usize = 82;
 
-pub const WRONG_PORT: usize = 68;
+pub const WRONG_PORT: usize = 83;
 
-pub const WRONG_LEAVING: usize = 69;
+pub const WRONG_LEAVING: usize = 84;
 
-pub const WRONG_LEAVING_BYTE: usize = 70;
+pub const WRONG_LEAVING_BYTE: usize = 85;
 
-pub const WRONG_WRITTEN: usize = 71;
+pub const WRONG_WRITTEN: usize = 86;
 
-pub const WRONG_WRITTEN_BYTE: usize = 72;
+pub const WRONG_WRITTEN_BYTE: usize = 87;
 
-pub const WRONG_SAID: usize = 73;
+pub const WRONG_SAID: usize = 88;
 
-pub const WRONG_COMPLETER: usize = 74;
+pub const WRONG_COMPLETER: usize = 89;
 
-pub const WRONG_REQUESTER: usize = 75;
+pub const WRONG_REQUESTER: usize = 90;
 
-pub const WRONG_TAG: usize = 76;
+pub const WRONG_TAG: usize = 91;
 
-pub const WRONG_SHOWN: usize = 77;
+pub const WRONG_SHOWN: usize = 92;
 
-pub const WRONG_GROUP: usize = 78;
+pub const WRONG_GROUP: usize = 93;
 
-pub const WRONG_PORTS: usize = 79;
+pub const WRONG_PORTS: usize = 94;
 
-pub const NONE: usize = 80;
+pub const NONE: usize = 95;
 
-pub const ONE: usize = 81;
+pub const ONE: usize = 96;
 
 // The session.
-pub const LINE: usize = 82;
+pub const LINE: usize = 97;
 
-pub const PROMPT: usize = 83;
+pub const PROMPT: usize = 98;
 
-pub const QUOTE: usize = 84;
+pub const QUOTE: usize = 99;
 
-pub const UNQUOTE: usize = 85;
+pub const UNQUOTE: usize = 100;
 
-pub const LINE_END: usize = 86;
+pub const LINE_END: usize = 101;
 
-pub const TALLY: usize = 87;
+pub const TALLY: usize = 102;
 
 // A text with its numbers, as many as it has places for.
 pub fn say_all(
@@ -251,6 +283,21 @@ nothing
   the list has %v records, and may have 20%n
   no port %v: the list has %v records, counted from port 0%n
   port %v:%_
+  %3: ID %4 version %1 length %v%n
+extended %d%n
+%3 %4 %1%n
+  the list has no structure%n
+  the list has %v structures, and may have 3C0%n
+  structure %v:%_
+  the room has %v entries, and there are %v structures%n
+  the structures need %v bytes, and there are F00%n
+  the proposal has %v offsets, and there are %v structures%n
+  structure %v at %v: the first is not at 100%n
+  structure %v at %v: no multiple of 4%n
+  structure %v at %v: not above the one before it, at %v%n
+  structure %v at %v: the one before it ends at %v, and they overlap%n
+  structure %v at %v: ends at %v, past 1000%n
+  the space has %v bytes%n
 writes:
   reads:%_
 success with data
