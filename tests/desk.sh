@@ -55,8 +55,11 @@ packet 1B ->|the line's end stands where a word is wanted
 packet 1B -> 0|'0' stands where a word is wanted
 packet 1B -> number|the line's end stands where a number is still wanted
 packet 1B -> number 3,|the line's end stands where a word is wanted
-packet 1B -> number A|'A' is no answer number: those are 0 to 13, and the only numbers in decimal
-packet 1B -> number 14|'14' is too large here
+packet 1B -> number A|'A' is no answer number: those are 0 to 14 and 18, and the only numbers in decimal
+packet 1B -> number 15|'15' is no answer number: those are 0 to 14 and 18, and the only numbers in decimal
+plan -> number 17|'17' is no answer number: those are 0 to 14 and 18, and the only numbers in decimal
+plan -> number 1E|'1E' is too large here
+packet 1B -> number 19|'19' is too large here
 packet 1B -> number 7|'7' is given no more: a broken list is 11 or 12, with its place
 walk extended -> number 7|'7' is given no more: a broken list is 11 or 12, with its place
 walk extended -> number 12, place|the line's end stands where a number is still wanted
@@ -198,6 +201,66 @@ judge 0 0 -> number 0, fields 0 0 0 0 0 0 0|'fields' cannot be expected of this
 route 05 -> number 3, leaves-by 0|'leaves-by' cannot be expected of this
 leaves-by 1|'leaves-by' is not a statement; help lists them
 no-hit|'no-hit' is not a statement; help lists them
+structures 1|the line's end stands where a number is still wanted
+structures 1 1|the line's end stands where a number is still wanted
+structures 1 1 4 2 1|the line's end stands where a number is still wanted
+structures 10000 1 4|'10000' is too large here
+structures 1 10000 4|'10000' is too large here
+structures 1 1 10000|'10000' is too large here
+structures 1 1 4 1 1 10004|'10004' is too large here
+structures 1 1 FFFFFFFFFFFFFFFF|'FFFFFFFFFFFFFFFF' is too large here
+structures 1 1 4 -> number 0|'->' stands behind a statement that has no answer to expect
+structure 1 1 4|'structure' is not a statement; help lists them
+more|the line's end stands where a number is still wanted
+more 1 1 1|the line's end stands where a number is still wanted
+more 1 1 1 4 1|'1' is a number too many
+more 3C2 1 1 4|'3C2' is too large here
+more 1 10000 1 4|'10000' is too large here
+more 1 1 10000 4|'10000' is too large here
+more 1 1 1 10004|'10004' is too large here
+more 1 1 1 4 -> number 0|'->' stands behind a statement that has no answer to expect
+proposal 10000|'10000' is too large here
+proposal 100 10100|'10100' is too large here
+proposal 100 -> number 0|'->' stands behind a statement that has no answer to expect
+move 0|the line's end stands where a number is still wanted
+move 0 100 104|'104' is a number too many
+move 3C1 100|'3C1' is too large here
+move 0 10100|'10100' is too large here
+move 0 100|the proposal has no such offset: plan makes one, and so does proposal
+plan 1|'1' is a number too many
+plan ordinary|'ordinary' stands where a number, a comma or the line's end is wanted
+plan -> offsets 100|'offsets' stands where the expected number is wanted first
+plan -> number 0, offsets 10000|'10000' is too large here
+plan -> number 0, offsets 100, steps 1 100 4|'steps' says again what is expected already
+plan -> number 0, place 100|'place' cannot be expected of this
+plan -> number 0, headers 100 1 1|'headers' cannot be expected of this
+accept 100|'100' is a number too many
+accept -> number 0, offsets 100|'offsets' cannot be expected of this
+accept -> number 0, headers 100 1 1|'headers' cannot be expected of this
+write|the line's end stands where the name of a list or a space is wanted
+write extended|'extended' stands where the name of a list or a space is wanted
+write ordinary-rules|'ordinary-rules' stands where the name of a list or a space is wanted
+write ordinary 100|'100' is a number too many
+write ordinary -> headers 100 1 1|'headers' stands where the expected number is wanted first
+write ordinary -> number 0, headers|the line's end stands where a number is still wanted
+write ordinary -> number 0, headers 100 1|the line's end stands where a number is still wanted
+write ordinary -> number 0, headers 100 1 1 104 1|the line's end stands where a number is still wanted
+write ordinary -> number 0, headers 100 10000 1|'10000' is too large here
+write ordinary -> number 0, headers 100 1 1, headers 100 1 1|'headers' says again what is expected already
+write ordinary -> number 0, headers 100 1 1, alike 1 100 4 1 1|'alike' says again what is expected already
+write ordinary -> number 0, alike 1 100 4 1 1, headers 100 1 1|'headers' says again what is expected already
+write ordinary -> number 0, alike 1 100 4 1|the line's end stands where a number is still wanted
+write ordinary -> number 0, alike 3C2 100 4 1 1|'3C2' is too large here
+write ordinary -> number 0, headers FFD 1 1|a header that is expected does not fit: its offset is over FFC, or its version over F
+write ordinary -> number 0, headers 100 1 10|a header that is expected does not fit: its offset is over FFC, or its version over F
+write ordinary -> number 0, headers 100 1 1 1104 1 1|a header that is expected does not fit: its offset is over FFC, or its version over F
+write ordinary -> number 0, alike 3C1 100 4 1 1|a header that is expected does not fit: its offset is over FFC, or its version over F
+write ordinary -> number 0, alike 1 100 4 1 10|a header that is expected does not fit: its offset is over FFC, or its version over F
+write ordinary -> number 0, ordinary 100 01|'ordinary' cannot be expected of this
+write ordinary -> number 0, offsets 100|'offsets' cannot be expected of this
+walk extended -> number 0, headers 100 1 1|'headers' cannot be expected of this
+headers 100 1 1|'headers' is not a statement; help lists them
+alike 1 100 4 1 1|'alike' is not a statement; help lists them
 end|a sheet ends that has not begun
 LINES
 {
@@ -463,6 +526,212 @@ checks 3, as expected 0, lines not understood 0
 LINES
 answers "capabilities, and what is not as expected of them" 1 <"$work/in"
 
+# The structures of a new board: why nothing is proposed, each cause at the first structure that has it, and what is kept.
+cat >"$work/in" <<'LINES'
+plan
+structures 1 1 4 0 10 3
+plan
+structures 1 1 4 1 10 3
+accept
+structures 1 1 4 1 F 3
+write ordinary
+structures 1 1 4 1 F F01
+plan
+structures 1 1 5 2 F EFA
+plan
+structures 1 1 5 2 F EF8
+room 1
+plan
+plan
+more 3BF 3 0 4
+plan
+accept
+more 1 3 0 4
+structures 1 1 5 2 F EF8
+accept
+LINES
+bad='number 1: badly described: no structure or more than 3C0; one with ID 0, a version over F, or a length under 4 or over F00; or a space of another size than 1000'
+cat >"$work/wanted" <<LINES
+$bad
+  the list has no structure
+ok
+$bad
+  structure 1: its ID is 0
+ok
+$bad
+  structure 1: its version is over F
+ok
+$bad
+  structure 1: its length is under 4
+  no byte changed
+ok
+$bad
+  structure 1: its length is over F00
+ok
+number 14: no layout: no proposal for these structures is accepted
+  the structures need F02 bytes, and there are F00
+ok
+ok
+number 2: no room: the list room has fewer entries than there are structures
+  the room has 1 entries, and there are 2 structures
+number 0: a proposal, which is kept
+  100: ID 0001 version 1 length 5
+  108: ID 0002 version F length EF8
+ok
+$bad
+  the list has 3C1 structures, and may have 3C0
+$bad
+  the list has 3C1 structures, and may have 3C0
+line 19: the list of structures has no place for so many: there are 3C1
+ok
+number 0: accepted
+checks 0, as expected 0, lines not understood 1
+LINES
+answers "structures, and why nothing is proposed" 1 <"$work/in"
+# Why a proposal is not accepted: the first rule of the request that it breaks, and the first structure there. What is written, and what is not as expected.
+cat >"$work/in" <<'LINES'
+structures 1 1 5 2 2 C 3 3 4
+proposal 104 10A
+accept
+proposal 104 10A 108
+accept
+proposal 100 10A 109
+accept
+proposal 100 104 104
+accept
+proposal 100 108 104
+accept
+proposal 100 104 FFC
+accept
+proposal 100 108 110
+accept
+proposal 100 FF8 FFC
+accept
+proposal 100 FF8 1004
+accept
+proposal 100 FF4 1000
+accept
+proposal 100 FE8 FFC
+accept
+write ordinary
+write ordinary
+sizes 1001 1000 1000 1000 1000 1000
+write ordinary
+move 2 FF8
+write trusted -> number 0, headers 100 1 1 FE8 2 2 FF8 3 4
+trusted 100 FF FF FF FF
+move 2 FFD
+write trusted -> number 0, alike 2 100 EE8 1 1
+plan -> number 0, offsets 100 108 114 EEEE
+plan -> number 2, steps 3 100 8
+LINES
+not='number 18: the proposal is not accepted'
+cat >"$work/wanted" <<LINES
+ok
+ok
+$not
+  the proposal has 2 offsets, and there are 3 structures
+ok
+$not
+  structure 0 at 104: the first is not at 100
+ok
+$not
+  structure 1 at 10A: no multiple of 4
+ok
+$not
+  structure 2 at 104: not above the one before it, at 104
+ok
+$not
+  structure 2 at 104: not above the one before it, at 108
+ok
+$not
+  structure 1 at 104: the one before it ends at 105, and they overlap
+ok
+$not
+  structure 2 at 110: the one before it ends at 114, and they overlap
+ok
+$not
+  structure 2 at FFC: the one before it ends at 1004, and they overlap
+ok
+$not
+  structure 1 at FF8: ends at 1004, past 1000
+ok
+$not
+  structure 2 at 1000: ends at 1004, past 1000
+ok
+number 0: accepted
+number 0: written
+extended 3
+100 0001 1
+FE8 0002 2
+FFC 0003 3
+  ordinary 100: 00 00 00 00 -> 01 00 81 FE
+  ordinary FE8: 00 00 00 00 -> 02 00 C2 FF
+  ordinary FFC: 00 00 00 00 -> 03 00 03 00
+number 0: written
+extended 3
+100 0001 1
+FE8 0002 2
+FFC 0003 3
+  no byte changed
+ok
+$bad
+  the space has 1001 bytes
+  no byte changed
+ok
+line 29: not as expected: trusted FF8: 03 00 03 00, expected 03 00 04 00
+number 0: written
+extended 3
+100 0001 1
+FE8 0002 2
+FF8 0003 3
+  trusted 100: 00 00 00 00 -> 01 00 81 FE
+  trusted FE8: 00 00 00 00 -> 02 00 82 FF
+  trusted FF8: 00 00 00 00 -> 03 00 03 00
+ok
+ok
+line 32: not as expected: number 18, expected 0
+line 32: not as expected: trusted 100: FF FF FF FF, expected 01 00 81 FE
+line 32: not as expected: trusted FE8: 02 00 82 FF, expected 01 00 01 00
+$not
+  structure 2 at FFD: no multiple of 4
+  no byte changed
+line 33: not as expected: count 3, expected 4
+number 0: a proposal, which is kept
+  100: ID 0001 version 1 length 5
+  108: ID 0002 version 2 length C
+  114: ID 0003 version 3 length 4
+line 34: not as expected: number 0, expected 2
+line 34: not as expected: room entry 2 is 0114, expected 0110
+number 0: a proposal, which is kept
+  100: ID 0001 version 1 length 5
+  108: ID 0002 version 2 length C
+  114: ID 0003 version 3 length 4
+checks 4, as expected 0, lines not understood 0
+LINES
+answers "a proposal, and why it is not accepted" 1 <"$work/in"
+# What is written is shown as the listing shows that space; a build of it first.
+./run listing </dev/null >"$work/out" 2>"$work/errors"
+cat >"$work/in" <<'LINES'
+open
+ordinary 006 00
+structures 23 1 2C FFFF F 49 3 0 4 A 9 5
+plan
+write ordinary
+show ordinary 000 1000
+LINES
+desk <"$work/in" >"$work/out" 2>"$work/errors"
+sed -n 's/^[0-9A-F]*:\(\( [0-9A-F][0-9A-F]\)*\)$/\1/p' "$work/out" | tr -d ' \n' | sed 's/../\\x&/g' >"$work/escapes"
+printf "$(cat "$work/escapes")" >"$work/space"
+timeout 60 ./run listing <"$work/space" >"$work/listed" 2>"$work/errors"
+sed -n '/^extended/,/^end$/p' "$work/listed" | sed '$d' >"$work/wanted"
+sed -n '/^extended/,/^  ordinary/p' "$work/out" | sed '$d' >"$work/shown"
+if [ "$(wc -c <"$work/space")" -eq 4096 ] && [ "$(wc -l <"$work/wanted")" -eq 5 ] && cmp -s "$work/shown" "$work/wanted"; then
+    echo "ok desk, what is written is shown as the listing shows it"
+else
+    echo "FAILED desk, what is written is shown as the listing shows it: $(tr '\n' '|' <"$work/shown"), and the listing $(tr '\n' '|' <"$work/listed")"
+fi
+
 # A sheet that breaks off, inside a line or between two.
 half=$(($(wc -c <"$sheet") / 2))
 between=$(head -n 1000 "$sheet" | wc -c)
@@ -540,6 +809,11 @@ judge 0 100003000 -> number 0, group 3, dropped
 judge 0 100003000 -> number 0, dropped, group 3
 judge 0 FFFFFFFF -> number 0, no-hit
 judge 20 0 -> number 1
+plan -> number 0, offsets 100 108 110
+plan -> number 0, steps 3 100 8
+accept -> number 0
+write ordinary -> number 0, headers 100 23 2 108 23 2 110 23 2
+write trusted -> number 0, alike 3 100 8 23 2
 LINES
 # what stands before each of them
 setting='open
@@ -557,7 +831,10 @@ ordinary 3C0 12 00 01 00 05 00 06 00
 records 20
 record 0 3F 3F 1 C 100000000 0 8
 record 1 0 0 0 0 0 2000000000 0
-record 1F 0 0 0 0 0 2000000000 0'
+record 1F 0 0 0 0 0 2000000000 0
+structures
+more 3 23 2 8
+proposal 100 108 110'
 # wrong FILE: for each number behind an arrow, its line with that number made another
 wrong() {
     awk '{

@@ -48,9 +48,9 @@ page() {
         echo "ok the blocks of $page are what the desk answers"
     fi
 }
-page LEARN 1 94 33 # LEARN shows a mistake, and what the desk says of it
+page LEARN 1 119 39 # LEARN shows a mistake, and what the desk says of it
 page GROUPS 0 56 23
-page ANSWERS 0 203 98
+page ANSWERS 0 239 114
 page SHARED 0 107 39
 
 # noticed WORDS TEXT: of the page on standard input, in which every line is to be understood, this is told

@@ -123,8 +123,12 @@ pub fn at(list: &[Structure], place: usize) -> Structure {
 
 // The offset at a place, or 0.
 pub fn offset_at(proposed: &[u16], place: usize) -> usize {
+    entry(proposed, place) as usize
+}
+
+fn entry(proposed: &[u16], place: usize) -> u16 {
     if place < proposed.len() {
-        proposed[place] as usize
+        proposed[place]
     } else {
         0
     }

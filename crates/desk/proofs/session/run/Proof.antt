@@ -4,10 +4,10 @@ use Rattle.desk.proofs.session.run.Statement.{statement}
 use Rattle.desk.proofs.session.run.Tie as tie
 
 abbrev Inv-loop : tie.InvT-loop
-Inv-loop desk₀ piece₀ store₀ records₀ turns₀ desk piece store records turns = Unit {0}
+Inv-loop desk₀ piece₀ store₀ records₀ structures₀ proposal₀ turns₀ desk piece store records structures proposal turns = Unit {0}
 
 abbrev μ-loop : tie.MeasureT-loop
-μ-loop desk₀ piece₀ store₀ records₀ turns₀ desk piece store records turns = turns
+μ-loop desk₀ piece₀ store₀ records₀ structures₀ proposal₀ turns₀ desk piece store records structures proposal turns = turns
 
 begin-requires : tie.Need-begin-requires Inv-loop μ-loop
 begin-requires c κs = search needs

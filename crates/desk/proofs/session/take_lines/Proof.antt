@@ -5,10 +5,10 @@ use Rattle.desk.proofs.session.take_lines.Statement.{statement}
 use Rattle.desk.proofs.session.take_lines.Tie as tie
 
 abbrev Inv-loop : tie.InvT-loop
-Inv-loop desk₀ piece end store₀ records₀ from₀ desk store records from = Unit {0}
+Inv-loop desk₀ piece end store₀ records₀ structures₀ proposal₀ from₀ desk store records structures proposal from = Unit {0}
 
 abbrev μ-loop : tie.MeasureT-loop
-μ-loop desk₀ piece end store₀ records₀ from₀ desk store records from = end - from
+μ-loop desk₀ piece end store₀ records₀ structures₀ proposal₀ from₀ desk store records structures proposal from = end - from
 
 loop-holds : tie.Need-loop-holds Inv-loop μ-loop
 loop-holds c = search needs

@@ -10,9 +10,6 @@ Inv-loop room₀ tokens from count entry₀ room entry = Unit {0}
 abbrev μ-loop : tie.MeasureT-loop
 μ-loop room₀ tokens from count entry₀ room entry = count - entry
 
-behind-requires : tie.Need-behind-requires Inv-loop μ-loop
-behind-requires c κs = search needs
-
 numbers-from-requires : tie.Need-numbers-from-requires Inv-loop μ-loop
 numbers-from-requires c κs = search needs
 
@@ -46,7 +43,6 @@ list-spec =
     (tie.spec
     Inv-loop
     μ-loop
-    behind-requires
     numbers-from-requires
     loop-holds
     wrapping-add-usize-requires

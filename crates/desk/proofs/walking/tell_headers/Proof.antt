@@ -5,10 +5,10 @@ use Rattle.desk.proofs.walking.tell_headers.Statement.{statement}
 use Rattle.desk.proofs.walking.tell_headers.Tie as tie
 
 abbrev Inv-loop : tie.InvT-loop
-Inv-loop kind space count room entry₀ entry = Unit {0}
+Inv-loop text space count room entry₀ entry = Unit {0}
 
 abbrev μ-loop : tie.MeasureT-loop
-μ-loop kind space count room entry₀ entry = 1030 - entry
+μ-loop text space count room entry₀ entry = 1030 - entry
 
 loop-holds : tie.Need-loop-holds Inv-loop μ-loop
 loop-holds c = search needs
