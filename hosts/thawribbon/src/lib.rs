@@ -234,7 +234,7 @@ pub use not_done::NotDone;
 pub use not_routed::NotRouted;
 pub use packet::Packet;
 pub use port_set::{PortPlaces, PortSet};
-pub use raw::{Groups, Port};
+pub use raw::{Groups, Port, Structure};
 pub use records::{Alternate, Dvsec, dual_bdf, dvsec, dvsec_body};
 pub use refusal::Refusal;
 pub use request::{Kind, Request};

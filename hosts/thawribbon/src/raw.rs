@@ -241,10 +241,24 @@ pub struct Judged {
     pub group: u8,
 }
 
+/// A structure of an extended list that is to be laid out: what it is, and how long.
+///
+/// Any values may be given; the three functions that take structures refuse those outside their range.
+#[repr(C)]
+#[derive(Clone, Copy, Debug, Default, PartialEq, Eq, Hash)]
+pub struct Structure {
+    /// The ID, which its header has in bits 15:0. 0000h is refused.
+    pub id: u16,
+    /// The version, 0 to 15.
+    pub version: u16,
+    /// The length in bytes with its header, 4 to 3,840.
+    pub length: u16,
+}
+
 mod linked {
     use super::{
-        Alternate, Capture, Description, Dvsec, Groups, Heard, Judged, Part, Parts, Port, Routed, Served, Walked,
-        Written,
+        Alternate, Capture, Description, Dvsec, Groups, Heard, Judged, Part, Parts, Port, Routed, Served, Structure,
+        Walked, Written,
     };
 
     unsafe extern "C" {
@@ -308,6 +322,26 @@ mod linked {
             entering: usize,
             address: u64,
         ) -> Judged;
+        pub(super) fn thawribbon_plan_layout(
+            structures: *const Structure,
+            structures_length: usize,
+            room: *mut u16,
+            room_length: usize,
+        ) -> u8;
+        pub(super) fn thawribbon_check_layout(
+            structures: *const Structure,
+            structures_length: usize,
+            offsets: *const u16,
+            offsets_length: usize,
+        ) -> u8;
+        pub(super) fn thawribbon_write_layout(
+            structures: *const Structure,
+            structures_length: usize,
+            offsets: *const u16,
+            offsets_length: usize,
+            space: *mut u8,
+            space_length: usize,
+        ) -> u8;
     }
 }
 
@@ -583,6 +617,69 @@ pub fn judge(ports: &[Groups], entering: usize, address: u64) -> Judged {
     unsafe { linked::thawribbon_judge(ports.as_ptr(), ports.len(), entering, address) }
 }
 
+/// Plans a layout: the number, which is 0, 1, 2 or 14. With 0 the offsets are at the beginning of the room, one for each
+/// structure.
+///
+/// ```
+/// use thawribbon::raw::{Structure, plan_layout};
+///
+/// // The second begins at the first multiple of 4 behind the first.
+/// let structures = [Structure { id: 0x23, version: 1, length: 22 }, Structure { id: 0x0C, version: 1, length: 8 }];
+/// let mut room = [0; 3];
+/// assert_eq!(plan_layout(&structures, &mut room), 0);
+/// assert_eq!(room, [0x100, 0x118, 0]);
+/// assert_eq!(plan_layout(&structures, &mut room[..1]), 2);
+/// ```
+#[must_use = "it says whether there is a layout: the room is as it was where there is none"]
+#[inline]
+pub fn plan_layout(structures: &[Structure], room: &mut [u16]) -> u8 {
+    // SAFETY: each pointer goes with its slice's length, and the room is lent once.
+    unsafe { linked::thawribbon_plan_layout(structures.as_ptr(), structures.len(), room.as_mut_ptr(), room.len()) }
+}
+
+/// Checks a layout: the number, which is 0, 1 or 18. Only 0 says that it is accepted.
+///
+/// ```
+/// use thawribbon::raw::{Structure, check_layout};
+///
+/// let structures = [Structure { id: 0x23, version: 1, length: 22 }, Structure { id: 0x0C, version: 1, length: 8 }];
+/// assert_eq!(check_layout(&structures, &[0x100, 0xFF8]), 0);
+/// assert_eq!(check_layout(&structures, &[0x100, 0x114]), 18); // the first ends behind 114h
+/// ```
+#[must_use = "it says whether the layout is accepted"]
+#[inline]
+pub fn check_layout(structures: &[Structure], offsets: &[u16]) -> u8 {
+    // SAFETY: each pointer goes with its slice's length, and nothing is written.
+    unsafe { linked::thawribbon_check_layout(structures.as_ptr(), structures.len(), offsets.as_ptr(), offsets.len()) }
+}
+
+/// Writes the headers of a layout into a space: the number, which is 0, 1 or 18. Only 0 says that they are written.
+///
+/// ```
+/// use thawribbon::raw::{Structure, write_layout};
+///
+/// let structures = [Structure { id: 0x23, version: 1, length: 22 }, Structure { id: 0x0C, version: 2, length: 8 }];
+/// let mut space = [0xEE; 4096];
+/// assert_eq!(write_layout(&structures, &[0x100, 0x118], &mut space), 0);
+/// assert_eq!(space[0x100..0x105], [0x23, 0x00, 0x81, 0x11, 0xEE]); // it points to 118h
+/// assert_eq!(space[0x118..0x11D], [0x0C, 0x00, 0x02, 0x00, 0xEE]); // and this one is the last
+/// ```
+#[must_use = "it says whether the headers are written: the space is as it was where they are not"]
+#[inline]
+pub fn write_layout(structures: &[Structure], offsets: &[u16], space: &mut [u8]) -> u8 {
+    // SAFETY: each pointer goes with its slice's length, and the space is lent once.
+    unsafe {
+        linked::thawribbon_write_layout(
+            structures.as_ptr(),
+            structures.len(),
+            offsets.as_ptr(),
+            offsets.len(),
+            space.as_mut_ptr(),
+            space.len(),
+        )
+    }
+}
+
 // What crosses to the linked functions: the same sizes and offsets as in hosts/c/layout.c. A wrong one ends the
 // build here.
 const _: () = {
@@ -610,4 +707,5 @@ const _: () = {
     assert!(offset_of!(Groups, receive) == 40 && offset_of!(Groups, block_all) == 48);
     assert!(size_of::<Judged>() == 8 && offset_of!(Judged, number) == 4);
     assert!(offset_of!(Judged, verdict) == 5 && offset_of!(Judged, group) == 6);
+    assert!(size_of::<Structure>() == 6 && offset_of!(Structure, version) == 2 && offset_of!(Structure, length) == 4);
 };

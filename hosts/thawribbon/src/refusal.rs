@@ -1,4 +1,4 @@
-//! Why a call is refused: the answer numbers 1 to 13 without 7, named once for Rust.
+//! Why a call is refused: the answer numbers 1 to 14 without 7, and 18, named once for Rust.
 
 use crate::{Offset, raw};
 use std::error::Error;
@@ -18,11 +18,13 @@ pub enum Refusal {
     /// At a router: a list has over 32 ports, a port's secondary bus is over its subordinate bus, or two ranges of buses
     /// meet. Of a request to be written: its kind is none of the six, a device is over 31, a function over 7, its offset
     /// over FFCh or not a multiple of 4, or its enables over 15. Of an address to be judged: the list has over 32 ports, the
-    /// packet enters by none of them, or a port's fields are such as no reading gives. The overlaps that its text names can
-    /// only be in C.
+    /// packet enters by none of them, or a port's fields are such as no reading gives. Of structures to be laid out: there
+    /// are none or over 960, an ID is 0000h, a version over 15, or a length outside 4 to 3,840. The overlaps that its text
+    /// names can only be in C.
     BadDescription,
     /// The reply is under 16 bytes, the list room is under the list's maximum, the buffer for what leaves is under 20
-    /// bytes, or the buffer for a request is shorter than the request.
+    /// bytes, the buffer for a request is shorter than the request, or the room for a layout has fewer numbers than there
+    /// are structures.
     NoRoom,
     /// The packet, or the completion, has fewer than 12 bytes.
     ShortPacket,
@@ -57,10 +59,15 @@ pub enum Refusal {
     },
     /// Of a Multicast capability: Num Group is over Max Group, or it is enabled with an Index Position under 12.
     WrongGroups,
+    /// Of structures to be laid out: no layout of them is acceptable. Their lengths before the last, each rounded up to 4,
+    /// plus the last as it stands exceed 3,840.
+    NoLayout,
+    /// Of a layout: the checker does not accept it.
+    NotAccepted,
 }
 
 impl Refusal {
-    /// The answer number: 1 to 6, or 8 to 13.
+    /// The answer number: 1 to 6, 8 to 14, or 18.
     ///
     /// ```
     /// use thawribbon::Refusal;
@@ -83,6 +90,8 @@ impl Refusal {
             Refusal::BelowFloor { .. } => 11,
             Refusal::ComesBack { .. } => 12,
             Refusal::WrongGroups => 13,
+            Refusal::NoLayout => 14,
+            Refusal::NotAccepted => 18,
         }
     }
 
@@ -132,12 +141,15 @@ impl Refusal {
                  a list has over 32 ports, a secondary bus over its subordinate bus, or two ranges that meet, \
                  a packet enters by no port of the list, a port's Multicast fields are such as no reading gives, \
                  what leaves overlaps the ports or the packet, what is heard overlaps the board, \
+                 structures to be laid out are none or over 960, or one has ID 0000h, a version over 15 \
+                 or a length outside 4 to 3,840, a layout overlaps what it is made of, \
                  or a request has a kind outside the six, a device over 31, a function over 7, \
                  an offset over FFCh or not a multiple of 4, or enables over 15"
             }
             Refusal::NoRoom => {
                 "the reply is under 16 bytes, the list room is under the list's maximum, \
-                 the buffer for what leaves is under 20 bytes, or the buffer for a request is shorter than its bytes"
+                 the buffer for what leaves is under 20 bytes, the buffer for a request is shorter than its bytes, \
+                 or the room for a layout has fewer numbers than there are structures"
             }
             Refusal::ShortPacket => "the packet or the completion has fewer than 12 bytes",
             Refusal::UnknownType => {
@@ -162,6 +174,15 @@ impl Refusal {
             Refusal::WrongGroups => {
                 "the Multicast capability has a Num Group over its Max Group, \
                  or is enabled with an Index Position under 12"
+            }
+            Refusal::NoLayout => {
+                "no layout of these structures is acceptable: \
+                 the lengths before the last, each rounded up to 4, plus the last as it stands exceed 3,840"
+            }
+            Refusal::NotAccepted => {
+                "the layout is not accepted: it does not have one offset a structure, the first is not at 100h, \
+                 one is not a multiple of 4, they are not in the given order and rising, two structures overlap, \
+                 or one ends past 1000h"
             }
         }
     }
@@ -205,13 +226,15 @@ impl fmt::Debug for Refusal {
             }
             Refusal::ComesBack { place } => return write!(formatter, "ComesBack {{ place: {place:#05X} }}"),
             Refusal::WrongGroups => "WrongGroups",
+            Refusal::NoLayout => "NoLayout",
+            Refusal::NotAccepted => "NotAccepted",
         })
     }
 }
 
 impl Error for Refusal {}
 
-/// The refusal with this number, and this place of a list; none where the number is 0, 7 or over 13.
+/// The refusal with this number, and this place of a list; none where the number is no refusal's.
 #[inline]
 const fn refusal(number: u8, place: Offset) -> Option<Refusal> {
     Some(match number {
@@ -228,6 +251,8 @@ const fn refusal(number: u8, place: Offset) -> Option<Refusal> {
         11 => Refusal::BelowFloor { place: Some(place) },
         12 => Refusal::ComesBack { place },
         13 => Refusal::WrongGroups,
+        14 => Refusal::NoLayout,
+        18 => Refusal::NotAccepted,
         _ => return None,
     })
 }
@@ -268,7 +293,7 @@ mod tests {
     use super::{Refusal, refusal, served, walked};
     use crate::raw::Walked;
 
-    const NUMBERS: [u8; 12] = [1, 2, 3, 4, 5, 6, 8, 9, 10, 11, 12, 13];
+    const NUMBERS: [u8; 14] = [1, 2, 3, 4, 5, 6, 8, 9, 10, 11, 12, 13, 14, 18];
 
     #[test]
     fn each_number_has_its_refusal() {
@@ -282,9 +307,9 @@ mod tests {
     }
 
     #[test]
-    #[should_panic(expected = "answered 14")]
+    #[should_panic(expected = "answered 15")]
     fn a_number_that_is_no_answer_is_no_refusal() {
-        let _ = served(14);
+        let _ = served(15);
     }
 
     #[test]

@@ -10,5 +10,6 @@ pub fn is_of_a_packet(refusal: Refusal) -> bool {
         Refusal::ShortPacket | Refusal::UnknownType | Refusal::WrongLength | Refusal::WrongField => true,
         Refusal::BadDescription | Refusal::NoRoom | Refusal::BelowFloor { .. } | Refusal::ComesBack { .. } => false,
         Refusal::OtherStructure | Refusal::WrongExtent | Refusal::NotOneFunction | Refusal::WrongGroups => false,
+        Refusal::NoLayout | Refusal::NotAccepted => false,
     }
 }
