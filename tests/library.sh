@@ -87,6 +87,7 @@ in_cpp() {
     cpp_runs switch.cpp hosts/c/switch.cpp "$work/expected"
     cpp_runs ask.cpp hosts/c/ask.cpp "$work/expected"
     cpp_runs offload.cpp hosts/c/offload.cpp "$work/expected"
+    cpp_runs workshop.cpp hosts/c/workshop.cpp "$work/expected"
     for ((n = 1; n <= $(blocks $page cpp); n++)); do
         fenced $page cpp $n >"$work/page.cpp"
         printed $page cpp $n >"$work/page.text"
@@ -302,10 +303,11 @@ on_x86_64() {
         try 'rt staticlib backplane' rt staticlib backplane &&
         try 'rt staticlib tester' rt staticlib tester &&
         try 'rt staticlib offload' rt staticlib offload &&
+        try 'rt staticlib workshop' rt staticlib workshop &&
         needs target/staticlib/libthawribbon.a &&
         try 'first_day compiles for x86-64' objects "$work/x86-64" $target &&
         try 'first_day links for x86-64' "$kit/bin/rattle-link" --target $target --toolchain "$tools" -o "$work/first_day.x86-64" \
-            "$work"/x86-64/*.o target/staticlib/lib{thawribbon,backplane,tester,offload}.a &&
+            "$work"/x86-64/*.o target/staticlib/lib{thawribbon,backplane,tester,offload,workshop}.a &&
         first_day 'first_day on x86-64' "$tools/bin/qemu-x86_64" "$tools/lib/ld-linux-x86-64.so.2" --library-path "$tools/lib" \
             "$work/first_day.x86-64"
 }

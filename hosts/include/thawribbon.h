@@ -1,10 +1,11 @@
 /*
  * thawribbon.h: a board's answers to configuration packets, the three capability lists, two records, a switch's router, the asking side:
- * requests written, and completions read back; and a switch's multicast: capabilities read, and addresses judged.
+ * requests written, and completions read back; a switch's multicast: capabilities read, and addresses judged; and the extended list of a
+ * new board: laid out, checked and written.
  *
- * Document 01 of the project fixes what every function answers, with what document 02 corrects, and for the router, the asking side and
- * multicast document 02; their words are used here. The rules that hold stand in docs/RULES.md of the project, each with its number: "rule
- * 4.1" is one of them. Numbers ending in h are hexadecimal.
+ * Document 01 of the project fixes what every function answers, with what document 02 corrects, and for the router, the asking side,
+ * multicast and layouts document 02; their words are used here. The rules that hold stand in docs/RULES.md of the project, each with its
+ * number: "rule 4.1" is one of them. Numbers ending in h are hexadecimal.
  *
  * The packet that has to land is a trusted write. A board takes it only when a Type 0 write has told it its bus and device number. Done is
  * not landed: a write that is done has changed only the bits that the space's rules and marks let it change. So read it back, and compare:
@@ -26,23 +27,26 @@
  *
  * There are two parts. The first declares the functions of libthawribbon.a, which are compiled from proved code. The second, from
  * "Helpers" on, is inline C over them, tried and not proved: a board in one struct, what became of a packet, what leaves a switch, what
- * is heard of a request, the multicast of a switch in one struct, texts, and a list's headers. A program that answers packets begins with
- * thawribbon_board_serve, in the second part; one that passes them on begins with thawribbon_ports_route; one that asks begins with
- * thawribbon_board_ask, where it has the board, and with thawribbon_write_request and thawribbon_hear, where a bus is between; one that
- * wants to know which hosts get a radar's group begins with thawribbon_offload_read.
+ * is heard of a request, the multicast of a switch in one struct, a layout in one struct, texts, and a list's headers. A program that
+ * answers packets begins with thawribbon_board_serve, in the second part; one that passes them on begins with thawribbon_ports_route; one
+ * that asks begins with thawribbon_board_ask, where it has the board, and with thawribbon_write_request and thawribbon_hear, where a bus is
+ * between; one that wants to know which hosts get a radar's group begins with thawribbon_offload_read; one that lays out a new board begins
+ * with thawribbon_layout_lay.
  *
  * Any bytes, of any length, get an answer: every function tests what it is given, and returns. A number in an answer says how it went;
  * the numbers are named below. Each but 0 is a refusal, and a refusal changes no byte of a space, a reply, a room, the buffer for what
  * leaves or that for a request, and no capture. What is written instead tells nothing: an answer's completion and the bytes of what leaves
- * are FFh throughout after it, what is heard and what is judged are 0 but for the number, and a Multicast capability's fields are 0.
+ * are FFh throughout after it, what is heard and what is judged are 0 but for the number, a Multicast capability's fields are 0, and so are
+ * the offsets of a struct thawribbon_layout.
  *
  * What the caller owes:
- * - A buffer is a pointer and a length, and that many bytes (for a list room, that many numbers; for a list of ports, that many ports) are
- *   really there. With length 0 the pointer is never followed and may be anything, NULL included.
- * - A buffer that is written (ordinary, trusted, reply, room, leaving, a request's buffer, a capability's fields; of the helpers, the board,
- *   the answer with its completion, what leaves with its bytes, what is heard, an offload, and what is judged) overlaps no other buffer of
- *   the same call. Buffers that are only read may overlap each other, or be the same. thawribbon_board_serve, thawribbon_ports_route and
- *   thawribbon_board_ask look at this themselves, and answer 1.
+ * - A buffer is a pointer and a length, and that many bytes (for a room and for offsets, that many numbers; for a list of ports, that many
+ *   ports; for structures, that many of them) are really there. With length 0 the pointer is never followed and may be anything, NULL
+ *   included.
+ * - A buffer that is written (ordinary, trusted, reply, room, leaving, a request's buffer, a capability's fields, the space that a layout is
+ *   written into; of the helpers, the board, the answer with its completion, what leaves with its bytes, what is heard, an offload, what is
+ *   judged, and a layout) overlaps no other buffer of the same call. Buffers that are only read may overlap each other, or be the same.
+ *   thawribbon_board_serve, thawribbon_ports_route, thawribbon_board_ask and thawribbon_layout_lay look at this themselves, and answer 1.
  * - While a call runs, no other thread writes to its buffers, or reads those that it writes.
  *
  * Nothing is kept: no function stores a pointer, allocates, or has a state of its own. What a board has captured goes in and comes back
@@ -61,9 +65,9 @@ extern "C" {
 #endif
 
 /* The version of this header, and of the archive that came with it. */
-#define THAWRIBBON_VERSION "0.10.0"
+#define THAWRIBBON_VERSION "0.11.0"
 #define THAWRIBBON_VERSION_MAJOR 0
-#define THAWRIBBON_VERSION_MINOR 10
+#define THAWRIBBON_VERSION_MINOR 11
 #define THAWRIBBON_VERSION_PATCH 0
 
 /* An answer that is dropped is an answer that nobody looked at: compilers that can, warn. */
@@ -90,10 +94,12 @@ enum thawribbon_number {
        10.2); at thawribbon_ports_route, also where what leaves overlaps the ports or the packet; of a request to be written, its kind is
        none of the six, its device is over 31, its function over 7, its offset over FFCh or not a multiple of 4, or its enables over 15; at
        thawribbon_board_ask, also where what is heard overlaps the board; of an address to be judged, the list has over 32 ports, the packet
-       enters by none of them, or a port's fields are such as no reading gives (rule 12.4) */
+       enters by none of them, or a port's fields are such as no reading gives (rule 12.4); of structures to be laid out, there are none or
+       over 960, an ID is 0000h, a version over 15, or a length outside 4 to 3,840, and where they are to be written, also where the space
+       isn't 4,096 bytes; at thawribbon_layout_lay, also where buffers overlap */
     THAWRIBBON_BAD_DESCRIPTION = 1,
-    /* the reply is under 16 bytes, the list room is under the list's maximum, the buffer for what leaves is under 20 bytes, or the buffer
-       for a request is shorter than the request */
+    /* the reply is under 16 bytes, the list room is under the list's maximum, the buffer for what leaves is under 20 bytes, the buffer for a
+       request is shorter than the request, or the room for a layout has fewer numbers than there are structures */
     THAWRIBBON_NO_ROOM = 2,
     /* the packet, or the completion, has fewer than 12 bytes */
     THAWRIBBON_SHORT_PACKET = 3,
@@ -116,7 +122,12 @@ enum thawribbon_number {
     /* a pointer of the list leads to an offset that is already in the chain (rule 6.8) */
     THAWRIBBON_COMES_BACK = 12,
     /* of a Multicast capability, Num Group is over Max Group, or it is enabled with an Index Position under 12 (rule 12.2) */
-    THAWRIBBON_WRONG_GROUPS = 13
+    THAWRIBBON_WRONG_GROUPS = 13,
+    /* of structures to be laid out, no layout is acceptable: their lengths before the last, each rounded up to 4, plus the last as it stands
+       exceed 3,840 */
+    THAWRIBBON_NO_LAYOUT = 14,
+    /* of a layout, the checker does not accept it */
+    THAWRIBBON_NOT_ACCEPTED = 18
 };
 
 /* The bytes of a space, of its rules and of its marks. */
@@ -155,7 +166,8 @@ enum thawribbon_number {
 #define THAWRIBBON_STATUS 6
 #define THAWRIBBON_STATUS_SUCCESSFUL 0x00
 #define THAWRIBBON_STATUS_UNSUPPORTED 0x20
-/* The most offsets that each list can have, so the numbers that its room must have. */
+/* The most offsets that each list can have, so the numbers that its room must have. No more than THAWRIBBON_EXTENDED_MAXIMUM structures may
+ * be laid out. */
 #define THAWRIBBON_COMPATIBLE_MAXIMUM 48
 #define THAWRIBBON_EXTENDED_MAXIMUM 960
 #define THAWRIBBON_TRUSTED_MAXIMUM 1022
@@ -332,6 +344,18 @@ typedef struct thawribbon_judged {
     uint8_t verdict; /* one of thawribbon_judgement */
     uint8_t group;   /* with THAWRIBBON_JUDGED_DROPPED and THAWRIBBON_JUDGED_LEAVES the group that is hit, 0 to 63; else 0 */
 } thawribbon_judged;
+
+/*
+ * A structure of an extended list that is to be laid out: what it is, and how long.
+ *
+ * All three are uint16_t: a larger number is cut by the C compiler before the library sees it, version 65,537 to 1. thawribbon_structure_of
+ * of the helpers takes any number, and cuts none.
+ */
+typedef struct thawribbon_structure {
+    uint16_t id;      /* bits 15:0 of its header; 0000h is refused, since a first structure with it could look absent */
+    uint16_t version; /* 0 to 15, bits 19:16 of its header */
+    uint16_t length;  /* in bytes and with its header, 4 to 3,840 */
+} thawribbon_structure;
 
 /*
  * Answers a packet that a board receives: does the access and writes the completion.
@@ -529,6 +553,51 @@ THAWRIBBON_MUST_USE uint8_t thawribbon_multicast(const uint8_t *space, size_t sp
 THAWRIBBON_MUST_USE thawribbon_judged thawribbon_judge(const thawribbon_groups *ports, size_t ports_length, size_t entering,
                                                        uint64_t address);
 
+/*
+ * Plans a layout: proposes where the structures of a new board's extended list stand, in the given order, and gives the number.
+ *
+ * Takes the structures, and a room of 16-bit numbers to put the offsets into; structures_length counts structures, and room_length numbers.
+ * The lowest number that applies is given:
+ *   0  the first numbers of the room are the offsets, one a structure, and the rest stays as lent. thawribbon_check_layout accepts them, and
+ *      no layout that it accepts has any structure lower: the first is at 100h, and each of the others at the first multiple of 4 behind
+ *      the one before.
+ *   1  there are no structures or over 960, an ID is 0000h, a version over 15, or a length outside 4 to 3,840.
+ *   2  the room has fewer numbers than there are structures.
+ *  14  there is no layout that is accepted: the lengths before the last, each rounded up to 4, plus the last as it stands exceed 3,840.
+ * Any number but 0 leaves the room unchanged. The structures are only read.
+ */
+THAWRIBBON_MUST_USE uint8_t thawribbon_plan_layout(const thawribbon_structure *structures, size_t structures_length,
+                                                   uint16_t *room, size_t room_length);
+
+/*
+ * Checks a layout, wherever it comes from, and gives the number.
+ *
+ * Takes the structures, and the offsets that are proposed for them, which may be any numbers and any count of them. The lowest number that
+ * applies is given:
+ *   0  it is accepted: there is one offset a structure, the first is 100h, all are multiples of 4, in the given order and rising, no two
+ *      structures overlap, and all end by 1000h.
+ *   1  the structures are such as thawribbon_plan_layout refuses with 1.
+ *  18  it is not accepted.
+ * All is only read.
+ */
+THAWRIBBON_MUST_USE uint8_t thawribbon_check_layout(const thawribbon_structure *structures, size_t structures_length,
+                                                    const uint16_t *offsets, size_t offsets_length);
+
+/*
+ * Writes the headers of a layout into a space, where thawribbon_check_layout accepts it, and gives the number. It asks that itself.
+ *
+ * Takes the structures, their offsets, and the space. The lowest number that applies is given:
+ *   0  the header word of each structure is written at its offset: its ID in bits 15:0, its version in bits 19:16, and in bits 31:20 the
+ *      offset of the next, which is 0 in the last. No other byte of the space has changed, and thawribbon_walk_extended lists exactly these
+ *      offsets in it.
+ *   1  the space isn't 4,096 bytes, or the structures are such as thawribbon_plan_layout refuses with 1.
+ *  18  the layout is not accepted.
+ * Any number but 0 leaves the space unchanged. Structures and offsets are only read.
+ */
+THAWRIBBON_MUST_USE uint8_t thawribbon_write_layout(const thawribbon_structure *structures, size_t structures_length,
+                                                    const uint16_t *offsets, size_t offsets_length,
+                                                    uint8_t *space, size_t space_length);
+
 /* ---- Helpers: inline, over the functions above, and not proved. ---- */
 
 /* The 4,096 bytes of a space, of its rules, or of its marks. A type of its own, so that a compiler sees a buffer of another size. */
@@ -721,11 +790,14 @@ THAWRIBBON_MUST_USE static inline const char *thawribbon_text(unsigned number)
                "a record is asked for where none may stand, "
                "a list has over 32 ports, a secondary bus over its subordinate bus, or two ranges that meet, "
                "a packet enters by no port of the list, a port's Multicast fields are such as no reading gives, "
-               "what leaves overlaps the ports or the packet, what is heard overlaps the board, or a request has a kind outside the six, "
+               "what leaves overlaps the ports or the packet, what is heard overlaps the board, "
+               "structures to be laid out are none or over 960, one has ID 0000h, a version over 15 or a length outside 4 to 3,840, "
+               "a layout, its structures and its space overlap, or a request has a kind outside the six, "
                "a device over 31, a function over 7, an offset over FFCh or not a multiple of 4, or enables over 15";
     case THAWRIBBON_NO_ROOM:
         return "the reply is under 16 bytes, the list room is under the list's maximum, "
-               "the buffer for what leaves is under 20 bytes, or the buffer for a request is shorter than its bytes";
+               "the buffer for what leaves is under 20 bytes, the buffer for a request is shorter than its bytes, "
+               "or the room for a layout has fewer numbers than there are structures";
     case THAWRIBBON_SHORT_PACKET:
         return "the packet or the completion has fewer than 12 bytes";
     case THAWRIBBON_UNKNOWN_TYPE:
@@ -748,6 +820,12 @@ THAWRIBBON_MUST_USE static inline const char *thawribbon_text(unsigned number)
         return "a pointer of the list leads to an offset that is already in the chain";
     case THAWRIBBON_WRONG_GROUPS:
         return "the Multicast capability has a Num Group over its Max Group, or is enabled with an Index Position under 12";
+    case THAWRIBBON_NO_LAYOUT:
+        return "no layout of these structures is acceptable: "
+               "the lengths before the last, each rounded up to 4, plus the last as it stands exceed 3,840";
+    case THAWRIBBON_NOT_ACCEPTED:
+        return "the layout is not accepted: it does not have one offset a structure, the first is not 100h, one is not a multiple of 4, "
+               "they do not rise in the given order, two structures overlap, or one ends past 1000h";
     default:
         return "a number that is no answer";
     }
@@ -1083,6 +1161,79 @@ THAWRIBBON_MUST_USE static inline const char *thawribbon_judged_text(thawribbon_
     default:
         return thawribbon_text(judged.number);
     }
+}
+
+/* A structure of any three numbers. None is cut: one that does not fit its member becomes one that is refused with 1. */
+THAWRIBBON_MUST_USE static inline thawribbon_structure thawribbon_structure_of(uint64_t id, uint64_t version, uint64_t length)
+{
+    thawribbon_structure structure;
+    structure.id = (uint16_t)(id <= UINT16_MAX ? id : 0);
+    structure.version = (uint16_t)(version <= UINT16_MAX ? version : UINT16_MAX);
+    structure.length = (uint16_t)(length <= UINT16_MAX ? length : UINT16_MAX);
+    return structure;
+}
+
+/*
+ * A layout: the offset of each structure, in the order of the structures. thawribbon_layout_lay sets all of it.
+ *
+ * Where it is refused there are no offsets: so nothing is looked for at an offset that nobody planned.
+ */
+typedef struct thawribbon_layout {
+    size_t length;                                 /* how many offsets there are: one a structure, or 0 where refused */
+    uint8_t number;                                /* why it is refused: 1 or 14; 0 where it is not */
+    uint16_t offsets[THAWRIBBON_EXTENDED_MAXIMUM]; /* past the length, and all of them where refused, 0 */
+} thawribbon_layout;
+
+/* A layout without offsets, for the reason that this number says. */
+static inline uint8_t thawribbon_layout_none(thawribbon_layout *layout, uint8_t number)
+{
+    size_t place;
+    layout->length = 0;
+    layout->number = number;
+    for (place = 0; place < THAWRIBBON_EXTENDED_MAXIMUM; place++) {
+        layout->offsets[place] = 0;
+    }
+    return number;
+}
+
+/* Whether what thawribbon_layout_lay writes, the space and the layout, overlaps anything that it is lent. Structures whose bytes are too
+ * many to be counted here are answered 1 in any case. */
+static inline int thawribbon_layout_overlaps(const thawribbon_structure *structures, size_t structures_length,
+                                             const thawribbon_bytes *space, const thawribbon_layout *layout)
+{
+    const size_t bytes = structures_length * sizeof *structures;
+    return thawribbon_overlap(space, sizeof *space, layout, sizeof *layout) ||
+           (bytes != 0 && (thawribbon_overlap(structures, bytes, space, sizeof *space) |
+                           thawribbon_overlap(structures, bytes, layout, sizeof *layout)));
+}
+
+/*
+ * Lays out the extended list of a new board: plans where the structures stand, has it checked, and writes their headers into the space.
+ * That is thawribbon_plan_layout and thawribbon_write_layout, in this order.
+ *
+ * Gives the number, and sets every member of `layout`. 0 means that the headers are written: no other byte of the space has changed, and
+ * layout->offsets says where each structure stands. With 1, also where the space is NULL, and with 14 the space is unchanged, and there are
+ * no offsets. 18 is not given: what is planned is accepted. structures_length counts structures, not bytes. `layout` is not NULL.
+ *
+ * Where space, layout and structures overlap, the number is 1, and nothing is written but `layout`.
+ */
+THAWRIBBON_MUST_USE static inline uint8_t thawribbon_layout_lay(const thawribbon_structure *structures, size_t structures_length,
+                                                                thawribbon_bytes *space, thawribbon_layout *layout)
+{
+    uint8_t number;
+    if (space == NULL || thawribbon_layout_overlaps(structures, structures_length, space, layout)) {
+        return thawribbon_layout_none(layout, THAWRIBBON_BAD_DESCRIPTION);
+    }
+    (void)thawribbon_layout_none(layout, THAWRIBBON_SERVED);
+    number = thawribbon_plan_layout(structures, structures_length, layout->offsets, THAWRIBBON_EXTENDED_MAXIMUM);
+    if (number == THAWRIBBON_SERVED) {
+        number = thawribbon_write_layout(structures, structures_length, layout->offsets, structures_length, space->at, sizeof space->at);
+    }
+    if (number != THAWRIBBON_SERVED) {
+        return thawribbon_layout_none(layout, number);
+    }
+    layout->length = structures_length;
+    return number;
 }
 
 /* A header of a list: where it is, and what it says it is. */

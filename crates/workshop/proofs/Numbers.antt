@@ -86,7 +86,7 @@ module _ (structures : List (List ℕ)) (offsets : List ℕ) (r : ℕ) (a : Answ
         accepted = (λ e. absurd (omega (arith, e, told, given)), λ h. absurd (n (h .1)));
       }
   check-told (accepted good acceptable given) =
-      record { number = List·Memᴰ·head (told ∙ given); accepted = (λ e. (good, acceptable), λ h. told ∙ given); }
+      record { number = List·Memᴰ·head (told ∙ given); accepted = (λ e. (good, acceptable), λ h. told ∙ given) }
 
 module _ (structures : List (List ℕ)) (offsets s : List ℕ) (r : ℕ) (after : List ℕ) (a : Answer) (told : r ≡ answerOf a) where
   write-told : Writes structures offsets s a after → WriteTold structures offsets s r after

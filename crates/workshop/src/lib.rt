@@ -21,7 +21,11 @@ pub extern "C" fn thawribbon_check_layout(structures: &[Structure], offsets: &[u
 
 // The headers are put into the space, where the layout is accepted; the number comes back.
 #[no_mangle]
-pub extern "C" fn thawribbon_write_layout(structures: &[Structure], offsets: &[u16], space: &mut [u8]) -> u8
+pub extern "C" fn thawribbon_write_layout(
+    structures: &[Structure],
+    offsets: &[u16],
+    space: &mut [u8],
+) -> u8
     ensures { λ r. ⌜ HostWrites (now (structures .entry)) (now (offsets .entry)) (now (space .entry)) r (now (space .exit)) ⌝ }
 {
     layout::write(structures, offsets, space).number()

@@ -141,8 +141,8 @@ impl Refusal {
                  a list has over 32 ports, a secondary bus over its subordinate bus, or two ranges that meet, \
                  a packet enters by no port of the list, a port's Multicast fields are such as no reading gives, \
                  what leaves overlaps the ports or the packet, what is heard overlaps the board, \
-                 structures to be laid out are none or over 960, or one has ID 0000h, a version over 15 \
-                 or a length outside 4 to 3,840, a layout overlaps what it is made of, \
+                 structures to be laid out are none or over 960, one has ID 0000h, a version over 15 \
+                 or a length outside 4 to 3,840, a layout, its structures and its space overlap, \
                  or a request has a kind outside the six, a device over 31, a function over 7, \
                  an offset over FFCh or not a multiple of 4, or enables over 15"
             }
@@ -180,8 +180,8 @@ impl Refusal {
                  the lengths before the last, each rounded up to 4, plus the last as it stands exceed 3,840"
             }
             Refusal::NotAccepted => {
-                "the layout is not accepted: it does not have one offset a structure, the first is not at 100h, \
-                 one is not a multiple of 4, they are not in the given order and rising, two structures overlap, \
+                "the layout is not accepted: it does not have one offset a structure, the first is not 100h, \
+                 one is not a multiple of 4, they do not rise in the given order, two structures overlap, \
                  or one ends past 1000h"
             }
         }
