@@ -33,5 +33,9 @@ int main(void)
     addresses();
     capability_lists();
     offloads();
+    plans();
+    layouts();
+    lays();
+    laying_overlaps();
     return failed_groups() == 0 ? 0 : 1;
 }

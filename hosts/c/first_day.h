@@ -24,5 +24,9 @@ void capabilities(void);
 void addresses(void);
 void capability_lists(void);
 void offloads(void);
+void plans(void);
+void layouts(void);
+void lays(void);
+void laying_overlaps(void);
 
 #endif

@@ -263,19 +263,19 @@ static void outcomes_told(void)
     }
 }
 
-/* The thirteen numbers 0 to 6 and 8 to 13 have a text each, of their own; any other, 7 among them, has that of no number. */
+/* The fifteen numbers 0 to 6, 8 to 14 and 18 have a text each, of their own; any other, 7 among them, has that of no number. */
 static void texts(void)
 {
-    static const unsigned numbers[13] = {0, 1, 2, 3, 4, 5, 6, 8, 9, 10, 11, 12, 13}, none[4] = {7, 14, 255, UINT_MAX};
+    static const unsigned numbers[15] = {0, 1, 2, 3, 4, 5, 6, 8, 9, 10, 11, 12, 13, 14, 18}, none[6] = {7, 15, 17, 19, 255, UINT_MAX};
     size_t one, other;
-    for (one = 0; one < 13; one++) {
+    for (one = 0; one < 15; one++) {
         expect(strlen(thawribbon_text(numbers[one])) > 10, "hardly a text", numbers[one]);
         expect(strcmp(thawribbon_text(numbers[one]), thawribbon_text(7)) != 0, "a number has the text of none", numbers[one]);
-        for (other = one + 1; other < 13; other++) {
+        for (other = one + 1; other < 15; other++) {
             expect(strcmp(thawribbon_text(numbers[one]), thawribbon_text(numbers[other])) != 0, "two numbers have one text", numbers[one]);
         }
     }
-    for (one = 0; one < 4; one++) {
+    for (one = 0; one < 6; one++) {
         expect(strcmp(thawribbon_text(none[one]), "a number that is no answer") == 0, "another text", none[one]);
     }
 }
@@ -288,7 +288,7 @@ static void answer_texts(void)
     answer.outcome = THAWRIBBON_UNSUPPORTED_REQUEST;
     expect(strncmp(thawribbon_answer_text(&answer), "Unsupported Request", 19) == 0, "another text of what is unsupported", 0);
     answer.outcome = THAWRIBBON_REFUSED;
-    for (number = 1; number <= 13; number++) {
+    for (number = 1; number <= 18; number++) {
         answer.number = (uint8_t)number;
         expect(strcmp(thawribbon_answer_text(&answer), thawribbon_text(number)) == 0, "another text of a refusal", number);
     }

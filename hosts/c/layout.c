@@ -78,4 +78,8 @@ HOLDS(judged_ports, offsetof(thawribbon_judged, ports) == 0);
 HOLDS(judged_number, offsetof(thawribbon_judged, number) == 4);
 HOLDS(judged_verdict, offsetof(thawribbon_judged, verdict) == 5);
 HOLDS(judged_group, offsetof(thawribbon_judged, group) == 6);
+HOLDS(structure_size, sizeof(thawribbon_structure) == 6);
+HOLDS(structure_id, offsetof(thawribbon_structure, id) == 0);
+HOLDS(structure_version, offsetof(thawribbon_structure, version) == 2);
+HOLDS(structure_length, offsetof(thawribbon_structure, length) == 4);
 HOLDS(bytes_size, sizeof(thawribbon_bytes) == THAWRIBBON_SPACE);

@@ -233,7 +233,7 @@ static void judged_texts(void)
     expect(strncmp(thawribbon_judged_text(judged), "the packet leaves by no port: ", 30) == 0, "another text of an empty set", 0);
     judged.ports = 1;
     expect(strcmp(thawribbon_judged_text(judged), "the packet leaves") == 0, "another text of what leaves", 0);
-    for (judged.number = 1; judged.number <= 13; judged.number++) {
+    for (judged.number = 1; judged.number <= 18; judged.number++) {
         expect(strcmp(thawribbon_judged_text(judged), thawribbon_text(judged.number)) == 0, "another text of a refusal", judged.number);
     }
 }

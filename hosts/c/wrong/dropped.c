@@ -5,6 +5,7 @@ void drop(thawribbon_board *board, thawribbon_answer *answer, const uint8_t *byt
 void drop_routed(const thawribbon_port *ports, thawribbon_leaving *leaving, const uint8_t *bytes, uint8_t *reply);
 void drop_asked(thawribbon_board *board, thawribbon_parts parts, thawribbon_heard *heard, const uint8_t *bytes, uint8_t *buffer);
 void drop_judged(thawribbon_offload *offload, thawribbon_judged judged, const uint8_t *bytes, const thawribbon_capability *capabilities);
+void drop_laid(thawribbon_bytes *space, thawribbon_layout *layout, const thawribbon_structure *structures);
 
 void drop(thawribbon_board *board, thawribbon_answer *answer, const uint8_t *bytes, uint8_t *reply, uint16_t *room)
 {
@@ -59,4 +60,13 @@ void drop_judged(thawribbon_offload *offload, thawribbon_judged judged, const ui
     thawribbon_judgement_of(judged);                                                                                     /* dropped */
     thawribbon_leaves_by(judged, 0);                                                                                     /* dropped */
     thawribbon_judged_text(judged);                                                                                      /* dropped */
+}
+
+void drop_laid(thawribbon_bytes *space, thawribbon_layout *layout, const thawribbon_structure *structures)
+{
+    thawribbon_layout_lay(structures, 1, space, layout);                                                                 /* dropped */
+    thawribbon_plan_layout(structures, 1, layout->offsets, 1);                                                           /* dropped */
+    thawribbon_check_layout(structures, 1, layout->offsets, 1);                                                          /* dropped */
+    thawribbon_write_layout(structures, 1, layout->offsets, 1, space->at, sizeof space->at);                             /* dropped */
+    thawribbon_structure_of(0x0023, 1, 8);                                                                               /* dropped */
 }
