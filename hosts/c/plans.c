@@ -32,21 +32,19 @@ static void every_length(void)
     }
 }
 
-/* Two structures with every length of the first: the second stands at the first multiple of 4 behind it, and its length counts as it is. */
-static void rounded_but_the_last(void)
+/* Two structures with every length of the first: the second stands at the first multiple of 4 behind it. It may have each length up to the
+ * end of the space, and not a byte more. */
+static void two_structures(void)
 {
-    unsigned first, left;
+    unsigned first, left, less;
     for (first = 4; first <= 3840; first++) {
         left = 3840 - (first + 3) / 4 * 4;
         lend_structures(2, first);
-        lend_offsets(2);
-        if (left >= 4) {
-            structure_at(1)->length = (uint16_t)left;
+        for (less = 0; less < 4 && left >= 4 + less; less++) {
+            structure_at(1)->length = (uint16_t)(left - less);
+            lend_offsets(2);
             is_planned(THAWRIBBON_SERVED, first);
             expect(*offset_at(1) == 0x1000 - left, "the second stands elsewhere", first);
-            structure_at(1)->length = (uint16_t)(left - left % 4 + 1); /* the same words, were it rounded */
-            lend_offsets(2);
-            is_planned(left % 4 == 0 ? THAWRIBBON_NO_LAYOUT : THAWRIBBON_SERVED, first);
         }
         structure_at(1)->length = (uint16_t)(left < 4 ? 4 : left + 1);
         lend_offsets(2);
@@ -54,7 +52,7 @@ static void rounded_but_the_last(void)
     }
 }
 
-/* Lengths of 4 to 7 take as many words as each other, but for 4: so does the last of them. */
+/* Lengths of 5 to 8 take two words each, and 4 takes one. */
 static void same_words(void)
 {
     static const uint16_t second[5] = {0x104, 0x108, 0x108, 0x108, 0x108};
@@ -177,7 +175,7 @@ void plans(void)
 {
     group("plan, 960 structures of 4 bytes, and one byte more", exactly_full);
     group("plan, one structure of every length", every_length);
-    group("plan, every length rounded up but the last", rounded_but_the_last);
+    group("plan, two structures that just fit", two_structures);
     group("plan, lengths 4 to 8", same_words);
     group("plan, 0 to 964 structures", every_count);
     group("plan, every length of the room", every_room);
