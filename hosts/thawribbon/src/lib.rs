@@ -1,9 +1,9 @@
 //! A board's answers to configuration packets, the three capability lists, two records, a switch's router, the asking side,
-//! and a switch's multicast, by the proved code of libthawribbon.a.
+//! a switch's multicast, and the extended list of a new board, by the proved code of libthawribbon.a.
 //!
 //! Document 01 of the project fixes what every function answers, with what document 02 corrects, and for the router, the
-//! asking side and multicast document 02; their words are used here, and the rules that hold stand in docs/RULES.md of the
-//! project.
+//! asking side, multicast and layouts document 02; their words are used here, and the rules that hold stand in
+//! docs/RULES.md of the project.
 //! Any bytes, of any length, get an answer. After a [`Refusal`] no lent byte and no capture has changed.
 //!
 //! | You want to | Use |
@@ -12,6 +12,7 @@
 //! | have a board answer a packet | [`Board::serve`], which gives a [`Completion`] or says why it is [`NotDone`] |
 //! | have a switch pass a packet on | [`route`], which gives what is [`Leaving`], or says why it is [`NotRouted`] |
 //! | know by which ports a multicast packet leaves a switch | [`Groups::read`] for each port, and [`judge`], which gives what is [`Judged`] |
+//! | lay out the extended list of a new board | [`Layout::plan`], or [`Layout::check`] for one of your own, and [`Layout::write`] |
 //! | list the capabilities of a space | [`headers`]; [`chain`] and [`walk`] give bare offsets |
 //! | read a record | [`dvsec`], [`dvsec_body`], [`dual_bdf`] |
 //! | have the functions of thawribbon.h as they are | [`raw`] |
@@ -155,6 +156,29 @@
 //! }
 //! ```
 //!
+//! # A new board
+//!
+//! The extended list of a new board is laid out from its structures, in their order. A planner proposes where each stands, a
+//! checker decides, and only what it accepts is a [`Layout`], and can be written. `?` stops at structures that do not fit.
+//!
+//! ```
+//! use thawribbon::{Layout, List, Refusal, SPACE, Structure, chain};
+//!
+//! fn main() -> Result<(), Refusal> {
+//!     let structures = [
+//!         Structure { id: 0x0023, version: 1, length: 22 },
+//!         Structure { id: 0x0012, version: 1, length: 0x28 },
+//!         Structure { id: 0x000C, version: 1, length: 8 },
+//!     ];
+//!     let mut room = [0; List::Extended.maximum()];
+//!     let mut space = [0; SPACE];
+//!     let layout = Layout::plan(&structures, &mut room)?;
+//!     layout.write(&mut space)?;
+//!     assert_eq!(chain(List::Extended, &space)?, [0x100, 0x118, 0x140]);
+//!     Ok(())
+//! }
+//! ```
+//!
 //! # A board's first three packets
 //!
 //! P1 to P3 of the bench sheet: a fresh board does not know its bus and device number, so it cannot be asked for a
@@ -205,6 +229,7 @@ mod board;
 mod completion;
 mod constants;
 mod edition;
+mod layout;
 mod lists;
 mod multicast;
 mod not_answered;
@@ -227,6 +252,7 @@ pub use constants::{
     TYPE0_READ, TYPE0_WRITE, TYPE1_READ, TYPE1_WRITE, VERSION,
 };
 pub use edition::{Edition, UnknownEdition};
+pub use layout::Layout;
 pub use lists::{Header, List, chain, headers, walk};
 pub use multicast::{Judged, judge};
 pub use not_answered::NotAnswered;

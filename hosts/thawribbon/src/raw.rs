@@ -6,7 +6,8 @@
 //! [`STATUS_UNSUPPORTED`](crate::STATUS_UNSUPPORTED). Nor does number 0 of [`route`] say that the packet leaves:
 //! [`Routed::leaves`] does; nor that of [`read_completion`] that the access was done: [`Heard::said`] does; nor that of
 //! [`judge`] that the packet leaves: [`Judged::verdict`] does. A capability that [`multicast`] refuses leaves fields of
-//! zeros, which [`judge`] takes for those of a port that is not enabled: only the number tells.
+//! zeros, which [`judge`] takes for those of a port that is not enabled: only the number tells. And only the number tells
+//! whether [`plan_layout`] put offsets into the room, and whether [`write_layout`] wrote.
 //!
 //! Every function is safe to call: a slice has the pointer and the length that C passes by hand, and the functions take
 //! any length. This is the one module with `unsafe` in it. The structs are laid out as C lays them out, and are held to

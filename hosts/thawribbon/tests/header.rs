@@ -8,7 +8,7 @@ use thawribbon::{Completion, Edition, List, NotAnswered, NotRouted, Refusal};
 const HEADER: &str = include_str!("../../include/thawribbon.h");
 
 /// The refusals of the crate, under the names that the header has for them.
-const REFUSALS: [(&str, Refusal); 12] = [
+const REFUSALS: [(&str, Refusal); 14] = [
     ("THAWRIBBON_BAD_DESCRIPTION", Refusal::BadDescription),
     ("THAWRIBBON_NO_ROOM", Refusal::NoRoom),
     ("THAWRIBBON_SHORT_PACKET", Refusal::ShortPacket),
@@ -21,6 +21,8 @@ const REFUSALS: [(&str, Refusal); 12] = [
     ("THAWRIBBON_BELOW_FLOOR", Refusal::BelowFloor { place: None }),
     ("THAWRIBBON_COMES_BACK", Refusal::ComesBack { place: 0x100 }),
     ("THAWRIBBON_WRONG_GROUPS", Refusal::WrongGroups),
+    ("THAWRIBBON_NO_LAYOUT", Refusal::NoLayout),
+    ("THAWRIBBON_NOT_ACCEPTED", Refusal::NotAccepted),
 ];
 
 /// What is fixed is there when a program is compiled.

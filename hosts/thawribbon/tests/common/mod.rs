@@ -1,5 +1,5 @@
 //! What the tests share: buffers with guards, the board of the bench sheet, a switch, the asking side, a switch's
-//! multicast, and spaces with chains.
+//! multicast, new boards, and spaces with chains.
 //!
 //! Every call is followed by a look at every lent element and at the guards around it.
 #![allow(dead_code)] // each test file uses a part of this
@@ -7,6 +7,7 @@
 pub mod asking;
 pub mod multicast;
 pub mod switch;
+pub mod workshop;
 
 use std::fmt::Debug;
 use std::hint::black_box;

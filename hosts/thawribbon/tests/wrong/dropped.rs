@@ -1,11 +1,11 @@
 //! Every answer that may not be dropped, dropped: rustc has to warn of each line that says so.
 //!
 //! tests/rust.sh compiles this; it is no test of the package, and is never run. It counts the crate's functions too: each
-//! that gives something stands here. What leaves a switch, is judged, or is to be sent, may not be dropped behind a `?`
-//! either.
+//! that gives something stands here. What leaves a switch, is judged, is to be sent, or is to be written may not be dropped
+//! behind a `?` either.
 use thawribbon::raw::{self, Capture, Description, Parts};
-use thawribbon::{Board, Completion, Edition, Groups, Id, Kind, Leaving, List, NotAnswered, NotDone, NotRouted};
-use thawribbon::{Packet, Port, PortSet, Refusal, Request, Space, UnknownEdition};
+use thawribbon::{Board, Completion, Edition, Groups, Id, Kind, Layout, Leaving, List, NotAnswered, NotDone, NotRouted};
+use thawribbon::{Packet, Port, PortSet, Refusal, Request, Space, Structure, UnknownEdition};
 use thawribbon::{chain, dual_bdf, dvsec, dvsec_body, headers, judge, route, walk};
 
 fn main() {}
@@ -59,6 +59,23 @@ pub fn drop_judged(ports: &[Groups], space: &[u8], set: PortSet) -> Result<(), R
 pub fn drop_raw_judged(ports: &[Groups], space: &[u8], groups: &mut Groups) {
     raw::multicast(space, 0x100, groups); // dropped
     raw::judge(ports, 0, 0); // dropped
+}
+
+pub fn drop_laid(structures: &[Structure], room: &mut [u16], space: &mut [u8]) -> Result<(), Refusal> {
+    Layout::plan(structures, room); // dropped
+    Layout::plan(structures, room)?; // dropped
+    Layout::check(structures, room); // dropped
+    let layout = Layout::check(structures, room)?;
+    layout.write(space); // dropped
+    layout.structures(); // dropped
+    layout.offsets(); // dropped
+    Ok(())
+}
+
+pub fn drop_raw_laid(structures: &[Structure], room: &mut [u16], space: &mut [u8]) {
+    raw::plan_layout(structures, room); // dropped
+    raw::check_layout(structures, room); // dropped
+    raw::write_layout(structures, room, space); // dropped
 }
 
 pub fn drop_requests(target: Id, data: [u8; 4]) {
