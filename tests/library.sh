@@ -117,6 +117,10 @@ mistakes_are_seen() {
         cc "${c[@]}" -I "$built" -c hosts/c/wrong/short_space.c -o "$work/short_space.o"
     ends "the kit's clang sees a board over a buffer of 256 bytes" 1 'incompatible' \
         kit_clang c "$here" "${c[@]}" -I "$built" -c hosts/c/wrong/short_space.c -o "$work/short_space.o"
+    ends 'cc sees a new board over a buffer of 256 bytes' 1 'incompatible' \
+        cc "${c[@]}" -I "$built" -c hosts/c/wrong/short_new_space.c -o "$work/short_new_space.o"
+    ends "the kit's clang sees a new board over a buffer of 256 bytes" 1 'incompatible' \
+        kit_clang c "$here" "${c[@]}" -I "$built" -c hosts/c/wrong/short_new_space.c -o "$work/short_new_space.o"
     ends 'cc sees a description without an edition, where members have no names' 1 'missing-field-initializers' \
         cc "${c[@]}" -I "$built" -c hosts/c/wrong/no_edition.c -o "$work/no_edition.o"
     ends "the kit's clang sees a description without an edition, where members have no names" 1 'missing-field-initializers' \
@@ -213,6 +217,14 @@ page_notices() {
         'a packet enters by no port of the list'
     other_page_c "C program 8 of $page notices that a board has no edition" 8 's/, \.edition = THAWRIBBON_EDITION_2//' \
         "05 leaves as 04, $(sed -n 's/.*it would end with `\(edition 0: [^`]*\)`.*/\1/p' $page)"
+    other_page_c "C program 9 of $page notices that there is no layout" 9 's/1, 40)/1, 3812)/' \
+        'not laid out: no layout of these structures is acceptable'
+    other_page_c "C program 9 of $page notices an ID of 0000h" 9 's/0x000C, 1/0x0000, 1/' 'not laid out: a space, rules or marks of 4,096 bytes are not lent'
+    other_page_c "C program 9 of $page notices a version over 15" 9 's/0x000C, 1/0x000C, 16/' 'not laid out: a space, rules or marks of 4,096 bytes are not lent'
+    other_page_c "C program 9 of $page notices a length that does not fit 16 bits" 9 's/1, 22)/1, 65558)/' \
+        'not laid out: a space, rules or marks of 4,096 bytes are not lent'
+    other_page_c "C program 9 of $page notices that there is no space" 9 's/&space, &layout/NULL, \&layout/' \
+        'not laid out: a space, rules or marks of 4,096 bytes are not lent'
 }
 
 # The example at the top of the header.
@@ -328,6 +340,7 @@ mistakes_are_seen
 page_in_c
 page_without_board 5 'thawribbon_read_completion thawribbon_write_request'
 page_without_board 7 'thawribbon_judge thawribbon_multicast'
+page_without_board 9 'thawribbon_check_layout thawribbon_plan_layout thawribbon_write_layout'
 page_languages
 page_notices
 header_example

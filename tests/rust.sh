@@ -95,6 +95,11 @@ page_notices() {
     other_page_rust "Rust program 8 of $page stops where there is no such port" 8 's/judge(&ports, 0,/judge(\&ports, 3,/' 'Error: BadDescription'
     other_page_rust "Rust program 9 of $page stops at a number that is no edition" 9 's/in \[1, 2\]/in [1, 3]/' \
         "$(sed -n 's/.*With 3 in the place of 2 it would end with `\(Error: [^`]*\)`.*/\1/p' $page)"
+    other_page_rust "Rust program 10 of $page stops where there is no layout" 10 's/length: 40/length: 3812/' 'Error: NoLayout'
+    other_page_rust "Rust program 10 of $page stops at an ID of 0000h" 10 's/id: 0x000C/id: 0x0000/' 'Error: BadDescription'
+    other_page_rust "Rust program 10 of $page stops at a room that is too small" 10 's/\[0; List::Extended.maximum()\]/[0; 2]/' 'Error: NoRoom'
+    other_page_rust "Rust program 10 of $page stops at a layout that is not accepted" 10 's/0x100, 0x200/0x100, 0x114/' \
+        "$(sed -n 's/.*in the middle of the first structure, it would end with `\(Error: [^`]*\)`.*/\1/p' $page)"
 }
 
 # The page's N-th Rust program has no board: of the archive, only the asking side is linked.
@@ -127,7 +132,7 @@ answers_are_not_dropped() {
 }
 
 # What the page says of the crate besides: a match needs a last arm, a port's fields have no default, a description needs an edition, which has
-# none either, and unsafe stands in one file.
+# none either, nobody makes a layout by hand, and unsafe stands in one file.
 crate_is_as_told() {
     package no_last_arm <hosts/thawribbon/tests/wrong/no_last_arm.rs
     ends 'rustc wants a last arm of a match on a refusal' 101 'non-exhaustive patterns: `_` not covered' within "$work/no_last_arm" cargo check --offline
@@ -136,6 +141,8 @@ crate_is_as_told() {
     package no_edition <hosts/thawribbon/tests/wrong/no_edition.rs
     ends 'rustc wants an edition of every description' 101 'missing field `edition` in initializer' within "$work/no_edition" cargo check --offline
     ends 'rustc has no default for an edition' 101 'the trait bound `Edition: Default` is not satisfied' within "$work/no_edition" cargo check --offline
+    package own_layout <hosts/thawribbon/tests/wrong/own_layout.rs
+    ends 'rustc lets nobody make a layout that is not checked' 101 'of struct `thawribbon::Layout` are private' within "$work/own_layout" cargo check --offline
     if [ "$(grep -lw unsafe hosts/thawribbon/build.rs $sources/*)" = $sources/raw.rs ]; then
         echo 'ok unsafe stands only in raw.rs'
     else
