@@ -1,7 +1,7 @@
 -- Headers put into a space one after the other are written as the promise of `write` says: each header word has its header, and every other byte is as it was.
 -- Assumes nothing.
-use Prim.Native.Nat.{ℕ, zero, suc, _+_, _%_, _≤_, _<_}
-use mathlib.Core.Bool.{true, false}
+use Prim.Native.Nat.{ℕ, zero, suc, _+_, _≤_, _<_}
+use mathlib.Core.Bool.{false}
 use mathlib.Core.List.{List, [], _∷_}
 use mathlib.Core.Logic._⊎_.{inr}
 use mathlib.Core.Path.{_≡_, refl, sym, ap, _∙_}
@@ -19,7 +19,7 @@ use Rattle.words.specs.Bytes.{byte, four, put}
 use Rattle.words.proofs.Laws.{put-length, put-there, put-before, put-after, four-elsewhere}
 use Rattle.layout.specs.Structures.{extent, structureAt, areBad}
 use Rattle.layout.specs.Accepting.{offsetAt, Acceptable, Checks, Checks.misdescribed, Checks.unaccepted, Checks.accepted}
-use Rattle.layout.specs.Laying.{headerWord, fourOf, nextAt, InHeader, Written, Writes, Writes.misdescribed, Writes.unaccepted, Writes.written}
+use Rattle.layout.specs.Laying.{headerWord, fourOf, nextAt, InHeader, Written, Writes, Writes.misdescribed, Writes.unaccepted}
 use Rattle.layout.specs.Inner.{laid, MayBeLaid}
 use Rattle.layout.proofs.Sound.{Given, tested}
 use Rattle.layout.proofs.Orderly.{Orderly, others-of, acceptable-orderly}

@@ -1,23 +1,23 @@
 -- THEOREMS. What has been written is listed as given, as the tenth request of document 02 wants it: whatever else the space held, every walk of its extended list with room enough
 -- answers 0 with exactly these offsets, and the header at each has the ID and the version given. The compatible list is as it was. Assumes nothing.
 use Prim.Native.Nat.{ℕ, zero, suc, _+_, _%_, _≤_, _<_}
-use mathlib.Core.Bool.{true, false}
+use mathlib.Core.Bool.{false}
 use mathlib.Core.List.{List, [], _∷_}
-use mathlib.Core.Logic.{_↔_, _⊎_, ⊎-elim}
+use mathlib.Core.Logic.{_↔_}
 use mathlib.Core.Path.{_≡_, refl, sym, ap, subst, _∙_}
 use native.Mathlib.Omega.{arith}
 use borrow.Author.Tests.{ltb-true, ltb-false}
 use lib.Dec.{ltb, lit≤}
 use lib.ListN.{length, List·getD-eq-default}
 use Rattle.answers.specs.declared.Answer.{Answer}
-use Rattle.words.specs.Bytes.{byte, four}
+use Rattle.words.specs.Bytes.{byte}
 use Rattle.words.specs.Fields.{bits, word}
 use Rattle.lists.specs.declared.Kind.the-variants.{Compatible, Extended}
 use Rattle.lists.specs.declared.Walked.{Walked}
 use Rattle.lists.specs.Table.{describe, compatibleStart, compatibleNext, extendedNext}
 use Rattle.lists.specs.Chain.{Legal, Legal.ends, Legal.goes, HasChain, dropped, first, follows}
-use Rattle.lists.specs.Breaks.{met, Breaks}
-use Rattle.lists.specs.Walks.{WholeSpace, Roomy, Lists, numberGiven, Walks, Walks.misdescribed, Walks.roomless, Walks.broken, Walks.listed}
+use Rattle.lists.specs.Breaks.{met}
+use Rattle.lists.specs.Walks.{Roomy, Lists, Walks, Walks.misdescribed, Walks.roomless, Walks.broken, Walks.listed}
 use Rattle.lists.proofs.Breaking.{breaks-carried, breaks-unending}
 use Rattle.lists.proofs.FirstWord.{first-some}
 use Rattle.lists.proofs.Maxima.{met-within}
@@ -25,7 +25,7 @@ use Rattle.lists.proofs.OneChain.{legal-unique}
 use Rattle.lists.proofs.Pointers.{Bytes, Within, first-within, follows-within}
 use Rattle.layout.specs.Structures.{identity, version, structureAt, areBad}
 use Rattle.layout.specs.Accepting.{offsetAt, Acceptable}
-use Rattle.layout.specs.Laying.{headerWord, fourOf, nextAt, InHeader, Written, Writes, Writes.misdescribed, Writes.unaccepted, Writes.written}
+use Rattle.layout.specs.Laying.{nextAt, Written, Writes, Writes.misdescribed, Writes.unaccepted, Writes.written}
 use Rattle.layout.proofs.Headers.{Fields, header-fields}
 use Rattle.layout.proofs.Sound.{Given, given, tested}
 

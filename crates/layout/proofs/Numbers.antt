@@ -1,7 +1,7 @@
 -- THEOREMS. What the number of each entry says, both ways: each is given exactly if its cause is there and that of none before it, and no other number is given. A refusal
 -- leaves the room, or the space, as it was lent. Assumes nothing.
 use Prim.Native.Nat.{ℕ, _≤_, _<_}
-use mathlib.Core.Bool.{Bool, true, false}
+use mathlib.Core.Bool.{true, false}
 use mathlib.Core.List.{List, [], _∷_, List·Memᴰ, List·Memᴰ.List·Memᴰ·head, List·Memᴰ.List·Memᴰ·tail}
 use mathlib.Core.Logic.{_↔_, _⊎_, ⊎-elim}
 use mathlib.Core.Logic._⊎_.{inl, inr}
@@ -15,7 +15,7 @@ use Rattle.layout.specs.Accepting.{Acceptable, Checks, Checks.misdescrib
 use Rattle.layout.specs.Proposing.{NoneAcceptable, needed, Plans, Plans.misdescribed, Plans.roomless, Plans.unplaced, Plans.proposed}
 use Rattle.layout.specs.Laying.{Writes, Writes.misdescribed, Writes.unaccepted, Writes.written}
 use Rattle.layout.proofs.Packing.{none-exactly, some-exactly}
-use Rattle.layout.proofs.Sound.{BadExactly, OneFaulty, bad-exactly}
+use Rattle.layout.proofs.Sound.{OneFaulty, bad-exactly}
 use Rattle.layout.proofs.Unique.{unlike}
 
 -- "Bad counts, versions or lengths: 1", and an ID 0000h: none or more than 960 structures, or a faulty one

@@ -8,8 +8,8 @@ use native.Mathlib.Omega.{arith}
 use borrow.Author.Tests.{eqb-true, leb-true, ltb-true, ltb-false, eq-eqb, le-leb}
 use lib.Dec.{eqb, leb, ltb}
 use lib.ListN.{length}
-use Rattle.layout.specs.Structures.{extent, structureAt}
-use Rattle.layout.specs.Accepting.{offsetAt, endAt, Takes, Acceptable}
+use Rattle.layout.specs.Structures.{extent}
+use Rattle.layout.specs.Accepting.{offsetAt, endAt, Acceptable}
 use Rattle.layout.specs.Inner.{mayStand, standFrom, accepts}
 use Rattle.layout.proofs.Sound.{AllSound, tested}
 use Rattle.layout.proofs.Steps.{both}

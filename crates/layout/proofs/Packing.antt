@@ -1,7 +1,7 @@
 -- THEOREMS. The planner's proposal, each structure at the first multiple of 4 behind the one before: where it ends by 1000h it is acceptable, and every acceptable proposal
 -- lies, offset by offset, at or above it; where it does not, none is acceptable. And that is, as the tenth request of document 02 says, "when the lengths before the
 -- last, each rounded up to 4, plus the last as it stands exceed 3,840". Rounding the last one too would change no answer. Assumes nothing.
-use Prim.Native.Nat.{ℕ, zero, suc, _+_, _*_, _/_, _%_, _≤_, _<_}
+use Prim.Native.Nat.{ℕ, zero, suc, _+_, _%_, _≤_, _<_}
 use mathlib.Core.Bool.{Bool, true, false, _&&_, and-true, and-false}
 use mathlib.Core.List.{List, [], _∷_}
 use mathlib.Core.Logic.{_↔_}
@@ -14,8 +14,8 @@ use Rattle.layout.specs.Structures.{extent, areBad}
 use Rattle.layout.specs.Accepting.{offsetAt, Acceptable}
 use Rattle.layout.specs.Proposing.{NoneAcceptable, roundedUp, neededBy, needed, Lowest}
 use Rattle.layout.specs.Inner.{fitsFrom, packedFrom}
-use Rattle.layout.proofs.Sound.{AllSound, Given, given, tested}
-use Rattle.layout.proofs.Steps.{both, packed-length}
+use Rattle.layout.proofs.Sound.{Given, given, tested}
+use Rattle.layout.proofs.Steps.{both}
 use Rattle.layout.proofs.Orderly.{Orderly, alone, before, first-of, others-of, sooner, orderly-acceptable, acceptable-orderly}
 
 -- the statements, of structures that are not bad. "Answer 14 [..] is given exactly if no such proposal exists, which is when [..]"

@@ -4,8 +4,7 @@ use mathlib.Core.Bool.{Bool, true, false}
 use mathlib.Core.List.{List, [], _∷_, _++_}
 use mathlib.Core.Logic.{_⊎_, ⊎-elim}
 use mathlib.Core.Logic._⊎_.{inl, inr}
-use mathlib.Core.Path.{_≡_, refl, sym, ap, ap₂, _∙_}
-use native.Mathlib.Nat.{add-zero}
+use mathlib.Core.Path.{_≡_, sym, ap, _∙_}
 use native.Mathlib.Omega.{arith}
 use borrow.Author.Tests.{ltb-true, ltb-false}
 use lib.Dec.{ltb}
@@ -17,7 +16,7 @@ use Rattle.answers.proofs.Unique.{answer-tells}
 use Rattle.words.specs.Bytes.{byte, four}
 use Rattle.words.proofs.Laws.{four-at}
 use Rattle.layout.specs.Structures.{areBad}
-use Rattle.layout.specs.Accepting.{offsetAt, Acceptable, Checks, Checks.misdescribed, Checks.unaccepted, Checks.accepted}
+use Rattle.layout.specs.Accepting.{offsetAt, Checks, Checks.misdescribed, Checks.unaccepted, Checks.accepted}
 use Rattle.layout.specs.Proposing.{Lowest, RefusesRoom, Plans, Plans.misdescribed, Plans.roomless, Plans.unplaced, Plans.proposed}
 use Rattle.layout.specs.Laying.{InHeader, Written, RefusesSpace, Writes, Writes.misdescribed, Writes.unaccepted, Writes.written}
 use Rattle.layout.proofs.Sound.{tested}

@@ -1,7 +1,7 @@
 -- `layout::planning::fit` meets its contract. The loop's invariant: those that are left fit from where it is exactly if all fit. Assumes nothing.
 use borrow.Author.Needs.{needs}
 use Prim.Native.Nat.{_+_, _-_, _≤_}
-use mathlib.Core.Path.{_≡_, refl, _∙_}
+use mathlib.Core.Path.{_≡_, _∙_}
 use native.Mathlib.Omega.{arith}
 use lib.ListN.{length, drop}
 use Rattle.layout.specs.Structures.{extent, structureAt}

@@ -1,7 +1,6 @@
 -- `layout::planning::plan` meets its contract: what is packed is the lowest proposal, and where it does not fit, there is none. Assumes nothing.
 use borrow.Author.Needs.{needs}
 use mathlib.Core.Path.{refl, sym, _∙_}
-use native.Mathlib.Omega.{arith}
 use borrow.Author.Tests.{not-true, not-false}
 use Rattle.layout.specs.Proposing.{Plans.misdescribed, Plans.roomless, Plans.unplaced, Plans.proposed}
 use Rattle.layout.specs.Inner.{packedFrom}

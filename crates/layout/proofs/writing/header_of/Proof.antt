@@ -3,11 +3,6 @@ use Rattle.layout.proofs.Headers.{header-bytes}
 use borrow.Author.Needs.{needs}
 use Rattle.layout.proofs.writing.header_of.Statement.{statement}
 use Rattle.layout.proofs.writing.header_of.Tie as tie
-use Rattle.layout.proofs.writing.header_of.Reads as reads
-use Rattle.layout.proofs.writing.header_of.Lts as lts
-use Rattle.layout.proofs.writing.high_byte.Reads as high-byte-reads
-use Rattle.layout.proofs.writing.low_byte.Reads as low-byte-reads
-use Rattle.layout.proofs.writing.upper_half.Reads as upper-half-reads
 
 -- src/writing.rt:54:14
 array-read-id : tie.Need-array-read-id

@@ -1,5 +1,5 @@
 -- `layout::writing::upper_half` meets its contract: shifted past the version, the pointer has no bit in common with it. Assumes nothing.
-use Prim.Native.Nat.{ℕ, _*_, _%_, _+_}
+use Prim.Native.Nat.{ℕ, _*_}
 use mathlib.Core.Path.{ap, _∙_}
 use native.Mathlib.Nat.{mod-eq-of-lt}
 use native.Mathlib.Omega.{arith}

@@ -1,7 +1,7 @@
 -- `layout::writing::write` meets its contract: what the checker refuses is refused, and what it accepts is laid. Assumes nothing.
 use borrow.Author.Needs.{needs}
 use mathlib.Core.Logic._⊎_.{inl}
-use mathlib.Core.Path.{refl, sym, subst, _∙_}
+use mathlib.Core.Path.{refl}
 use Rattle.layout.specs.Laying.{Writes.misdescribed, Writes.written}
 use Rattle.layout.proofs.Sound.{given}
 use Rattle.layout.proofs.Laid.{may-be-laid, laid-written, refused-writes, accepted-by}
