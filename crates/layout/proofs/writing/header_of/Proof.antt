@@ -1,38 +1,31 @@
+-- `layout::writing::header_of` meets its contract: the bytes by halves are those of the header. Assumes nothing.
 use native.Mathlib.Omega.{arith}
 use Rattle.layout.proofs.Headers.{header-bytes}
 use borrow.Author.Needs.{needs}
 use Rattle.layout.proofs.writing.header_of.Statement.{statement}
 use Rattle.layout.proofs.writing.header_of.Tie as tie
 
--- src/writing.rt:54:14
 array-read-id : tie.Need-array-read-id
 array-read-id c = search needs
 
--- src/writing.rt:55:28
 array-read-upper-half : tie.Need-array-read-upper-half
 array-read-upper-half c = search needs
 
--- src/writing.rt:55:9
 upper-half-requires : tie.Need-upper-half-requires
 upper-half-requires c κs = search needs
 
--- src/writing.rt:57:9
 low-byte-requires : tie.Need-low-byte-requires
 low-byte-requires c κs = search needs
 
--- src/writing.rt:58:9
 high-byte-requires : tie.Need-high-byte-requires
 high-byte-requires c κs = search needs
 
--- src/writing.rt:59:9
 low-byte-requires-2 : tie.Need-low-byte-requires-2
 low-byte-requires-2 c κs = search needs
 
--- src/writing.rt:60:9
 high-byte-requires-2 : tie.Need-high-byte-requires-2
 high-byte-requires-2 c κs = search needs
 
--- src/writing.rt:50:1
 returns : tie.Need-returns
 returns c =
     let a = c .before .before .before .before .before .args in
