@@ -8,11 +8,11 @@ use native.Mathlib.Omega.{arith}
 use borrow.Author.Tests.{eqb-true, leb-true, ltb-true, ltb-false, eq-eqb, le-leb}
 use lib.Dec.{eqb, leb, ltb}
 use lib.ListN.{length}
+use Rattle.words.proofs.Laws.{and-both}
 use Rattle.layout.specs.Structures.{extent}
 use Rattle.layout.specs.Accepting.{offsetAt, endAt, Acceptable}
 use Rattle.layout.specs.Inner.{mayStand, standFrom, accepts}
 use Rattle.layout.proofs.Sound.{AllSound, tested}
-use Rattle.layout.proofs.Steps.{both}
 
 pub record Orderly (ended : ℕ) (structures : List (List ℕ)) (offsets : List ℕ) : Type 0 where
   pub each : length offsets ≡ length structures
@@ -29,8 +29,8 @@ pub record Standing (ended : ℕ) (structure : List ℕ) (at : ℕ) : Type 0 whe
 
 pub standing : (ended : ℕ) (structure : List ℕ) (at : ℕ) → mayStand ended structure at ≡ true → Standing ended structure at
 standing ended structure at e =
-    let a = both (eqb (at % 4) 0) (leb ended at && leb (at + extent structure) 0x1000) e in
-    let b = both (leb ended at) (leb (at + extent structure) 0x1000) (a .1) in
+    let a = and-both (eqb (at % 4) 0) (leb ended at && leb (at + extent structure) 0x1000) e in
+    let b = and-both (leb ended at) (leb (at + extent structure) 0x1000) (a .1) in
     record { aligned = eqb-true _ _ (a .0); above = leb-true _ _ (b .0); inside = leb-true _ _ (b .1) }
 
 pub stands : {ended : ℕ} {structure : List ℕ} {at : ℕ} → Standing ended structure at → mayStand ended structure at ≡ true
@@ -103,7 +103,7 @@ stand-orderly ended [] [] e = alone ended
 stand-orderly ended [] (at ∷ offsets) e = let z : _≡_ {A = ℕ} 0 1 = cc in absurd (omega arith)
 stand-orderly ended (structure ∷ structures) [] e = let z : _≡_ {A = ℕ} 0 1 = cc in absurd (omega arith)
 stand-orderly ended (structure ∷ structures) (at ∷ offsets) e =
-    let a = both (mayStand ended structure at) (standFrom (at + extent structure) structures offsets) e in
+    let a = and-both (mayStand ended structure at) (standFrom (at + extent structure) structures offsets) e in
     before (standing ended structure at (a .0)) (stand-orderly (at + extent structure) structures offsets (a .1))
 
 pub orderly-stand : (ended : ℕ) (structures : List (List ℕ)) (offsets : List ℕ) → Orderly ended structures offsets
@@ -151,7 +151,7 @@ module _ {structures : List (List ℕ)} {offsets : List ℕ} (sound : AllSound s
   pub accepts-acceptable : accepts structures offsets ≡ true → Acceptable structures offsets
   unfolding accepts
   accepts-acceptable e =
-      let a = both (eqb (offsetAt offsets 0) 0x100) (standFrom 0x100 structures offsets) e in
+      let a = and-both (eqb (offsetAt offsets 0) 0x100) (standFrom 0x100 structures offsets) e in
       orderly-acceptable (eqb-true _ _ (a .0)) (stand-orderly 0x100 structures offsets (a .1))
 
   pub acceptable-accepts : Acceptable structures offsets → accepts structures offsets ≡ true

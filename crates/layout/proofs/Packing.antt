@@ -10,12 +10,12 @@ use native.Mathlib.Omega.{arith}
 use borrow.Author.Tests.{leb-true, leb-false, le-leb, lt-leb}
 use lib.Dec.{leb}
 use lib.ListN.{length}
+use Rattle.words.proofs.Laws.{and-both}
 use Rattle.layout.specs.Structures.{extent, areBad}
 use Rattle.layout.specs.Accepting.{offsetAt, Acceptable}
 use Rattle.layout.specs.Proposing.{NoneAcceptable, roundedUp, neededBy, needed, Lowest}
 use Rattle.layout.specs.Inner.{fitsFrom, packedFrom}
 use Rattle.layout.proofs.Sound.{Given, given, tested}
-use Rattle.layout.proofs.Steps.{both}
 use Rattle.layout.proofs.Orderly.{Orderly, alone, before, first-of, others-of, sooner, orderly-acceptable, acceptable-orderly}
 
 -- the statements, of structures that are not bad. "Answer 14 [..] is given exactly if no such proposal exists, which is when [..]"
@@ -42,7 +42,7 @@ pub packed-orderly : (at : ℕ) (structures : List (List ℕ)) → at % 4 ≡ 0 
 unfolding fitsFrom packedFrom
 packed-orderly at [] a e = alone at
 packed-orderly at (structure ∷ structures) a e =
-    let f = both (leb (at + extent structure) 0x1000) (fitsFrom (at + roundedUp (extent structure)) structures) e in
+    let f = and-both (leb (at + extent structure) 0x1000) (fitsFrom (at + roundedUp (extent structure)) structures) e in
     before (record { aligned = a; above = omega arith; inside = leb-true _ _ (f .0) })
     (sooner (omega arith) (packed-orderly (at + roundedUp (extent structure)) structures (omega arith) (f .1)))
 

@@ -11,16 +11,12 @@ use lib.Dec.{leb}
 use lib.ListN.{length, set, take, drop}
 use lib.Seq.{drop-cons, drop-length, take-length, getD-drop, paste, paste-suc}
 use Rattle.words.specs.Bytes.{put}
+use Rattle.words.proofs.Laws.{and-both}
 use Rattle.layout.specs.Structures.{extent, structureAt, isBad, oneBad, areBad}
 use Rattle.layout.specs.Accepting.{offsetAt}
 use Rattle.layout.specs.Proposing.{roundedUp}
 use Rattle.layout.specs.Laying.{fourOf, headerWord}
 use Rattle.layout.specs.Inner.{mayStand, standFrom, fitsFrom, packedFrom, laid}
-
--- two facts together
-pub both : (a b : Bool) → (a && b) ≡ true → (a ≡ true) × (b ≡ true)
-both true b e = (refl, e)
-both false b e = let z : _≡_ {A = ℕ} 0 1 = cc in absurd (omega arith)
 
 -- ---- bad structures
 
@@ -108,7 +104,7 @@ module _ (structures : List (List ℕ)) (at place : ℕ) where
   -- of structures that fit, the next one ends by 1000h
   pub fitting : place < length structures → fitsFrom at (drop place structures) ≡ true → at + extent (structureAt structures place) ≤ 0x1000
   fitting here e =
-      leb-true _ _ (both _ (fitsFrom (at + roundedUp (extent (structureAt structures place))) (drop (suc place) structures)) (sym (fits-next here) ∙ e) .0)
+      leb-true _ _ (and-both _ (fitsFrom (at + roundedUp (extent (structureAt structures place))) (drop (suc place) structures)) (sym (fits-next here) ∙ e) .0)
 
   packed-next : place < length structures
       → packedFrom at (drop place structures) ≡ at ∷ packedFrom (at + roundedUp (extent (structureAt structures place))) (drop (suc place) structures)

@@ -144,7 +144,7 @@ pub record Place (at low high : ℕ) : Type 0 where
   pub above : low ≤ at
   pub below : at ≤ high
 
-and-both : (a b : Bool) → (a && b) ≡ true → (a ≡ true) × (b ≡ true)
+pub and-both : (a b : Bool) → (a && b) ≡ true → (a ≡ true) × (b ≡ true)
 and-both true b e = (refl, e)
 and-both false b e = let z : _≡_ {A = ℕ} 0 1 = cc in absurd (omega arith)
 
