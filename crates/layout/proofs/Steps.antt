@@ -1,6 +1,6 @@
 -- Laws of the loops over structures and offsets: what is left to look at behind one more, and at the end. Assumes nothing.
 use Prim.Native.Nat.{ℕ, suc, _+_, _≤_, _<_}
-use mathlib.Core.Bool.{Bool, true, false, _&&_, _||_, or-false, and-false}
+use mathlib.Core.Bool.{true, false, _&&_, _||_, or-false, and-false}
 use mathlib.Core.List.{List, [], _∷_, _++_}
 use mathlib.Core.Path.{_≡_, refl, sym, ap, ap₂, _∙_}
 use native.Mathlib.Nat.{add-zero, zero-add}
