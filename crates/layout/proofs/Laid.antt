@@ -102,7 +102,7 @@ module _ {structures : List (List ℕ)} {offsets : List ℕ} (s : List ℕ) (g :
       record {
         whole = whole;
         each = a .each;
-        small = λ k less. g .sound k less .known;
+        small = λ k less. g .sound k less .versioned;
         inside = λ k less. omega (arith, headers-inside k less);
       }
 

@@ -83,7 +83,7 @@ module _ {structures : List (List ℕ)} {offsets s after : List ℕ} (wide : Six
       let at = offsetAt offsets k in
       let small : k < length structures = omega (arith, a .each) in
       header-fields (structureAt structures k) (nextAt offsets k) (byte after at) (byte after (at + 1)) (byte after (at + 2)) (byte after (at + 3))
-      (wide k small) (g .sound k small .known) (next-small k) (laid .3 .headers k h)
+      (wide k small) (g .sound k small .versioned) (next-small k) (laid .3 .headers k h)
 
   -- where each points to
   leads : (k : ℕ) → k < length offsets → follows (describe Extended) after (offsetAt offsets k) ≡ offsetAt offsets (suc k)

@@ -27,13 +27,13 @@ pub record Standing (ended : ℕ) (structure : List ℕ) (at : ℕ) : Type 0 whe
   pub above : ended ≤ at
   pub inside : at + extent structure ≤ 0x1000
 
-pub standing : (ended : ℕ) (structure : List ℕ) (at : ℕ) → mayStand ended structure at ≡ true → Standing ended structure at
+pub standing : (ended : ℕ) (structure : List ℕ) (at : ℕ) → mayStand ended (extent structure) at ≡ true → Standing ended structure at
 standing ended structure at e =
     let a = and-both (eqb (at % 4) 0) (leb ended at && leb (at + extent structure) 0x1000) e in
     let b = and-both (leb ended at) (leb (at + extent structure) 0x1000) (a .1) in
     record { aligned = eqb-true _ _ (a .0); above = leb-true _ _ (b .0); inside = leb-true _ _ (b .1) }
 
-pub stands : {ended : ℕ} {structure : List ℕ} {at : ℕ} → Standing ended structure at → mayStand ended structure at ≡ true
+pub stands : {ended : ℕ} {structure : List ℕ} {at : ℕ} → Standing ended structure at → mayStand ended (extent structure) at ≡ true
 stands {ended} {structure} {at} s = rw (eq-eqb (at % 4) 0 (s .aligned), le-leb ended at (s .above), le-leb (at + extent structure) 0x1000 (s .inside))
 
 -- ---- one before the others
@@ -103,7 +103,7 @@ stand-orderly ended [] [] e = alone ended
 stand-orderly ended [] (at ∷ offsets) e = let z : _≡_ {A = ℕ} 0 1 = cc in absurd (omega arith)
 stand-orderly ended (structure ∷ structures) [] e = let z : _≡_ {A = ℕ} 0 1 = cc in absurd (omega arith)
 stand-orderly ended (structure ∷ structures) (at ∷ offsets) e =
-    let a = and-both (mayStand ended structure at) (standFrom (at + extent structure) structures offsets) e in
+    let a = and-both (mayStand ended (extent structure) at) (standFrom (at + extent structure) structures offsets) e in
     before (standing ended structure at (a .0)) (stand-orderly (at + extent structure) structures offsets (a .1))
 
 pub orderly-stand : (ended : ℕ) (structures : List (List ℕ)) (offsets : List ℕ) → Orderly ended structures offsets

@@ -31,9 +31,19 @@ abbrev pub allRounded : List (List ℕ) → ℕ
 allRounded [] = 0
 allRounded (structure ∷ structures) = roundedUp (extent structure) + allRounded structures
 
--- 3,840 is a multiple of 4, and so are the lengths before the last
+-- 3,840 is a multiple of 4, and so are the rounded lengths before the last
 abbrev pub LastRoundedToo : Type 0
 LastRoundedToo = (structures : List (List ℕ)) → (3840 < needed structures) ↔ (3840 < allRounded structures)
+
+-- nor does it in the checker: where an offset is a multiple of 4, a structure ends by 1000h exactly if it does with its length rounded up
+abbrev pub EndRoundedToo : Type 0
+EndRoundedToo = (at n : ℕ) → at % 4 ≡ 0 → (at + n ≤ 0x1000) ↔ (at + roundedUp n ≤ 0x1000)
+
+-- lengths that round up to the same, before others, need the same
+abbrev pub SameRounded : Type 0
+SameRounded =
+    (one other behind : List ℕ) (rest : List (List ℕ)) → roundedUp (extent one) ≡ roundedUp (extent other)
+    → needed (one ∷ behind ∷ rest) ≡ needed (other ∷ behind ∷ rest)
 
 -- ---- packed offsets are in order
 
@@ -163,3 +173,9 @@ pub last-rounded-too : LastRoundedToo
 last-rounded-too [] = ((λ h. h), (λ h. h))
 last-rounded-too (structure ∷ structures) =
     let e = rounded-last structure structures in ((λ h. omega (arith, e)), (λ h. omega (arith, e)))
+
+pub end-rounded-too : EndRoundedToo
+end-rounded-too at n a = ((λ h. omega arith), (λ h. omega arith))
+
+pub same-rounded : SameRounded
+same-rounded one other behind rest e = ap (λ (n : ℕ). n + neededBy behind rest) e

@@ -16,7 +16,7 @@ use Rattle.layout.specs.Structures.{identity, version, extent, structure
 -- what makes a structure a bad one
 pub data Faulty (structure : List ℕ) : Type 0 where
   unnamed : identity structure ≡ 0 → Faulty structure
-  late : 15 < version structure → Faulty structure
+  overVersioned : 15 < version structure → Faulty structure
   short : extent structure < 4 → Faulty structure
   long : 3840 < extent structure → Faulty structure
 
@@ -34,7 +34,7 @@ BadExactly = (structures : List (List ℕ)) → (areBad structures ≡ true) ↔
 
 pub record Sound (structure : List ℕ) : Type 0 where
   pub named : identity structure ≡ 0 → ⊥
-  pub known : version structure ≤ 15
+  pub versioned : version structure ≤ 15
   pub least : 4 ≤ extent structure
   pub most : extent structure ≤ 3840
 
@@ -58,7 +58,7 @@ is-sound structure e =
     let n = none-of (eqb (identity structure) 0 ∷ ltb 15 (version structure) ∷ ltb (extent structure) 4 ∷ ltb 3840 (extent structure) ∷ []) e in
     record {
       named = eqb-false _ _ (n .0);
-      known = ltb-false _ _ (n .1 .0);
+      versioned = ltb-false _ _ (n .1 .0);
       least = ltb-false _ _ (n .1 .1 .0);
       most = ltb-false _ _ (n .1 .1 .1 .0);
     }
@@ -68,7 +68,7 @@ unfolding isBad
 is-faulty structure e =
     tested (eqb (identity structure) 0) (λ t. unnamed (eqb-true _ _ t))
     (λ f.
-    tested (ltb 15 (version structure)) (λ t. late (ltb-true _ _ t))
+    tested (ltb 15 (version structure)) (λ t. overVersioned (ltb-true _ _ t))
     (λ g. tested (ltb (extent structure) 4) (λ t. short (ltb-true _ _ t)) (λ h. long (ltb-true _ _ (last f g h)))))
   where
     last : eqb (identity structure) 0 ≡ false → ltb 15 (version structure) ≡ false → ltb (extent structure) 4 ≡ false
@@ -81,7 +81,7 @@ is-faulty structure e =
 
 never-both : {structure : List ℕ} → Faulty structure → Sound structure → ⊥
 never-both (unnamed e) s = s .named e
-never-both (late h) s = omega (arith, s .known)
+never-both (overVersioned h) s = omega (arith, s .versioned)
 never-both (short h) s = omega (arith, s .least)
 never-both (long h) s = omega (arith, s .most)
 

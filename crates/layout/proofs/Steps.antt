@@ -49,7 +49,7 @@ uneven ended [] [] n = absurd (n refl)
 uneven ended [] (at ∷ offsets) n = refl
 uneven ended (structure ∷ structures) [] n = refl
 uneven ended (structure ∷ structures) (at ∷ offsets) n =
-    rw (uneven (at + extent structure) structures offsets (λ e. n (ap suc e))) (and-false (mayStand ended structure at))
+    rw (uneven (at + extent structure) structures offsets (λ e. n (ap suc e))) (and-false (mayStand ended (extent structure) at))
 
 pub none-first : (offsets : List ℕ) → length offsets ≡ 0 → offsetAt offsets 0 ≡ 0
 none-first [] e = refl
@@ -58,18 +58,18 @@ none-first (at ∷ offsets) e = absurd (omega arith)
 module _ (structures : List (List ℕ)) (offsets : List ℕ) (ended place : ℕ) (same : length offsets ≡ length structures) where
   stand-next : place < length offsets
       → standFrom ended (drop place structures) (drop place offsets)
-      ≡ mayStand ended (structureAt structures place) (offsetAt offsets place)
+      ≡ mayStand ended (extent (structureAt structures place)) (offsetAt offsets place)
       && standFrom (offsetAt offsets place + extent (structureAt structures place)) (drop (suc place) structures) (drop (suc place) offsets)
   unfolding standFrom
   stand-next here =
       ap₂ (standFrom ended) (drop-cons structures place [] (omega arith)) (drop-cons offsets place 0 here)
 
-  pub stands-on : place < length offsets → mayStand ended (structureAt structures place) (offsetAt offsets place) ≡ true
+  pub stands-on : place < length offsets → mayStand ended (extent (structureAt structures place)) (offsetAt offsets place) ≡ true
       → standFrom (offsetAt offsets place + extent (structureAt structures place)) (drop (place + 1) structures) (drop (place + 1) offsets)
       ≡ standFrom ended (drop place structures) (drop place offsets)
   stands-on here e = rw (add-one place) (sym (rw e at (stand-next here)))
 
-  pub stands-not : place < length offsets → mayStand ended (structureAt structures place) (offsetAt offsets place) ≡ false
+  pub stands-not : place < length offsets → mayStand ended (extent (structureAt structures place)) (offsetAt offsets place) ≡ false
       → false ≡ standFrom ended (drop place structures) (drop place offsets)
   stands-not here e = sym (rw e at (stand-next here))
 

@@ -16,9 +16,9 @@ use Rattle.answers.proofs.Unique.{answer-tells}
 use Rattle.words.specs.Bytes.{byte, four}
 use Rattle.words.proofs.Laws.{four-at}
 use Rattle.layout.specs.Structures.{areBad}
-use Rattle.layout.specs.Accepting.{offsetAt, Checks, Checks.misdescribed, Checks.unaccepted, Checks.accepted}
-use Rattle.layout.specs.Proposing.{Lowest, RefusesRoom, Plans, Plans.misdescribed, Plans.roomless, Plans.unplaced, Plans.proposed}
-use Rattle.layout.specs.Laying.{InHeader, Written, RefusesSpace, Writes, Writes.misdescribed, Writes.unaccepted, Writes.written}
+use Rattle.layout.specs.Accepting.{offsetAt, Checks, Checks.misdescribed, Checks.unaccepted, Checks.accepted, Refuses}
+use Rattle.layout.specs.Proposing.{Lowest, Plans, Plans.misdescribed, Plans.roomless, Plans.unplaced, Plans.proposed}
+use Rattle.layout.specs.Laying.{InHeader, Written, Writes, Writes.misdescribed, Writes.unaccepted, Writes.written}
 use Rattle.layout.proofs.Sound.{tested}
 
 -- the statements
@@ -66,21 +66,21 @@ lowest-unique {a = a} {b = b} x y =
     let high = y .lowest a (x .acceptable) k (omega arith) in
     omega arith)
 
-refused-room : {n : ℕ} {room l m : List ℕ} {r q : Answer} → RefusesRoom n room r l → RefusesRoom n room q m → (r ≡ q) × (l ≡ m)
-refused-room a b = (same (a .given) (b .given), a .kept ∙ sym (b .kept))
+refused-same : {n : ℕ} {lent l m : List ℕ} {r q : Answer} → Refuses n lent r l → Refuses n lent q m → (r ≡ q) × (l ≡ m)
+refused-same a b = (same (a .given) (b .given), a .kept ∙ sym (b .kept))
 
 pub plan-unique : PlanUnique
-plan-unique structures room r q l m (misdescribed bad a) (misdescribed x b) = refused-room a b
+plan-unique structures room r q l m (misdescribed bad a) (misdescribed x b) = refused-same a b
 plan-unique structures room r q l m (misdescribed bad a) (roomless good h b) = absurd (unlike bad good)
 plan-unique structures room r q l m (misdescribed bad a) (unplaced good h n b) = absurd (unlike bad good)
 plan-unique structures room r q l m (misdescribed bad a) (proposed good h o low e f) = absurd (unlike bad good)
 plan-unique structures room r q l m (roomless good h a) (misdescribed bad b) = absurd (unlike bad good)
-plan-unique structures room r q l m (roomless good h a) (roomless x k b) = refused-room a b
+plan-unique structures room r q l m (roomless good h a) (roomless x k b) = refused-same a b
 plan-unique structures room r q l m (roomless good h a) (unplaced x k n b) = absurd (omega arith)
 plan-unique structures room r q l m (roomless good h a) (proposed x k o low e f) = absurd (omega arith)
 plan-unique structures room r q l m (unplaced good h n a) (misdescribed bad b) = absurd (unlike bad good)
 plan-unique structures room r q l m (unplaced good h n a) (roomless x k b) = absurd (omega arith)
-plan-unique structures room r q l m (unplaced good h n a) (unplaced x k o b) = refused-room a b
+plan-unique structures room r q l m (unplaced good h n a) (unplaced x k o b) = refused-same a b
 plan-unique structures room r q l m (unplaced good h n a) (proposed x k o low e f) = absurd (n o (low .acceptable))
 plan-unique structures room r q l m (proposed good h o low e f) (misdescribed bad b) = absurd (unlike bad good)
 plan-unique structures room r q l m (proposed good h o low e f) (roomless x k b) = absurd (omega arith)
@@ -125,20 +125,17 @@ written-unique {offsets = offsets} {l = l} {m = m} a b =
         ap (byte l) split ∙ sym (four-at l at (place - at) less) ∙ ap (λ (w : List ℕ). byte w (place - at)) words ∙ four-at m at (place - at) less
         ∙ ap (byte m) (sym split)
 
-refused-space : {n : ℕ} {s l m : List ℕ} {r q : Answer} → RefusesSpace n s r l → RefusesSpace n s q m → (r ≡ q) × (l ≡ m)
-refused-space a b = (same (a .given) (b .given), a .kept ∙ sym (b .kept))
-
 -- a cause of 1 is there, or none is
 pub blamed : (structures : List (List ℕ)) (s : List ℕ) → (length s ≡ 4096 → ⊥) ⊎ (areBad structures ≡ true) → length s ≡ 4096
     → areBad structures ≡ false → ⊥
 blamed structures s cause whole good = ⊎-elim (λ n. n whole) (λ bad. unlike bad good) cause
 
 pub write-unique : WriteUnique
-write-unique structures offsets s r q l m (misdescribed x a) (misdescribed y b) = refused-space a b
+write-unique structures offsets s r q l m (misdescribed x a) (misdescribed y b) = refused-same a b
 write-unique structures offsets s r q l m (misdescribed x a) (unaccepted whole good n b) = absurd (blamed structures s x whole good)
 write-unique structures offsets s r q l m (misdescribed x a) (written whole good n e w) = absurd (blamed structures s x whole good)
 write-unique structures offsets s r q l m (unaccepted whole good n a) (misdescribed x b) = absurd (blamed structures s x whole good)
-write-unique structures offsets s r q l m (unaccepted whole good n a) (unaccepted h g k b) = refused-space a b
+write-unique structures offsets s r q l m (unaccepted whole good n a) (unaccepted h g k b) = refused-same a b
 write-unique structures offsets s r q l m (unaccepted whole good n a) (written h g k e w) = absurd (n k)
 write-unique structures offsets s r q l m (written whole good n e w) (misdescribed x b) = absurd (blamed structures s x whole good)
 write-unique structures offsets s r q l m (written whole good n e w) (unaccepted h g k b) = absurd (k n)

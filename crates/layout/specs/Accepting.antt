@@ -36,6 +36,11 @@ pub record Acceptable (structures : List (List ℕ)) (offsets : List ℕ) : Type
   -- "and all end by 1000h"
   pub inside : (k : ℕ) → k < length offsets → endAt structures offsets k ≤ 0x1000
 
+-- "Every number but 0 leaves spaces [..] and list room unchanged": of a room or a space, as lent and afterwards
+pub record Refuses (number : ℕ) (lent : List ℕ) (r : Answer) (after : List ℕ) : Type 0 where
+  pub given : answerOf r ≡ number
+  pub kept : after ≡ lent
+
 -- the promise of `check`: 1 the structures, 18 a proposal that is not acceptable, 0 one that is
 pub data Checks (structures : List (List ℕ)) (offsets : List ℕ) (r : Answer) : Type 0 where
   misdescribed : areBad structures ≡ true → answerOf r ≡ 1 → Checks structures offsets r

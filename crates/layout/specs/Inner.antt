@@ -11,16 +11,16 @@ use Rattle.layout.specs.Accepting.{offsetAt}
 use Rattle.layout.specs.Proposing.{roundedUp}
 use Rattle.layout.specs.Laying.{fourOf, headerWord}
 
--- a structure at an offset: a multiple of 4, where all before have ended, and it ends by 1000h
-abbrev pub mayStand : ℕ → List ℕ → ℕ → Bool
-mayStand ended structure at = eqb (at % 4) 0 && (leb ended at && leb (at + extent structure) 0x1000)
+-- a structure of this length at an offset: a multiple of 4, where all before have ended, and it ends by 1000h
+abbrev pub mayStand : ℕ → ℕ → ℕ → Bool
+mayStand ended size at = eqb (at % 4) 0 && (leb ended at && leb (at + size) 0x1000)
 
 -- one offset a structure, each where it may stand
 unfoldable pub standFrom : ℕ → List (List ℕ) → List ℕ → Bool
 standFrom ended [] [] = true
 standFrom ended [] (at ∷ offsets) = false
 standFrom ended (structure ∷ structures) [] = false
-standFrom ended (structure ∷ structures) (at ∷ offsets) = mayStand ended structure at && standFrom (at + extent structure) structures offsets
+standFrom ended (structure ∷ structures) (at ∷ offsets) = mayStand ended (extent structure) at && standFrom (at + extent structure) structures offsets
 
 -- and the first at 100h
 unfoldable pub accepts : List (List ℕ) → List ℕ → Bool

@@ -9,7 +9,7 @@ use Rattle.answers.specs.Numbers.{answerOf}
 use Rattle.answers.specs.declared.Answer.{Answer}
 use Rattle.words.specs.Bytes.{byte, four}
 use Rattle.layout.specs.Structures.{identity, version, structureAt, areBad}
-use Rattle.layout.specs.Accepting.{offsetAt, Acceptable}
+use Rattle.layout.specs.Accepting.{offsetAt, Acceptable, Refuses}
 
 -- document 01, "ID 15:0, version 19:16, next 31:20": the header of a structure that points to an offset
 abbrev pub headerWord : List ℕ → ℕ → ℕ
@@ -36,15 +36,10 @@ pub record Written (structures : List (List ℕ)) (offsets s after : List ℕ) :
   pub headers : (k : ℕ) → k < length offsets → four after (offsetAt offsets k) ≡ fourOf (headerWord (structureAt structures k) (nextAt offsets k))
   pub others : (place : ℕ) → (InHeader offsets place → ⊥) → byte after place ≡ byte s place
 
--- "Every number but 0 leaves spaces [..] unchanged"
-pub record RefusesSpace (number : ℕ) (s : List ℕ) (r : Answer) (after : List ℕ) : Type 0 where
-  pub given : answerOf r ≡ number
-  pub kept : after ≡ s
-
 -- the promise of `write`: 1 the space or the structures, 18 "One the checker doesn't accept is refused there with 18 and changes nothing", 0 the headers are written
 pub data Writes (structures : List (List ℕ)) (offsets s : List ℕ) (r : Answer) (after : List ℕ) : Type 0 where
-  misdescribed : (length s ≡ 4096 → ⊥) ⊎ (areBad structures ≡ true) → RefusesSpace 1 s r after → Writes structures offsets s r after
-  unaccepted : length s ≡ 4096 → areBad structures ≡ false → (Acceptable structures offsets → ⊥) → RefusesSpace 18 s r after
+  misdescribed : (length s ≡ 4096 → ⊥) ⊎ (areBad structures ≡ true) → Refuses 1 s r after → Writes structures offsets s r after
+  unaccepted : length s ≡ 4096 → areBad structures ≡ false → (Acceptable structures offsets → ⊥) → Refuses 18 s r after
       → Writes structures offsets s r after
   written : length s ≡ 4096 → areBad structures ≡ false → Acceptable structures offsets → answerOf r ≡ 0 → Written structures offsets s after
       → Writes structures offsets s r after

@@ -7,7 +7,7 @@ use lib.ListN.{length, drop}
 use Rattle.answers.specs.Numbers.{answerOf}
 use Rattle.answers.specs.declared.Answer.{Answer}
 use Rattle.layout.specs.Structures.{extent, areBad}
-use Rattle.layout.specs.Accepting.{offsetAt, Acceptable}
+use Rattle.layout.specs.Accepting.{offsetAt, Acceptable, Refuses}
 
 -- "no such proposal exists"
 abbrev pub NoneAcceptable : List (List ℕ) → Type 0
@@ -26,21 +26,16 @@ abbrev pub needed : List (List ℕ) → ℕ
 needed [] = 0
 needed (structure ∷ rest) = neededBy structure rest
 
--- the proposal that lies lowest: it is acceptable, and every acceptable one lies, offset by offset, at or above it
+-- which one is proposed, the request leaves open (DECISIONS 84): the lowest. It is acceptable, and every acceptable one lies, offset by offset, at or above it
 pub record Lowest (structures : List (List ℕ)) (offsets : List ℕ) : Type 0 where
   pub acceptable : Acceptable structures offsets
   pub lowest : (others : List ℕ) → Acceptable structures others → (k : ℕ) → k < length structures → offsetAt offsets k ≤ offsetAt others k
 
--- "Every number but 0 leaves [the] list room unchanged"
-pub record RefusesRoom (number : ℕ) (room : List ℕ) (r : Answer) (after : List ℕ) : Type 0 where
-  pub given : answerOf r ≡ number
-  pub kept : after ≡ room
-
 -- the promise of `plan`: 1 the structures, 2 "offset room below the count", 14 "exactly if no such proposal exists", 0 a proposal, with the rest of the room as it was
 pub data Plans (structures : List (List ℕ)) (room : List ℕ) (r : Answer) (after : List ℕ) : Type 0 where
-  misdescribed : areBad structures ≡ true → RefusesRoom 1 room r after → Plans structures room r after
-  roomless : areBad structures ≡ false → length room < length structures → RefusesRoom 2 room r after → Plans structures room r after
-  unplaced : areBad structures ≡ false → length structures ≤ length room → NoneAcceptable structures → RefusesRoom 14 room r after
+  misdescribed : areBad structures ≡ true → Refuses 1 room r after → Plans structures room r after
+  roomless : areBad structures ≡ false → length room < length structures → Refuses 2 room r after → Plans structures room r after
+  unplaced : areBad structures ≡ false → length structures ≤ length room → NoneAcceptable structures → Refuses 14 room r after
       → Plans structures room r after
   proposed : areBad structures ≡ false → length structures ≤ length room → (offsets : List ℕ) → Lowest structures offsets → answerOf r ≡ 0
       → after ≡ offsets ++ drop (length offsets) room → Plans structures room r after

@@ -22,9 +22,9 @@ pub fn check(structures: &[Structure], offsets: &[u16]) -> Answer
     Answer::Refused(Refusal::NotAccepted)
 }
 
-// Whether a structure may stand at an offset: a multiple of 4, where all before it have ended, and it ends by 1000h.
-fn may_stand(structure: Structure, at: u16, ended: usize) -> bool
-    ensures { λ r. ⌜ r ≡ mayStand ended structure at ⌝ }
+// Whether a structure of this length may stand at an offset: a multiple of 4, where all before it have ended, and it ends by 1000h.
+fn may_stand(ended: usize, length: u16, at: u16) -> bool
+    ensures { λ r. ⌜ r ≡ mayStand ended length at ⌝ }
 {
     if at & 3 != 0 {
         return false;
@@ -32,7 +32,7 @@ fn may_stand(structure: Structure, at: u16, ended: usize) -> bool
     if (at as usize) < ended {
         return false;
     }
-    structures::ends_at(at as usize, structure[LENGTH]) <= words::SPACE
+    structures::ends_at(at as usize, length) <= words::SPACE
 }
 
 // One offset a structure, the first at 100h, and each where it may stand.
@@ -52,11 +52,12 @@ fn accepts(structures: &[Structure], offsets: &[u16]) -> bool
     let mut place = 0;
     while place < offsets.len() {
         let structure = structures[place];
+        let length = structure[LENGTH];
         let at = offsets[place];
-        if !may_stand(structure, at, ended) {
+        if !may_stand(ended, length, at) {
             return false;
         }
-        ended = structures::ends_at(at as usize, structure[LENGTH]);
+        ended = structures::ends_at(at as usize, length);
         place += 1;
     }
     true

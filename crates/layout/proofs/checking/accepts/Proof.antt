@@ -47,6 +47,9 @@ mul-structure c = search needs
 shared-slice-copy-out-structure : tie.Need-shared-slice-copy-out-structure Inv-loop μ-loop
 shared-slice-copy-out-structure c = search needs
 
+array-read-length : tie.Need-array-read-length Inv-loop μ-loop
+array-read-length c = search needs
+
 mul-at : tie.Need-mul-at Inv-loop μ-loop
 mul-at c = search needs
 
@@ -63,9 +66,6 @@ returns-4 c =
 
 cast-ends-at : tie.Need-cast-ends-at Inv-loop μ-loop
 cast-ends-at c = omega (arith, c .before .before .shared-slice-known3 .given (c .before .before .before .before .before .loop .place))
-
-array-read-ends-at : tie.Need-array-read-ends-at Inv-loop μ-loop
-array-read-ends-at c = search needs
 
 ends-at-requires : tie.Need-ends-at-requires Inv-loop μ-loop
 ends-at-requires c κs = omega (arith, c .before .before .shared-slice-known3 .given (c .before .before .before .before .before .loop .place))
@@ -102,12 +102,12 @@ accepts-spec =
     loop-holds
     mul-structure
     shared-slice-copy-out-structure
+    array-read-length
     mul-at
     shared-slice-read-at
     may-stand-requires
     returns-4
     cast-ends-at
-    array-read-ends-at
     ends-at-requires
     add-place
     loop-less

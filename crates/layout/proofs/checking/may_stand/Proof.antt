@@ -15,9 +15,6 @@ returns-2 c =
     let a = c .before .before .args in
     rw (eq-eqb (a .at % 4) 0 (sym (and-mask (a .at) 2) ∙ c .before .if1 .left), lt-leb (a .ended) (a .at) (c .if2 .taken))
 
-array-read-ends-at : tie.Need-array-read-ends-at
-array-read-ends-at c = search needs
-
 ends-at-requires : tie.Need-ends-at-requires
 ends-at-requires c κs = search needs
 
@@ -28,4 +25,4 @@ returns-3 c =
 
 pub may-stand-spec : {M : Type 1} → statement M
 may-stand-spec =
-    tie.close (tie.spec returns returns-2 array-read-ends-at ends-at-requires returns-3)
+    tie.close (tie.spec returns returns-2 ends-at-requires returns-3)
