@@ -1,5 +1,5 @@
 -- THEOREMS. What has been written is listed as given, as the tenth request of document 02 wants it: whatever else the space held, every walk of its extended list with room enough
--- answers 0 with exactly these offsets, and the header at each has the ID and the version given. The compatible list is as it was. Assumes nothing.
+-- answers 0 with exactly these offsets, and the header at each has the ID and the version given. The compatible list is as it was, and every byte below 100h. Assumes nothing.
 use Prim.Native.Nat.{ℕ, zero, suc, _+_, _%_, _≤_, _<_}
 use mathlib.Core.Bool.{false}
 use mathlib.Core.List.{List, [], _∷_}
@@ -9,6 +9,7 @@ use native.Mathlib.Omega.{arith}
 use borrow.Author.Tests.{ltb-true, ltb-false}
 use lib.Dec.{ltb, lit≤}
 use lib.ListN.{length, List·getD-eq-default}
+use Rattle.answers.specs.Numbers.{answerOf}
 use Rattle.answers.specs.declared.Answer.{Answer}
 use Rattle.words.specs.Bytes.{byte}
 use Rattle.words.specs.Fields.{bits, word}
@@ -33,21 +34,18 @@ use Rattle.layout.proofs.Sound.{Given, given, tested}
 abbrev pub SixteenBits : List (List ℕ) → Type 0
 SixteenBits structures = (k : ℕ) → k < length structures → identity (structureAt structures k) < 65536
 
--- a layout that was written: the answer of `write` was 0
-abbrev pub Laid : List (List ℕ) → List ℕ → List ℕ → List ℕ → Type 0
-Laid structures offsets s after = (areBad structures ≡ false) × Acceptable structures offsets × (length s ≡ 4096) × Written structures offsets s after
-
--- the statements. "the walker must list it as given": the offsets
+-- the statements, of any layout that `write` answered with 0. "the walker must list it as given": the offsets
 abbrev pub WalkedAsGiven : Type 0
 WalkedAsGiven =
-    (structures : List (List ℕ)) (offsets s after : List ℕ) → SixteenBits structures → Laid structures offsets s after
-    → (room : List ℕ) (r : Walked) (left : List ℕ) → Roomy Extended room → Walks Extended after room r left → Lists offsets room r left
+    (structures : List (List ℕ)) (offsets s : List ℕ) (r : Answer) (after : List ℕ) → SixteenBits structures → Writes structures offsets s r after
+    → answerOf r ≡ 0 → (room : List ℕ) (q : Walked) (left : List ℕ) → Roomy Extended room → Walks Extended after room q left
+    → Lists offsets room q left
 
 -- and the header at each of them
 abbrev pub HeadedAsGiven : Type 0
 HeadedAsGiven =
-    (structures : List (List ℕ)) (offsets s after : List ℕ) → SixteenBits structures → Laid structures offsets s after → (k : ℕ)
-    → k < length offsets
+    (structures : List (List ℕ)) (offsets s : List ℕ) (r : Answer) (after : List ℕ) → SixteenBits structures → Writes structures offsets s r after
+    → answerOf r ≡ 0 → (k : ℕ) → k < length offsets
     → Fields (word after (offsetAt offsets k)) (identity (structureAt structures k)) (version (structureAt structures k)) (nextAt offsets k)
 
 -- the compatible list, also where nothing was written
@@ -55,6 +53,24 @@ abbrev pub CompatibleAsWas : Type 0
 CompatibleAsWas =
     (structures : List (List ℕ)) (offsets s after : List ℕ) (r : Answer) → Bytes s → Writes structures offsets s r after
     → (room : List ℕ) (q : Walked) (left : List ℕ) → Walks Compatible s room q left ↔ Walks Compatible after room q left
+
+-- with the ID of each of its headers: no byte below 100h changes
+abbrev pub BelowAsWas : Type 0
+BelowAsWas =
+    (structures : List (List ℕ)) (offsets s : List ℕ) (r : Answer) (after : List ℕ) → Writes structures offsets s r after → (place : ℕ)
+    → place < 0x100 → byte after place ≡ byte s place
+
+-- ---- what an answer 0 says
+
+-- a layout that was written
+abbrev pub Laid : List (List ℕ) → List ℕ → List ℕ → List ℕ → Type 0
+Laid structures offsets s after = (areBad structures ≡ false) × Acceptable structures offsets × (length s ≡ 4096) × Written structures offsets s after
+
+laid-by : {structures : List (List ℕ)} {offsets s : List ℕ} {r : Answer} {after : List ℕ} → Writes structures offsets s r after → answerOf r ≡ 0
+    → Laid structures offsets s after
+laid-by (misdescribed cause a) z = absurd (omega (arith, a .given))
+laid-by (unaccepted whole good n a) z = absurd (omega (arith, a .given))
+laid-by (written whole good fine e w) z = (good, fine, whole, w)
 
 -- ---- the headers
 
@@ -118,15 +134,18 @@ module _ {structures : List (List ℕ)} {offsets s after : List ℕ} (wide : Six
       (chained after offsets (leads wide laid) (floored wide laid))
 
 pub headed-as-given : HeadedAsGiven
-headed-as-given structures offsets s after wide laid = fields wide laid
+headed-as-given structures offsets s r after wide x z = fields wide (laid-by x z)
+
+laid-walks : {structures : List (List ℕ)} {offsets s after : List ℕ} → SixteenBits structures → Laid structures offsets s after → {room : List ℕ}
+    {q : Walked} {left : List ℕ} → Roomy Extended room → Walks Extended after room q left → Lists offsets room q left
+laid-walks wide laid roomy (misdescribed n x) = absurd (n (laid .3 .sized ∙ laid .2))
+laid-walks wide laid roomy (roomless h n x) = absurd (n roomy)
+laid-walks {offsets = offsets} wide laid roomy (broken h k number place b x) = absurd (breaks-unending b offsets (laid-chain wide laid))
+laid-walks wide laid {room} {q} {left} roomy (listed h k chain l x) =
+    subst (λ (c : List ℕ). Lists c room q left) (legal-unique l (laid-chain wide laid)) x
 
 pub walked-as-given : WalkedAsGiven
-walked-as-given structures offsets s after wide laid room r left roomy (misdescribed n x) = absurd (n (laid .3 .sized ∙ laid .2))
-walked-as-given structures offsets s after wide laid room r left roomy (roomless h n x) = absurd (n roomy)
-walked-as-given structures offsets s after wide laid room r left roomy (broken h k number place b x) =
-    absurd (breaks-unending b offsets (laid-chain wide laid))
-walked-as-given structures offsets s after wide laid room r left roomy (listed h k chain l x) =
-    subst (λ (c : List ℕ). Lists c room r left) (legal-unique l (laid-chain wide laid)) x
+walked-as-given structures offsets s r after wide x z room q left roomy w = laid-walks wide (laid-by x z) roomy w
 
 -- ---- the compatible list, in spaces that are the same below 100h
 
@@ -197,3 +216,8 @@ compatible-as-was structures offsets s after r bytes (unaccepted whole good n e)
 compatible-as-was structures offsets s after r bytes (written whole good fine e w) room q left =
     let size = sym (w .sized) in
     (walks-over s after bytes size (kept-below fine w), walks-back s after bytes size (kept-below fine w))
+
+pub below-as-was : BelowAsWas
+below-as-was structures offsets s r after (misdescribed x e) place small = ap (λ (l : List ℕ). byte l place) (e .kept)
+below-as-was structures offsets s r after (unaccepted whole good n e) place small = ap (λ (l : List ℕ). byte l place) (e .kept)
+below-as-was structures offsets s r after (written whole good fine e w) place small = sym (kept-below fine w place small)
