@@ -16,7 +16,6 @@ use crate::unlaid;
 use crate::vocabulary;
 use crate::walking;
 use crate::wording;
-use crate::wording::say;
 use crate::wording::say_one;
 use answers::Answer;
 use answers::Refusal;
@@ -53,7 +52,7 @@ pub fn ask(
     }
     planning::put_number(tokens, answer.number());
     tell(answer, list, proposed, spaces::lent(desk, store, base));
-    tell_changes(desk, &before, store);
+    spaces::tell_changes(desk, &before, store);
     false
 }
 
@@ -93,12 +92,6 @@ fn tell_refused(refusal: Refusal, list: &[Structure], proposed: &[u16], size: us
         unlaid::tell(refusal, list, proposed, 0);
     } else {
         say_one(wording::OTHER_SIZE, size);
-    }
-}
-
-fn tell_changes(desk: &Desk, before: &Store, after: &Store) {
-    if spaces::tell_differences(desk, false, before, after) == 0 {
-        say(wording::UNCHANGED);
     }
 }
 

@@ -135,9 +135,7 @@ fn answer(desk: &Desk, tokens: &Tokens, served: Served, before: &Store, after: &
 // What became of the packet, and every byte that is another.
 pub fn tell(desk: &Desk, served: Served, before: &Store, after: &Store) {
     explaining::packet(desk, served, after);
-    if spaces::tell_differences(desk, false, before, after) == 0 {
-        say(wording::UNCHANGED);
-    }
+    spaces::tell_changes(desk, before, after);
 }
 
 // Every byte as before, except those that are expected to be others.

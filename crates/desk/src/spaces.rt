@@ -150,6 +150,13 @@ pub fn tell_differences(desk: &Desk, judging: bool, one: &Store, other: &Store) 
     told
 }
 
+// Tells every word that has changed, or that none has.
+pub fn tell_changes(desk: &Desk, before: &Store, after: &Store) {
+    if tell_differences(desk, false, before, after) == 0 {
+        say(wording::UNCHANGED);
+    }
+}
+
 fn tell_place(desk: &Desk, judging: bool, word: usize) {
     if judging {
         judging::begin_difference(desk);
