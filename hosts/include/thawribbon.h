@@ -95,8 +95,8 @@ enum thawribbon_number {
        none of the six, its device is over 31, its function over 7, its offset over FFCh or not a multiple of 4, or its enables over 15; at
        thawribbon_board_ask, also where what is heard overlaps the board; of an address to be judged, the list has over 32 ports, the packet
        enters by none of them, or a port's fields are such as no reading gives (rule 12.4); of structures to be laid out, there are none or
-       over 960, an ID is 0000h, a version over 15, or a length outside 4 to 3,840, and where they are to be written, also where the space
-       isn't 4,096 bytes; at thawribbon_layout_lay, also where buffers overlap */
+       over 960, an ID is 0000h, a version over 15, or a length outside 4 to 3,840 (rule 13.1), and where they are to be written, also where
+       the space isn't 4,096 bytes; at thawribbon_layout_lay, also where buffers overlap */
     THAWRIBBON_BAD_DESCRIPTION = 1,
     /* the reply is under 16 bytes, the list room is under the list's maximum, the buffer for what leaves is under 20 bytes, the buffer for a
        request is shorter than the request, or the room for a layout has fewer numbers than there are structures */
@@ -124,9 +124,9 @@ enum thawribbon_number {
     /* of a Multicast capability, Num Group is over Max Group, or it is enabled with an Index Position under 12 (rule 12.2) */
     THAWRIBBON_WRONG_GROUPS = 13,
     /* of structures to be laid out, no layout is acceptable: their lengths before the last, each rounded up to 4, plus the last as it stands
-       exceed 3,840 */
+       exceed 3,840 (rule 13.5) */
     THAWRIBBON_NO_LAYOUT = 14,
-    /* of a layout, the checker does not accept it */
+    /* of a layout, the checker does not accept it (rule 13.2) */
     THAWRIBBON_NOT_ACCEPTED = 18
 };
 
