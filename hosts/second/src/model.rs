@@ -1,19 +1,24 @@
 //! Document 01's rules, one module for each of its sections: packets, lists and records, as the requests 2/13, 3/13,
-//! 6/13, 7/13 and 9/13 change them. And the requests 1/13, the router, 5/13, the asking side, and 8/13, Multicast.
+//! 6/13, 7/13 and 9/13 change them. And the requests 1/13, the router, 5/13, the asking side, 8/13, Multicast, and 10/13,
+//! the planner.
 //!
 //! Every function answers every input. A number other than 0 leaves all that was lent as it was.
 
+mod accept;
 mod ask;
+mod claims;
 mod completion;
 mod description;
 mod dual_bdf;
 mod dvsec;
 mod edition;
+mod headers;
 mod hear;
 mod judge;
 mod marks;
 mod merge;
 mod multicast;
+mod plan;
 mod ports;
 mod refusal;
 mod request;
@@ -21,6 +26,7 @@ mod route;
 mod ruled;
 mod serve;
 mod space;
+mod structures;
 mod walk;
 
 #[cfg(test)]
@@ -36,6 +42,8 @@ mod checked;
 #[cfg(test)]
 mod editions;
 #[cfg(test)]
+mod new_board;
+#[cfg(test)]
 mod null;
 #[cfg(test)]
 mod radar;
@@ -46,16 +54,20 @@ mod status_bits;
 #[cfg(test)]
 mod whole_words;
 
+pub use accept::check_layout;
 pub use ask::{Parts, Written, write_request};
 pub use description::Description;
 pub use dual_bdf::{Alternate, dual_bdf};
 pub use dvsec::{Dvsec, dvsec, dvsec_body};
 pub use edition::counts_as_trusted;
+pub use headers::write_layout;
 pub use hear::{Heard, Said, read_completion};
 pub use judge::{Judged, Verdict, judge};
 pub use merge::merged;
 pub use multicast::{Groups, Multicast, multicast};
+pub use plan::plan_layout;
 pub use ports::Port;
 pub use route::{Routed, route};
 pub use serve::{Served, serve};
+pub use structures::Structure;
 pub use walk::{List, Walked, walk};

@@ -1,6 +1,6 @@
-//! The answer numbers 1 to 13, each with the documents' cause: document 01's 1 to 10, with the causes that the requests
-//! 1/13, 5/13, 6/13, 8/13 and 9/13 add, the 11 and 12 into which request 3/13 splits 7, and the 13 of request 8/13. Number 0 is
-//! the absence of a refusal, and "7 is no longer given".
+//! The answer numbers 1 to 14 and 18, each with the documents' cause: document 01's 1 to 10, with the causes that the
+//! requests 1/13, 5/13, 6/13, 8/13, 9/13 and 10/13 add, the 11 and 12 into which request 3/13 splits 7, the 13 of request
+//! 8/13, and the 14 and 18 of request 10/13. Number 0 is the absence of a refusal, and "7 is no longer given".
 
 /// Why a call is refused. The lowest number that applies is given.
 #[derive(Clone, Copy, Debug, PartialEq, Eq)]
@@ -11,10 +11,12 @@ pub(super) enum Refusal {
     /// of 9/13, "Any other edition"; for a list of ports, "if it is longer than 32, if a secondary exceeds its
     /// subordinate, or if two ranges, ends included, meet"; for one who asks, "a kind outside the six, a device over 31,
     /// a function over 7, an offset over FFCh or not a multiple of 4, or enables over 15"; for the records of ports, "a
-    /// longer list, no such port, or a record the reading can't give"
+    /// longer list, no such port, or a record the reading can't give"; of structures, "Bad counts, versions or lengths",
+    /// and "ID 0000h"
     Outside = 1,
     /// "the reply is under 16 bytes, or the list room is under the list's maximum"; for the router, "What leaves is
-    /// written into a lent buffer; under 20 bytes it is 2"; for one who asks, "a buffer shorter than those bytes"
+    /// written into a lent buffer; under 20 bytes it is 2"; for one who asks, "a buffer shorter than those bytes"; for the
+    /// planner, "offset room below the count"
     Room = 2,
     /// "the packet has fewer than 12 bytes"; of a completion, "under 12 bytes"
     Short = 3,
@@ -39,6 +41,10 @@ pub(super) enum Refusal {
     Again = 12,
     /// Document 02, 8/13: "Num Group over Max Group, or index under 12 while enabled"
     Groups = 13,
+    /// Document 02, 10/13: "no layout"
+    NoLayout = 14,
+    /// Document 02, 10/13: "One the checker doesn't accept"
+    NotAccepted = 18,
 }
 
 impl Refusal {
