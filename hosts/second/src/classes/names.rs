@@ -297,4 +297,7 @@ pub const NOISE: &[&str] = &[
     "read_completion",
     "multicast",
     "judge",
+    "plan_layout",
+    "check_layout",
+    "write_layout",
 ];

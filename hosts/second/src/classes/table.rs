@@ -10,6 +10,10 @@ use super::group::{Classes, Group, Line};
 use super::half::HALF_ANSWERS;
 use super::half_names::DIFFERING;
 use super::judge_names::{EDGES, JUDGE_ANSWERS, JUDGE_CAUSES, JUDGE_TOGETHER, NO_HITS, OTHERS, PORT_SETS};
+use super::layout_names::{
+    DRAFT_AGAIN, DRAFT_FORMS, LAYOUT_ANSWERS, LAYOUT_TOGETHER, LIST_CAUSES, LIST_TWO, LIST_VALUES, PLAN_FORMS,
+    PLAN_ROOMS, PROPOSAL_CAUSES, PROPOSAL_FORMS, WRITTEN_FORMS,
+};
 use super::marked_names::{DOUBLED_PLACES, MARKED, MARKED_UNSUPPORTED, MARKS_FORMS};
 use super::multicast_names::{MULTICAST_CAUSES, MULTICAST_FORMS};
 use super::names::{
@@ -43,7 +47,7 @@ const fn named(group: Group, title: &'static str, names: &'static [&'static str]
 }
 
 /// All groups. "Alone" means that the call has no other cause for a refusal, or for Unsupported Request.
-pub const TABLE: [Line; 195] = [
+pub const TABLE: [Line; 225] = [
     numbered(Group::ServeAnswers, "serve: answers 0 to 6", 7, 1000),
     named(
         Group::ServeCauses,
@@ -289,7 +293,7 @@ pub const TABLE: [Line; 195] = [
     numbered(
         Group::SpaceLengths,
         "all: spaces of 0 to 20 and 4,090 to 4,100",
-        352,
+        384,
         10,
     ),
     numbered(
@@ -973,6 +977,151 @@ pub const TABLE: [Line; 195] = [
         96,
         4,
     ),
+    named(
+        Group::PlanAnswers,
+        "plan_layout: answers 0, 1, 2 and 14",
+        &["0", "1", "2", "14"],
+        1000,
+    ),
+    named(Group::PlanRooms, "plan_layout: rooms for 0 and for 2", PLAN_ROOMS, 2),
+    numbered(Group::PlanCounts, "plan_layout: plans of 1 to 960 structures", 960, 3),
+    numbered(Group::NoLayoutCounts, "plan_layout: 14 for 2 to 960 structures", 959, 2),
+    numbered(
+        Group::PlanSums,
+        "plan_layout: sums around 3,840, numbers of structures",
+        45,
+        2,
+    ),
+    named(
+        Group::PlanForms,
+        "plan_layout: forms of plans, why there is none",
+        PLAN_FORMS,
+        5,
+    ),
+    numbered(
+        Group::PlanOffsets,
+        "plan_layout: each word for the last structure",
+        960,
+        1,
+    ),
+    numbered(
+        Group::PlanSteps,
+        "plan_layout: each length of 4 to 131 of the first",
+        128,
+        1,
+    ),
+    numbered(
+        Group::ListCauses,
+        "layouts: each cause of a bad list alone, three entries",
+        3 * LIST_CAUSES.len(),
+        2,
+    ),
+    numbered(
+        Group::ListAlone,
+        "layouts: ID, version, length with nothing else, entries",
+        9,
+        20,
+    ),
+    numbered(
+        Group::ListPlaces,
+        "layouts: a bad structure at each of 960 places, entries",
+        2880,
+        1,
+    ),
+    numbered(
+        Group::ListForms,
+        "layouts: four causes, where they are, entries",
+        48,
+        10,
+    ),
+    numbered(
+        Group::ListValues,
+        "layouts: wrong versions and lengths, entries",
+        3 * LIST_VALUES.len(),
+        3,
+    ),
+    numbered(
+        Group::ListTwo,
+        "layouts: two causes of a bad list, entries",
+        3 * LIST_TWO.len(),
+        3,
+    ),
+    named(
+        Group::LayoutTogether,
+        "layouts: causes of two numbers together",
+        LAYOUT_TOGETHER,
+        5,
+    ),
+    named(
+        Group::LayoutAnswers,
+        "check_layout, write_layout: answers 0, 1 and 18",
+        LAYOUT_ANSWERS,
+        1000,
+    ),
+    numbered(
+        Group::ProposalCauses,
+        "check_layout, write_layout: each cause of 18 alone",
+        2 * PROPOSAL_CAUSES.len(),
+        2,
+    ),
+    numbered(
+        Group::ProposalTogether,
+        "check_layout, write_layout: two causes of 18 together",
+        40,
+        2,
+    ),
+    numbered(
+        Group::OverlapPairs,
+        "check_layout, write_layout: each two overlap alone",
+        2 * 959,
+        1,
+    ),
+    numbered(
+        Group::UnalignedPlaces,
+        "check_layout, write_layout: each offset of no word",
+        2 * 958,
+        1,
+    ),
+    numbered(
+        Group::FallPairs,
+        "check_layout, write_layout: each two fall alone",
+        2 * 958,
+        1,
+    ),
+    numbered(
+        Group::ProposalForms,
+        "check_layout, write_layout: forms of proposals",
+        2 * PROPOSAL_FORMS.len(),
+        5,
+    ),
+    numbered(
+        Group::AcceptedCounts,
+        "check_layout, write_layout: 0 for 1 to 960 structures",
+        2 * 960,
+        2,
+    ),
+    numbered(
+        Group::HeaderWords,
+        "write_layout: a header at every word from 100h on",
+        960,
+        100,
+    ),
+    numbered(Group::HeaderIds, "write_layout: each bit of an ID", 32, 500),
+    numbered(Group::HeaderVersions, "write_layout: every version", 16, 500),
+    named(
+        Group::WrittenForms,
+        "write_layout: what was met in the space",
+        WRITTEN_FORMS,
+        5,
+    ),
+    named(
+        Group::DraftForms,
+        "draft: planned, checked, written and walked",
+        DRAFT_FORMS,
+        50,
+    ),
+    numbered(Group::DraftLists, "draft: both lists before, written or not", 40, 2),
+    named(Group::DraftAgain, "draft: over a list that was there", DRAFT_AGAIN, 10),
     named(Group::Noise, "all: plain noise (as the generator meant it)", NOISE, 100),
 ];
 

@@ -2,12 +2,14 @@
 
 use std::fmt::{self, Debug, Write};
 
-use thawribbon::raw::{Groups, Port};
+use thawribbon::raw::{Groups, Port, Structure};
 
 use crate::twin::{Twin, word};
 
 /// The most words of a space that are shown.
 const MOST_WORDS: usize = 16;
+/// The most structures of a list that are shown, and the most offsets.
+const MOST_STRUCTURES: usize = 32;
 
 /// A call whose two outcomes are not alike.
 #[derive(Debug)]
@@ -73,6 +75,26 @@ impl Difference {
                 text,
                 "\n    {place:x}: {max_group:x} {num_group:x} {enable:x} {index:x} {base:016x} {receive:016x} {block_all:016x}"
             );
+        }
+        self.inputs.push(text);
+        self
+    }
+
+    /// Adds a list of structures: how many there are, and of the first their numbers, in their order.
+    pub fn structures(mut self, name: &str, structures: &[Structure]) -> Self {
+        let mut text = format!("{name}: {} structures:", structures.len());
+        for Structure { id, version, length } in structures.iter().take(MOST_STRUCTURES) {
+            let _ = write!(text, " ({id:04x} {version:x} {length:x})");
+        }
+        self.inputs.push(text);
+        self
+    }
+
+    /// Adds a list of offsets: how many there are, and the first.
+    pub fn offsets(mut self, name: &str, offsets: &[u16]) -> Self {
+        let mut text = format!("{name}: {} offsets:", offsets.len());
+        for offset in offsets.iter().take(MOST_STRUCTURES) {
+            let _ = write!(text, " {offset:03x}");
         }
         self.inputs.push(text);
         self

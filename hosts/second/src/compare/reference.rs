@@ -11,9 +11,11 @@
 //! The numbers of a Multicast capability are written with every answer. Of an address it is told by 1 that there is no
 //! hit, by 2 that the packet is dropped, by 3 that it leaves, and nothing by 0; the group is 0 with 0 and 1, and there are
 //! ports with 3 only.
+//!
+//! Of a layout only the number is answered: the proposal is in the room, and the headers are in the space.
 
 use thawribbon::raw::{
-    Alternate, Capture, Dvsec, Groups, Heard, Judged, Part, Parts, Port, Routed, Served, Walked, Written,
+    Alternate, Capture, Dvsec, Groups, Heard, Judged, Part, Parts, Port, Routed, Served, Structure, Walked, Written,
 };
 
 use super::subject::{ServeCall, Subject};
@@ -68,6 +70,15 @@ const fn model_groups(groups: &Groups) -> model::Groups {
         receive: groups.receive,
         block_all: groups.block_all,
     }
+}
+
+fn model_structures(structures: &[Structure]) -> Vec<model::Structure> {
+    let model_structure = |structure: &Structure| model::Structure {
+        id: structure.id,
+        version: structure.version,
+        length: structure.length,
+    };
+    structures.iter().map(model_structure).collect()
 }
 
 fn walk(list: List, space: &[u8], room: &mut [u16]) -> Walked {
@@ -198,6 +209,7 @@ impl Subject for Reference {
             data,
         }
     }
+
     fn multicast(&mut self, space: &[u8], at: usize, groups: &mut Groups) -> u8 {
         let read = model::multicast(space, at);
         *groups = Groups {
@@ -227,5 +239,17 @@ impl Subject for Reference {
             verdict,
             group,
         }
+    }
+
+    fn plan_layout(&mut self, structures: &[Structure], room: &mut [u16]) -> u8 {
+        model::plan_layout(&model_structures(structures), room)
+    }
+
+    fn check_layout(&mut self, structures: &[Structure], offsets: &[u16]) -> u8 {
+        model::check_layout(&model_structures(structures), offsets)
+    }
+
+    fn write_layout(&mut self, structures: &[Structure], offsets: &[u16], space: &mut [u8]) -> u8 {
+        model::write_layout(&model_structures(structures), offsets, space)
     }
 }

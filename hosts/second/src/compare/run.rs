@@ -5,8 +5,10 @@ use std::fmt;
 use super::asks::Asks;
 use super::circles::Circles;
 use super::difference::Difference;
+use super::drafts::Drafts;
 use super::halves::Halves;
 use super::judges::Judges;
+use super::layouts::Layouts;
 use super::multicasts::Multicasts;
 use super::onwards::Onwards;
 use super::packets::Packets;
@@ -20,8 +22,9 @@ use crate::generate::{Random, SHAPES};
 
 /// How often each entry is called: serve, reset, the three walks, dvsec, dvsec_body, dual_bdf, route, write_request,
 /// read_completion. Then how often a circle is gone through. Then multicast and judge. Then how often a pair and a half of
-/// demand 3 go a step on, and a packet goes through a router to a board.
-const WEIGHTS: [usize; 17] = [92, 3, 8, 11, 11, 6, 3, 5, 30, 11, 12, 6, 9, 22, 7, 9, 4];
+/// demand 3 go a step on, and a packet goes through a router to a board. Then plan_layout, check_layout and write_layout,
+/// and how often a layout goes through all of them.
+const WEIGHTS: [usize; 21] = [92, 3, 8, 11, 11, 6, 3, 5, 30, 11, 12, 6, 9, 22, 7, 9, 4, 9, 12, 11, 3];
 
 /// Where a run met a difference.
 #[derive(Debug)]
@@ -53,6 +56,8 @@ pub fn run(subject: &mut impl Subject, seed: u64, cases: u64) -> Result<Tally, F
     let mut pairs = Pairs::new();
     let mut halves = Halves::new();
     let mut onwards = Onwards::new();
+    let mut layouts = Layouts::new();
+    let mut drafts = Drafts::new();
     let mut tally = Tally::new();
     for case in 0..cases {
         tally.call();
@@ -71,7 +76,11 @@ pub fn run(subject: &mut impl Subject, seed: u64, cases: u64) -> Result<Tally, F
             13 => judges.judge(subject, &mut random, &mut tally),
             14 => pairs.step(subject, &mut random, &mut tally),
             15 => halves.step(subject, &mut random, &mut tally),
-            _ => onwards.onward(subject, &mut random, &mut tally),
+            16 => onwards.onward(subject, &mut random, &mut tally),
+            17 => layouts.plan(subject, &mut random, &mut tally),
+            18 => layouts.check(subject, &mut random, &mut tally),
+            19 => layouts.write(subject, &mut random, &mut tally),
+            _ => drafts.draft(subject, &mut random, &mut tally),
         };
         compared.map_err(|difference| Failure { seed, case, difference })?;
     }

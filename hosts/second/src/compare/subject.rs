@@ -1,8 +1,8 @@
 //! What is compared with the model: anything with the library's entries, and the linked library itself.
 
 use thawribbon::raw::{
-    self, Alternate, Capture, Description, Dvsec, Groups, Heard, Judged, Part, Parts, Port, Routed, Served, Walked,
-    Written,
+    self, Alternate, Capture, Description, Dvsec, Groups, Heard, Judged, Part, Parts, Port, Routed, Served, Structure,
+    Walked, Written,
 };
 
 /// All that a call of `serve` is given.
@@ -34,6 +34,9 @@ pub trait Subject {
     fn read_completion(&mut self, completion: &[u8]) -> Heard;
     fn multicast(&mut self, space: &[u8], at: usize, groups: &mut Groups) -> u8;
     fn judge(&mut self, ports: &[Groups], entering: usize, address: u64) -> Judged;
+    fn plan_layout(&mut self, structures: &[Structure], room: &mut [u16]) -> u8;
+    fn check_layout(&mut self, structures: &[Structure], offsets: &[u16]) -> u8;
+    fn write_layout(&mut self, structures: &[Structure], offsets: &[u16], space: &mut [u8]) -> u8;
 }
 
 /// The linked library.
@@ -101,5 +104,17 @@ impl Subject for Library {
 
     fn judge(&mut self, ports: &[Groups], entering: usize, address: u64) -> Judged {
         raw::judge(ports, entering, address)
+    }
+
+    fn plan_layout(&mut self, structures: &[Structure], room: &mut [u16]) -> u8 {
+        raw::plan_layout(structures, room)
+    }
+
+    fn check_layout(&mut self, structures: &[Structure], offsets: &[u16]) -> u8 {
+        raw::check_layout(structures, offsets)
+    }
+
+    fn write_layout(&mut self, structures: &[Structure], offsets: &[u16], space: &mut [u8]) -> u8 {
+        raw::write_layout(structures, offsets, space)
     }
 }

@@ -1,0 +1,121 @@
+//! The classes of calls of `check_layout`, and those that `write_layout` shares, from the inputs and the model's answer.
+
+use thawribbon::raw::Structure;
+
+use super::group::Group;
+use super::layout_names::{PROPOSAL_FORMS, ProposalForm};
+use super::list_causes::{Entry, ListCauses};
+use super::plan::{needed, packed};
+use super::proposal::Proposal;
+use super::tally::Tally;
+use crate::generate::MOST_STRUCTURES;
+
+/// A proposal that was checked or written, and what the model made of it.
+pub struct LayoutView<'call> {
+    pub structures: &'call [Structure],
+    pub offsets: &'call [u16],
+    pub number: u8,
+}
+
+/// Counts a call of `check_layout` in all its classes.
+pub fn count_check(view: &LayoutView<'_>, tally: &mut Tally) {
+    count_by(view, Entry::Check, true, tally);
+}
+
+/// Counts a call of either entry. Where the clauses call for another number than the model gave, the run stops.
+pub fn count_by(view: &LayoutView<'_>, entry: Entry, is_whole: bool, tally: &mut Tally) {
+    let causes = ListCauses::of(view.structures);
+    let proposal = Proposal::of(view.structures, view.offsets);
+    let (is_bad, is_accepted) = (causes.is_bad(), proposal.is_accepted());
+    let due = match (is_bad || !is_whole, is_accepted) {
+        (true, _) => 1,
+        (false, false) => 18,
+        (false, true) => 0,
+    };
+    assert_eq!(due, view.number, "the model and the clauses disagree on a proposal");
+    let writes = usize::from(entry == Entry::Write);
+    let answer = [0, 1, 18].iter().position(|&number| number == due);
+    tally.add(Group::LayoutAnswers, 3 * writes + answer.expect("0, 1 or 18"));
+    count_together(entry, [is_bad, !is_whole, !is_accepted], tally);
+    match due {
+        0 => count_accepted(&proposal, writes, tally),
+        18 => {
+            proposal.count_refused(writes, tally);
+            count_refused_forms(&proposal, writes, tally);
+        }
+        _ if is_bad && is_whole => causes.count(entry, view.structures, is_accepted, tally),
+        _ => {}
+    }
+}
+
+/// Counts causes that come together: bad structures, another size of the space, a proposal that is not accepted.
+fn count_together(entry: Entry, causes: [bool; 3], tally: &mut Tally) {
+    let class = match (entry, causes) {
+        (Entry::Check, [true, _, true]) => 4,
+        (Entry::Write, [true, false, true]) => 5,
+        (Entry::Write, [true, true, false]) => 6,
+        (Entry::Write, [false, true, true]) => 7,
+        (Entry::Write, [true, true, true]) => 8,
+        _ => return,
+    };
+    tally.add(Group::LayoutTogether, class);
+}
+
+/// Counts a proposal that is accepted. None lies below the plan, at any place; else the run stops.
+fn count_accepted(proposal: &Proposal<'_>, writes: usize, tally: &mut Tally) {
+    let (structures, offsets) = (proposal.structures, proposal.offsets);
+    let ways: Vec<usize> = offsets
+        .iter()
+        .map(|&offset| usize::from(offset))
+        .zip(packed(structures))
+        .map(|(offset, low)| offset.checked_sub(low).expect("no proposal lies below the plan"))
+        .collect();
+    let last = structures.len() - 1;
+    tally.add(Group::AcceptedCounts, MOST_STRUCTURES * writes + last);
+    let first = PROPOSAL_FORMS.len() * writes;
+    let mut add_if = |condition, form| tally.add_if(condition, Group::ProposalForms, first + form as usize);
+    let free = |place: usize| usize::from(offsets[place]) - proposal.end(place - 1);
+    let spare = (3840 - needed(structures)) / 4 * 4;
+    let end = proposal.end(last);
+    add_if(ways.iter().all(|&way| way == 0), ProposalForm::Lowest);
+    add_if(
+        spare > 0 && last > 0 && ways[1..].iter().all(|&way| way == spare),
+        ProposalForm::Highest,
+    );
+    add_if(last > 1 && ways[1] > 0, ProposalForm::GapBehindTheFirst);
+    add_if(last > 1 && free(last) > 3, ProposalForm::GapBeforeTheLast);
+    add_if((1..=last).any(|place| free(place) == 4), ProposalForm::GapOfAWord);
+    add_if((1..=last).any(|place| free(place) == 0), ProposalForm::NoGap);
+    add_if((1..=last).any(|place| free(place) == 3), ProposalForm::ThreeBytesFree);
+    add_if(end == 0x1000, ProposalForm::EndsAt1000h);
+    add_if((0xFFD..0x1000).contains(&end), ProposalForm::EndsBefore1000h);
+    add_if(offsets[last] == 0xFFC, ProposalForm::LastAtFfch);
+    add_if(last == 0, ProposalForm::OnlyOne);
+}
+
+/// Counts forms of a proposal that is not accepted.
+fn count_refused_forms(proposal: &Proposal<'_>, writes: usize, tally: &mut Tally) {
+    let offsets = proposal.offsets;
+    let first = PROPOSAL_FORMS.len() * writes;
+    let mut add_if = |condition, form| tally.add_if(condition, Group::ProposalForms, first + form as usize);
+    let mut overlaps = proposal.overlaps.iter();
+    let are_equal = |&(low, high): &(usize, usize)| offsets[low] == offsets[high];
+    let are_neighbours = |&(low, high): &(usize, usize)| low.abs_diff(high) == 1;
+    let only = match proposal.overlaps[..] {
+        [only] => Some(only),
+        _ => None,
+    };
+    let only_is =
+        |equal, neighbours| only.is_some_and(|pair| are_equal(&pair) == equal && are_neighbours(&pair) == neighbours);
+    add_if(only_is(true, true), ProposalForm::EqualNeighbours);
+    add_if(only_is(true, false), ProposalForm::EqualApart);
+    add_if(only_is(false, false), ProposalForm::OverlapApart);
+    let all_at_100h = offsets.iter().all(|&offset| offset == 0x100);
+    add_if(all_at_100h && overlaps.any(|_| true), ProposalForm::AllEqual);
+    add_if(needed(proposal.structures) > 3840, ProposalForm::NoLayout);
+    add_if(offsets.contains(&0xFFFF), ProposalForm::OffsetFfffh);
+    add_if(
+        offsets.iter().skip(1).any(|&offset| offset == 0),
+        ProposalForm::LastAtZero,
+    );
+}
