@@ -61,7 +61,7 @@ pub use fault::FaultMaker;
 pub use groups::{any_groups, sound_groups};
 pub use half::{HALVES, Half, register};
 pub use judge::{JudgeCase, JudgeMaker, LONGEST_RECORDS};
-pub use layout::LayoutMaker;
+pub use layout::{LayoutCase, LayoutMaker};
 pub use layout_space::LayoutSpace;
 pub use lengths::{MARKS_LENGTHS, NAMED_LENGTHS, WrongLengths, marks_length_place, named_length_place};
 pub use list_fault::{FAR, NEAR_STRUCTURES};

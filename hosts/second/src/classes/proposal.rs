@@ -43,12 +43,13 @@ impl<'call> Proposal<'call> {
         proposal.overlaps = pairs
             .filter(|&(low, high)| proposal.end(low) > usize::from(offsets[high]))
             .collect();
+        let with_structures = &offsets[..count];
         proposal.fails = [
             offsets.len() < structures.len(),
             offsets.len() > structures.len(),
             offsets.first().is_some_and(|&first| first != 0x100),
-            offsets.iter().any(|offset| offset % 4 != 0),
-            offsets.windows(2).any(|pair| pair[0] >= pair[1]),
+            with_structures.iter().any(|offset| offset % 4 != 0),
+            with_structures.windows(2).any(|pair| pair[0] >= pair[1]),
             !proposal.overlaps.is_empty(),
             (0..count).any(|place| proposal.end(place) > 0x1000),
         ];

@@ -59,7 +59,7 @@ pub const TABLE: [Line; 225] = [
         Group::ServeTogether,
         "serve: causes of two numbers together",
         SERVE_TOGETHER,
-        60,
+        50,
     ),
     numbered(
         Group::MarksTogether,
@@ -97,14 +97,14 @@ pub const TABLE: [Line; 225] = [
         DOUBLED_PLACES,
         50,
     ),
-    numbered(Group::FirstBytes, "serve: every first byte, both editions", 512, 6),
+    numbered(Group::FirstBytes, "serve: every first byte, both editions", 512, 5),
     numbered(
         Group::FieldValues,
         "serve: every wrong TC, Attr and last enables alone",
         25,
-        100,
+        80,
     ),
-    numbered(Group::LengthValues, "serve: every Length but 1 alone", 1023, 8),
+    numbered(Group::LengthValues, "serve: every Length but 1 alone", 1023, 6),
     numbered(
         Group::TypeForms,
         "serve: both editions, type codes, bit 7, digest, poison",
@@ -121,7 +121,7 @@ pub const TABLE: [Line; 225] = [
         Group::EditionAnswers,
         "serve: editions, bit 7, type codes, what was answered",
         ANSWERS,
-        8,
+        6,
     ),
     numbered(
         Group::WrongEditions,
@@ -169,7 +169,7 @@ pub const TABLE: [Line; 225] = [
         Group::Bit7Later,
         "serve: 4 for bit 7, type codes, 5 and 6 otherwise",
         12,
-        5,
+        4,
     ),
     named(Group::Unsupported, "serve: each cause of UR alone", UNSUPPORTED, 100),
     named(
@@ -184,14 +184,14 @@ pub const TABLE: [Line; 225] = [
         Group::OrdinaryWrites,
         "serve: every word changed by a write, ordinary",
         1024,
-        10,
+        9,
     ),
-    numbered(Group::TrustedReads, "serve: every word read, trusted", 1024, 10),
+    numbered(Group::TrustedReads, "serve: every word read, trusted", 1024, 9),
     numbered(
         Group::TrustedWrites,
         "serve: every word changed by a write, trusted",
         1024,
-        8,
+        7,
     ),
     named(Group::Rules, "serve: rules of enabled bytes, success", RULES, 1000),
     named(
@@ -234,7 +234,7 @@ pub const TABLE: [Line; 225] = [
         Group::WholeEnables,
         "serve: 16 enables of reads, ordinary, at A, trusted",
         48,
-        200,
+        180,
     ),
     numbered(
         Group::WholeBytes,
@@ -263,7 +263,7 @@ pub const TABLE: [Line; 225] = [
     named(Group::Correlation, "serve: the correlation word", CORRELATION, 100),
     named(Group::Captures, "serve and reset: captures", CAPTURES, 100),
     named(Group::KeptForms, "serve: forms of the kept capture", KEPT_FORMS, 100),
-    numbered(Group::CapturedBuses, "serve: captures of every bus", 256, 75),
+    numbered(Group::CapturedBuses, "serve: captures of every bus", 256, 65),
     numbered(Group::CapturedDevices, "serve: captures of every device", 32, 100),
     numbered(
         Group::Functions,
@@ -359,7 +359,7 @@ pub const TABLE: [Line; 225] = [
         Group::StartsBelow,
         "walks: 11 for a start at every offset below the floor",
         16,
-        7,
+        5,
     ),
     numbered(Group::BelowPlaces, "walks: 11 told at every offset, each list", 2030, 2),
     numbered(
@@ -458,7 +458,7 @@ pub const TABLE: [Line; 225] = [
         Group::DvsecOffsets,
         "dvsec: served at every offset from 100h to FF4h",
         958,
-        5,
+        4,
     ),
     numbered(Group::DvsecRevisions, "dvsec: every revision", 16, 100),
     numbered(Group::DualAnswers, "dual_bdf: answers 0, 1, 8, 9 and 10", 5, 1000),
@@ -474,7 +474,7 @@ pub const TABLE: [Line; 225] = [
         DUAL_ORDER,
         10,
     ),
-    numbered(Group::DualVectors, "dual_bdf: every vector", 256, 4),
+    numbered(Group::DualVectors, "dual_bdf: every vector", 256, 2),
     numbered(Group::DualFunctions, "dual_bdf: eight functions, both vendors", 16, 100),
     numbered(Group::DualDevices, "dual_bdf: 32 devices, both vendors", 64, 10),
     numbered(
@@ -517,9 +517,9 @@ pub const TABLE: [Line; 225] = [
         Group::RouteOvers,
         "route: each of 32 secondaries over its subordinate alone",
         32,
-        20,
+        16,
     ),
-    numbered(Group::RoutePairs, "route: each pair of 32 ports meets alone", 496, 3),
+    numbered(Group::RoutePairs, "route: each pair of 32 ports meets alone", 496, 2),
     named(Group::Meetings, "route: how two ranges meet, alone", MEETINGS, 50),
     named(
         Group::MetBuses,
@@ -550,7 +550,7 @@ pub const TABLE: [Line; 225] = [
         Group::RouteWrongLengths,
         "route: four type codes, digest, twelve wrong lengths",
         96,
-        3,
+        2,
     ),
     numbered(
         Group::RouteFieldValues,
@@ -562,7 +562,7 @@ pub const TABLE: [Line; 225] = [
         Group::RouteType0,
         "route: 4 for Type 0, sixteen forms, where its bus lies",
         96,
-        3,
+        2,
     ),
     numbered(
         Group::RouteNoSupport,
@@ -598,13 +598,13 @@ pub const TABLE: [Line; 225] = [
         Group::RoutePorts,
         "route: leaves by 32 ports, as Type 0, as Type 1, trusted",
         96,
-        16,
+        12,
     ),
     numbered(
         Group::RoutePortsOfLists,
         "route: leaves by each port of lists of 1 to 32",
         528,
-        7,
+        6,
     ),
     numbered(
         Group::RouteBuses,
@@ -672,7 +672,7 @@ pub const TABLE: [Line; 225] = [
         Group::WriteRooms,
         "write_request: six kinds, buffers of 0 to 24, and more",
         156,
-        10,
+        7,
     ),
     numbered(
         Group::WriteOffsets,
@@ -738,7 +738,7 @@ pub const TABLE: [Line; 225] = [
         CIRCLE_UNSUPPORTED,
         20,
     ),
-    numbered(Group::CircleOffsets, "circle: every offset, success", 1024, 5),
+    numbered(Group::CircleOffsets, "circle: every offset, success", 1024, 4),
     numbered(
         Group::CircleEnables,
         "circle: 16 enables, four accesses, success",
@@ -886,13 +886,13 @@ pub const TABLE: [Line; 225] = [
         Group::JudgeEntering,
         "judge: a hit by each port of lists of 1 to 32",
         528,
-        3,
+        2,
     ),
     numbered(
         Group::JudgeIndexes,
         "judge: each index, three places of hits and of others",
         312,
-        8,
+        5,
     ),
     numbered(
         Group::JudgeQuotients,
@@ -912,7 +912,7 @@ pub const TABLE: [Line; 225] = [
         Group::JudgeBlockBits,
         "judge: Block All with all but the bit, with it alone",
         128,
-        10,
+        9,
     ),
     numbered(
         Group::JudgeReceiveBits,
@@ -932,7 +932,7 @@ pub const TABLE: [Line; 225] = [
         64,
         30,
     ),
-    named(Group::JudgeSets, "judge: sets of ports that are left by", PORT_SETS, 15),
+    named(Group::JudgeSets, "judge: sets of ports that are left by", PORT_SETS, 12),
     named(Group::JudgeOthers, "judge: what else other ports have", OTHERS, 500),
     numbered(
         Group::PairAnswers,
@@ -975,7 +975,7 @@ pub const TABLE: [Line; 225] = [
         Group::OnwardForms,
         "onward: editions, as it leaves, bit 7, digest, poison",
         96,
-        4,
+        2,
     ),
     named(
         Group::PlanAnswers,
@@ -990,7 +990,7 @@ pub const TABLE: [Line; 225] = [
         Group::PlanSums,
         "plan_layout: sums around 3,840, numbers of structures",
         45,
-        2,
+        1,
     ),
     named(
         Group::PlanForms,
@@ -1028,12 +1028,7 @@ pub const TABLE: [Line; 225] = [
         2880,
         1,
     ),
-    numbered(
-        Group::ListForms,
-        "layouts: four causes, where they are, entries",
-        48,
-        10,
-    ),
+    numbered(Group::ListForms, "layouts: four causes, where they are, entries", 48, 5),
     numbered(
         Group::ListValues,
         "layouts: wrong versions and lengths, entries",
@@ -1044,7 +1039,7 @@ pub const TABLE: [Line; 225] = [
         Group::ListTwo,
         "layouts: two causes of a bad list, entries",
         3 * LIST_TWO.len(),
-        3,
+        1,
     ),
     named(
         Group::LayoutTogether,
@@ -1068,7 +1063,7 @@ pub const TABLE: [Line; 225] = [
         Group::ProposalTogether,
         "check_layout, write_layout: two causes of 18 together",
         40,
-        2,
+        1,
     ),
     numbered(
         Group::OverlapPairs,

@@ -5,7 +5,7 @@ use super::difference::Difference;
 use super::planning::Desk;
 use super::subject::Subject;
 use crate::classes::{Group, LayoutView, PlanView, Tally, WriteView, count_check, count_plan, count_write};
-use crate::generate::{LayoutMaker, LayoutSpace, PlanMaker, Random};
+use crate::generate::{LayoutCase, LayoutMaker, LayoutSpace, PlanMaker, Random};
 
 /// What a comparison answers.
 type Compared = Result<(), Box<Difference>>;
@@ -17,6 +17,7 @@ pub struct Layouts {
     checks: LayoutMaker,
     writes: LayoutMaker,
     space: LayoutSpace,
+    last_written: LayoutCase,
 }
 
 impl Layouts {
@@ -27,6 +28,10 @@ impl Layouts {
             checks: LayoutMaker::new(),
             writes: LayoutMaker::new(),
             space: LayoutSpace::spent(),
+            last_written: LayoutCase {
+                structures: Vec::new(),
+                offsets: Vec::new(),
+            },
         }
     }
 
@@ -78,28 +83,29 @@ impl Layouts {
     pub fn write(&mut self, subject: &mut impl Subject, random: &mut Random, tally: &mut Tally) -> Compared {
         let is_noise = random.percent(4);
         let is_wrong_length = random.percent(8);
-        let case = if is_noise {
-            LayoutMaker::noise(random)
-        } else {
-            self.writes.case(!is_wrong_length, random)
-        };
+        if is_noise {
+            self.last_written = LayoutMaker::noise(random);
+        } else if random.percent(96) {
+            self.last_written = self.writes.case(!is_wrong_length, random);
+        }
         self.space.begin(random);
         if is_wrong_length {
             self.space.lend_wrong_length(random);
         }
-        self.desk.begin(&case.structures, random);
-        self.desk.offsets.lend_cells(&case.offsets);
-        let number = self.desk.write(&mut self.space.space, subject)?;
+        let LayoutCase { structures, offsets } = &self.last_written;
+        self.desk.begin(structures, random);
+        self.desk.offsets.lend_cells(offsets);
+        let space = &mut self.space.space;
+        let number = self.desk.write(space, subject)?;
         tally.add_if(is_noise, Group::Noise, 15);
-        let layout = LayoutView {
-            structures: &case.structures,
-            offsets: &case.offsets,
-            number,
-        };
         let view = WriteView {
-            layout,
-            before: self.space.space.before(),
-            space: self.space.space.ours(),
+            layout: LayoutView {
+                structures,
+                offsets,
+                number,
+            },
+            before: space.before(),
+            space: space.ours(),
         };
         count_write(&view, tally);
         Ok(())

@@ -34,7 +34,7 @@ impl LayoutMaker {
 
     /// A call with no fault, one or two. Where it is told so, what has its turn has it.
     pub fn case(&mut self, in_turn: bool, random: &mut Random) -> LayoutCase {
-        let (structures, offsets) = match random.weighted(&[30, 42, 6, 3, 19]) {
+        let (structures, offsets) = match random.weighted(&[26, 47, 6, 3, 18]) {
             0 => self.accepted(in_turn, random),
             1 => self.proposals.draw(in_turn, random),
             2 => {
@@ -66,9 +66,10 @@ impl LayoutMaker {
 
     /// A list with a fault, or with two. The proposal was accepted before the fault came, or was not.
     fn bad_list(&mut self, in_turn: bool, random: &mut Random) -> Proposed {
-        let (mut structures, fault) = self.lists.draw(in_turn, random);
+        let has_two = random.percent(15);
+        let (mut structures, fault) = self.lists.draw(in_turn && !has_two, random);
         let mut offsets = acceptable(&structures, random);
-        if random.percent(15) {
+        if has_two {
             let place = random.below(structures.len());
             second_fault(&mut structures[place], random);
         }

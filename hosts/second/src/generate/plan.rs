@@ -5,7 +5,9 @@ use thawribbon::raw::Structure;
 use super::cursor::Cursor;
 use super::list_fault::{FAR, ListFaultMaker, NEAR_STRUCTURES};
 use super::random::Random;
-use super::structures::{MOST_STRUCTURES, any_structure, crowded, fitting, some_count, structures_of};
+use super::structures::{
+    MOST_STRUCTURES, any_structure, crowded, fitting, on_edge, some_count, sound_structure, structures_of,
+};
 
 /// The longest room that is lent often.
 pub const NEAR_ROOM: usize = NEAR_STRUCTURES + 40;
@@ -16,10 +18,15 @@ pub struct PlanCase {
     pub room: usize,
 }
 
+/// The lengths of a first structure that have their turn, from 4 on.
+pub const STEPS: usize = 128;
+
 /// Makes calls.
 pub struct PlanMaker {
     counts: Cursor,
     crowded_counts: Cursor,
+    words: Cursor,
+    steps: Cursor,
     faults: ListFaultMaker,
 }
 
@@ -28,6 +35,8 @@ impl PlanMaker {
         Self {
             counts: Cursor::new(MOST_STRUCTURES),
             crowded_counts: Cursor::new(MOST_STRUCTURES - 1),
+            words: Cursor::new(MOST_STRUCTURES - 1),
+            steps: Cursor::new(STEPS),
             faults: ListFaultMaker::new(),
         }
     }
@@ -55,23 +64,27 @@ impl PlanMaker {
 
     /// Sound structures that have a layout or not.
     fn list(&mut self, in_turn: bool, random: &mut Random) -> Vec<Structure> {
-        let count = some_count(2, MOST_STRUCTURES, random);
-        match random.weighted(&[35, 30, 15, 20]) {
+        let count = some_count(1, MOST_STRUCTURES, random);
+        match random.weighted(&[24, 22, 14, 15, 14, 5, 6]) {
             0 => fitting(1 + self.counts.draw(in_turn, random), random),
             1 => fitting(count, random),
             2 => crowded(2 + self.crowded_counts.draw(in_turn, random), random),
-            _ => crowded(count, random),
+            3 => crowded(count.max(2), random),
+            4 => ending_at(1 + self.words.draw(in_turn, random), random),
+            5 => beginning_with(4 + self.steps.draw(in_turn, random), random),
+            _ => on_edge(random),
         }
     }
 
     /// A list with a fault, or with two. Now and then it is one that would have no layout either.
     fn bad_list(&mut self, in_turn: bool, random: &mut Random) -> Vec<Structure> {
         let is_crowded = random.percent(20);
-        let (mut structures, fault) = self.faults.draw(in_turn && !is_crowded, random);
+        let has_two = random.percent(20);
+        let (mut structures, fault) = self.faults.draw(in_turn && !has_two, random);
         if is_crowded && structures.len() > 1 {
             structures = crowded(structures.len(), random);
         }
-        if random.percent(20) {
+        if has_two {
             let place = random.below(structures.len());
             second_fault(&mut structures[place], random);
         }
@@ -93,6 +106,20 @@ impl PlanMaker {
             room: random.below(12),
         }
     }
+}
+
+/// A few structures, the last of which is planned behind so many words.
+fn ending_at(word: usize, random: &mut Random) -> Vec<Structure> {
+    let mut structures = structures_of(random.within(1, word.min(3)), word, random);
+    structures.push(sound_structure(random.within(1, MOST_STRUCTURES - word), random));
+    structures
+}
+
+/// A few structures, the first of such a length.
+fn beginning_with(length: usize, random: &mut Random) -> Vec<Structure> {
+    let mut structures = structures_of(random.within(2, 5), 200, random);
+    structures[0].length = length as u16;
+    structures
 }
 
 /// One of a structure's three numbers is any.

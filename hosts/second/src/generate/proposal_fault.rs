@@ -30,7 +30,7 @@ impl ProposalFaultMaker {
 
     /// Structures and offsets with one fault.
     pub fn draw(&mut self, in_turn: bool, random: &mut Random) -> Proposed {
-        match random.weighted(&[8, 8, 9, 9, 17, 17, 17, 12, 7, 3]) {
+        match random.weighted(&[6, 6, 6, 6, 20, 20, 20, 10, 5, 2]) {
             0 => changed(1, random, too_few),
             1 => changed(1, random, too_many),
             2 => changed(1, random, first_low),
@@ -46,12 +46,13 @@ impl ProposalFaultMaker {
 
     /// The structure at a place gets longer than the way to the next one.
     fn overlapping(&mut self, in_turn: bool, random: &mut Random) -> Proposed {
-        let place = turn_or_low(&mut self.overlaps, in_turn, random);
+        let is_far = random.percent(15);
+        let place = turn_or_low(&mut self.overlaps, in_turn && !is_far, random);
         let mut structures = fitting(some_more(place + 2, MOST_STRUCTURES, random), random);
         let offsets = acceptable(&structures, random);
         let way = offsets[place + 1] - offsets[place];
-        let any = random.within(5, 48) as u16;
-        let length = way + random.pick(&[1, 2, 3, 4, 4, 4, any]);
+        let (least, most) = if is_far { (5, 48) } else { (1, 4) };
+        let length = way + random.within(least, most) as u16;
         structures[place].length = length.min(3840);
         (structures, offsets)
     }
@@ -81,7 +82,7 @@ impl ProposalFaultMaker {
 
 /// A place in turn, or a low one.
 fn turn_or_low(places: &mut Cursor, in_turn: bool, random: &mut Random) -> usize {
-    if random.percent(70) {
+    if random.percent(80) {
         places.draw(in_turn, random)
     } else {
         random.below(6)

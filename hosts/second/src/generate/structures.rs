@@ -23,7 +23,7 @@ pub const fn any_structure(random: &mut Random) -> Structure {
 /// A sound structure of so many words, of which the last may not be full.
 pub fn sound_structure(words: usize, random: &mut Random) -> Structure {
     let any = random.within(1, 0xFFFF) as u16;
-    let less = if words > 1 { random.pick(&[0, 0, 0, 1, 2, 3]) } else { 0 };
+    let less = if words > 1 { random.pick(&[0, 0, 1, 2, 3]) } else { 0 };
     Structure {
         id: random.pick(&[1, 0xFFFF, 0x0100, 0x8000, any, any, any, any, any, any, any, any]),
         version: random.below(16) as u16,
@@ -59,6 +59,25 @@ pub fn crowded(count: usize, random: &mut Random) -> Vec<Structure> {
     structures_of(count, words.min(most).max(count), random)
 }
 
+/// Two structures or more that just have a layout or just have none: by up to three bytes of the last, which has few words
+/// rather than many.
+pub fn on_edge(random: &mut Random) -> Vec<Structure> {
+    let few = random.within(4, 12);
+    let more = random.within(100, 958);
+    let count = random.pick(&[2, 3, few, more, 959, 960]);
+    let words = MOST_STRUCTURES + random.below(2);
+    let most = (words - (count - 1)).min(MOST_STRUCTURES);
+    let any = random.within(1, most);
+    let last = random.pick(&[2, 2, 3, any]).min(most);
+    let mut structures = structures_of(count - 1, words - last, random);
+    let mut end = sound_structure(last, random);
+    if last > 1 {
+        end.length = (4 * last - random.below(4)) as u16;
+    }
+    structures.push(end);
+    structures
+}
+
 /// A number of structures: the least and the most often, and few rather than many.
 pub fn some_count(least: usize, most: usize, random: &mut Random) -> usize {
     let few = random.within(1, 12);
@@ -68,11 +87,19 @@ pub fn some_count(least: usize, most: usize, random: &mut Random) -> usize {
     count.clamp(least, most)
 }
 
-/// The words of so many structures, one each at least and 960 at most: much alike, or most of them with few.
+/// The words of so many structures, one each at least and 960 at most: much alike, most of them with few, or one of them
+/// with as many as it can have.
 fn spread(count: usize, words: usize, random: &mut Random) -> Vec<usize> {
-    let each = if random.percent(30) { words / count } else { 1 };
+    let way = random.weighted(&[20, 45, 35]);
+    let each = if way == 0 { words / count } else { 1 };
     let mut sizes = vec![each; count];
     let mut left = words - each * count;
+    if way == 2 {
+        let place = random.pick(&[0, count - 1, count - 1, count - 1]);
+        let more = left.min(MOST_STRUCTURES - 1);
+        sizes[place] += more;
+        left -= more;
+    }
     let most_at_once = 1 + left / random.pick(&[1, 8, 64]);
     while left > 0 {
         let size = &mut sizes[random.below(count)];

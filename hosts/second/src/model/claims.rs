@@ -3,16 +3,19 @@
 use super::space::SPACE_BYTES;
 use super::structures::Structure;
 
+/// Stands for no structure: there is none at this place of any list.
+const NOBODY: u16 = u16::MAX;
+
 /// The structure, by its place in the list, that has each byte of a space. A byte has one owner at most.
 pub(super) struct Claims {
-    owners: [Option<u16>; SPACE_BYTES],
+    owners: [u16; SPACE_BYTES],
 }
 
 impl Claims {
     /// No byte has an owner.
     pub(super) const fn none() -> Self {
         Self {
-            owners: [None; SPACE_BYTES],
+            owners: [NOBODY; SPACE_BYTES],
         }
     }
 
@@ -21,8 +24,8 @@ impl Claims {
     pub(super) fn claim(&mut self, place: usize, structure: &Structure, offset: usize) -> bool {
         let bytes = self.owners.get_mut(offset..offset + usize::from(structure.length));
         match bytes {
-            Some(bytes) if bytes.iter().all(Option::is_none) => {
-                bytes.fill(Some(place as u16));
+            Some(bytes) if bytes.iter().all(|&owner| owner == NOBODY) => {
+                bytes.fill(place as u16);
                 true
             }
             _ => false,
@@ -31,13 +34,12 @@ impl Claims {
 
     /// Whether no byte of the word at an offset has an owner.
     pub(super) fn is_free(&self, offset: usize) -> bool {
-        self.owners[offset..offset + 4].iter().all(Option::is_none)
+        self.owners[offset..offset + 4] == [NOBODY; 4]
     }
 
     /// The owners from the lowest byte up, each told where its bytes begin.
     pub(super) fn from_the_lowest(&self) -> impl Iterator<Item = usize> {
-        let mut last = None;
-        let begins = move |owner: &&u16| last.replace(**owner) != Some(**owner);
-        self.owners.iter().flatten().filter(begins).map(|&owner| owner.into())
+        let runs = self.owners.chunk_by(|one, next| one == next).map(|run| run[0]);
+        runs.filter(|&owner| owner != NOBODY).map(usize::from)
     }
 }
