@@ -133,7 +133,7 @@ pub const TABLE: [Line; 225] = [
         Group::WrongEditionKinds,
         "serve: another edition alone, type codes, bit 7",
         12,
-        40,
+        35,
     ),
     numbered(
         Group::WrongEditionLengths,
@@ -191,7 +191,7 @@ pub const TABLE: [Line; 225] = [
         Group::TrustedWrites,
         "serve: every word changed by a write, trusted",
         1024,
-        7,
+        6,
     ),
     named(Group::Rules, "serve: rules of enabled bytes, success", RULES, 1000),
     named(

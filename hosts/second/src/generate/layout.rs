@@ -70,7 +70,7 @@ impl LayoutMaker {
         let (mut structures, fault) = self.lists.draw(in_turn && !has_two, random);
         let mut offsets = acceptable(&structures, random);
         if has_two {
-            let place = random.below(structures.len());
+            let place = fault.other_place(structures.len(), random);
             second_fault(&mut structures[place], random);
         }
         fault.put(&mut structures, random);

@@ -42,13 +42,17 @@ impl ListFaultMaker {
     /// A sound list that has a layout, and the fault that is to be put into it.
     pub fn draw(&mut self, in_turn: bool, random: &mut Random) -> (Vec<Structure>, ListFault) {
         let count = some_count(1, MOST_STRUCTURES, random);
-        let (count, fault) = match random.weighted(&[70, 16, 5, 20]) {
+        let (count, fault) = match random.weighted(&[66, 16, 6, 5, 20]) {
             0 => {
                 let place = self.places.draw(in_turn, random);
                 (random.within(place + 1, MOST_STRUCTURES), any_fault(place, random))
             }
             1 => (count, any_fault(random.pick(&[0, count / 2, count - 1]), random)),
-            2 => (count, ListFault::NoStructure),
+            2 => (
+                MOST_STRUCTURES,
+                any_fault(MOST_STRUCTURES - random.within(1, 3), random),
+            ),
+            3 => (count, ListFault::NoStructure),
             _ => (count, ListFault::TooMany),
         };
         (fitting(count, random), fault)
@@ -66,6 +70,14 @@ fn any_fault(place: usize, random: &mut Random) -> ListFault {
 }
 
 impl ListFault {
+    /// A place of a list for another fault: often that of this one.
+    pub fn other_place(self, count: usize, random: &mut Random) -> usize {
+        match self {
+            Self::At(place, _) if random.percent(40) => place,
+            _ => random.below(count),
+        }
+    }
+
     /// Puts the fault into a list. It has the place of the fault.
     pub fn put(self, structures: &mut Vec<Structure>, random: &mut Random) {
         match self {

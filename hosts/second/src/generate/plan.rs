@@ -85,7 +85,7 @@ impl PlanMaker {
             structures = crowded(structures.len(), random);
         }
         if has_two {
-            let place = random.below(structures.len());
+            let place = fault.other_place(structures.len(), random);
             second_fault(&mut structures[place], random);
         }
         fault.put(&mut structures, random);

@@ -47,7 +47,7 @@ impl ProposalFaultMaker {
     /// The structure at a place gets longer than the way to the next one.
     fn overlapping(&mut self, in_turn: bool, random: &mut Random) -> Proposed {
         let is_far = random.percent(15);
-        let place = turn_or_low(&mut self.overlaps, in_turn && !is_far, random);
+        let place = turn_or_end(&mut self.overlaps, MOST_STRUCTURES - 1, in_turn && !is_far, random);
         let mut structures = fitting(some_more(place + 2, MOST_STRUCTURES, random), random);
         let offsets = acceptable(&structures, random);
         let way = offsets[place + 1] - offsets[place];
@@ -59,7 +59,7 @@ impl ProposalFaultMaker {
 
     /// A structure stands up to three bytes higher, with a word free behind it.
     fn unaligned(&mut self, in_turn: bool, random: &mut Random) -> Proposed {
-        let place = 1 + turn_or_low(&mut self.unaligned, in_turn, random);
+        let place = 1 + turn_or_end(&mut self.unaligned, MOST_STRUCTURES - 2, in_turn, random);
         let (structures, mut offsets) = with_a_free_word(some_more(place + 1, MOST_STRUCTURES - 1, random), random);
         for offset in &mut offsets[place + 1..] {
             *offset += 4;
@@ -70,7 +70,7 @@ impl ProposalFaultMaker {
 
     /// Two neighbours stand the other way round in the space.
     fn falling(&mut self, in_turn: bool, random: &mut Random) -> Proposed {
-        let place = 1 + turn_or_low(&mut self.falls, in_turn, random);
+        let place = 1 + turn_or_end(&mut self.falls, MOST_STRUCTURES - 2, in_turn, random);
         let structures = fitting(some_more(place + 2, MOST_STRUCTURES, random), random);
         let mut offsets = acceptable(&structures, random);
         let low = offsets[place];
@@ -80,12 +80,12 @@ impl ProposalFaultMaker {
     }
 }
 
-/// A place in turn, or a low one.
-fn turn_or_low(places: &mut Cursor, in_turn: bool, random: &mut Random) -> usize {
-    if random.percent(80) {
-        places.draw(in_turn, random)
-    } else {
-        random.below(6)
+/// A place in turn, or one of the lowest or the highest.
+fn turn_or_end(places: &mut Cursor, bound: usize, in_turn: bool, random: &mut Random) -> usize {
+    match random.weighted(&[80, 14, 6]) {
+        0 => places.draw(in_turn, random),
+        1 => random.below(6),
+        _ => bound - random.within(1, 3),
     }
 }
 

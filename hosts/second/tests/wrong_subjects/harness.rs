@@ -3,7 +3,7 @@
 use second::compare::{Failure, Reference, ServeCall, Subject, Tally, run};
 use second::model::List;
 use thawribbon::raw::{
-    Alternate, Capture, Dvsec, Groups, Heard, Judged, Part, Parts, Port, Routed, Served, Walked, Written,
+    Alternate, Capture, Dvsec, Groups, Heard, Judged, Part, Parts, Port, Routed, Served, Structure, Walked, Written,
 };
 
 /// The seed of every run here.
@@ -22,6 +22,9 @@ type WriteEntry = Box<dyn FnMut(Parts, &mut [u8]) -> Written>;
 type ReadEntry = Box<dyn FnMut(&[u8]) -> Heard>;
 type MulticastEntry = Box<dyn FnMut(&[u8], usize, &mut Groups) -> u8>;
 type JudgeEntry = Box<dyn FnMut(&[Groups], usize, u64) -> Judged>;
+type PlanEntry = Box<dyn FnMut(&[Structure], &mut [u16]) -> u8>;
+type CheckEntry = Box<dyn FnMut(&[Structure], &[u16]) -> u8>;
+type LayEntry = Box<dyn FnMut(&[Structure], &[u16], &mut [u8]) -> u8>;
 
 /// The model, with entries that may be wrong.
 pub struct Wrong {
@@ -36,6 +39,9 @@ pub struct Wrong {
     read: ReadEntry,
     multicast: MulticastEntry,
     judge: JudgeEntry,
+    plan: PlanEntry,
+    check: CheckEntry,
+    lay: LayEntry,
 }
 
 impl Wrong {
@@ -53,6 +59,9 @@ impl Wrong {
             read: Box::new(|completion| Reference.read_completion(completion)),
             multicast: Box::new(|space, at, groups| Reference.multicast(space, at, groups)),
             judge: Box::new(|ports, entering, address| Reference.judge(ports, entering, address)),
+            plan: Box::new(|structures, room| Reference.plan_layout(structures, room)),
+            check: Box::new(|structures, offsets| Reference.check_layout(structures, offsets)),
+            lay: Box::new(|structures, offsets, space| Reference.write_layout(structures, offsets, space)),
         }
     }
 
@@ -140,6 +149,27 @@ impl Wrong {
             ..Self::nothing()
         }
     }
+
+    pub fn plan(entry: impl FnMut(&[Structure], &mut [u16]) -> u8 + 'static) -> Self {
+        Self {
+            plan: Box::new(entry),
+            ..Self::nothing()
+        }
+    }
+
+    pub fn check(entry: impl FnMut(&[Structure], &[u16]) -> u8 + 'static) -> Self {
+        Self {
+            check: Box::new(entry),
+            ..Self::nothing()
+        }
+    }
+
+    pub fn lay(entry: impl FnMut(&[Structure], &[u16], &mut [u8]) -> u8 + 'static) -> Self {
+        Self {
+            lay: Box::new(entry),
+            ..Self::nothing()
+        }
+    }
 }
 
 impl Subject for Wrong {
@@ -193,6 +223,18 @@ impl Subject for Wrong {
 
     fn judge(&mut self, ports: &[Groups], entering: usize, address: u64) -> Judged {
         (self.judge)(ports, entering, address)
+    }
+
+    fn plan_layout(&mut self, structures: &[Structure], room: &mut [u16]) -> u8 {
+        (self.plan)(structures, room)
+    }
+
+    fn check_layout(&mut self, structures: &[Structure], offsets: &[u16]) -> u8 {
+        (self.check)(structures, offsets)
+    }
+
+    fn write_layout(&mut self, structures: &[Structure], offsets: &[u16], space: &mut [u8]) -> u8 {
+        (self.lay)(structures, offsets, space)
     }
 }
 

@@ -13,6 +13,7 @@ mod broken;
 mod capturing;
 mod caster;
 mod casting;
+mod checking;
 mod clearer;
 mod clearing;
 mod doubling;
@@ -26,7 +27,9 @@ mod gathering;
 mod harness;
 mod hearing;
 mod judging;
+mod laying;
 mod leaving;
+mod listing;
 mod looping;
 mod marking;
 mod measuring;
@@ -34,6 +37,7 @@ mod ordering;
 mod passing;
 mod picking;
 mod placing;
+mod planning;
 mod reading;
 mod refusing;
 mod repeating;
@@ -44,6 +48,7 @@ mod revising;
 mod router;
 mod routing;
 mod serving;
+mod surveyor;
 mod telling;
 mod vetting;
 mod walker;
@@ -150,5 +155,25 @@ fn a_difference_of_the_multicast_entries_is_told_in_full() {
     expect_told(
         &failure,
         &["entry: judge", "address: ", "entering: ", "records:", "group: 0"],
+    );
+}
+
+#[test]
+fn a_difference_of_a_layout_is_told_in_full() {
+    let failure = expect_caught(planning::without_rounding(), "plan_layout");
+    expect_told(
+        &failure,
+        &[
+            "entry: plan_layout",
+            "structures (ID version length): ",
+            "offsets of the model",
+            "offsets of the subject",
+            "offsets, place ",
+        ],
+    );
+    let failure = expect_caught(laying::with_the_last_pointer_left(), "write_layout");
+    expect_told(
+        &failure,
+        &["entry: write_layout", "space as lent: 4096 bytes", "space, place "],
     );
 }
