@@ -86,7 +86,7 @@ const fn small_room(count: usize, room: usize) -> PlanRoom {
 const fn enough_room(count: usize, room: usize) -> PlanRoom {
     match room {
         FAR => PlanRoom::NoneIn16Bits,
-        FAR.. => PlanRoom::Over16Bits,
+        _ if room > FAR => PlanRoom::Over16Bits,
         _ if room == count => PlanRoom::JustEnough,
         _ if room == count + 1 => PlanRoom::OneMore,
         _ => PlanRoom::More,

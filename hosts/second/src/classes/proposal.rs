@@ -128,7 +128,7 @@ impl<'call> Proposal<'call> {
         match self.offsets[0] {
             0x000 => ProposalCause::FirstAtZero,
             0x0FC => ProposalCause::FirstOneLow,
-            ..0x100 => ProposalCause::FirstLow,
+            first if first < 0x100 => ProposalCause::FirstLow,
             _ => ProposalCause::FirstOneHigh,
         }
     }

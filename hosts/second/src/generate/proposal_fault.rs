@@ -33,14 +33,14 @@ impl ProposalFaultMaker {
         match random.weighted(&[6, 6, 6, 6, 20, 20, 20, 10, 5, 2]) {
             0 => changed(1, random, too_few),
             1 => changed(1, random, too_many),
-            2 => changed(1, random, first_low),
+            2 => changed(1, random, |offsets, random| first_low(offsets, random)),
             3 => first_high(random),
             4 => self.unaligned(in_turn, random),
             5 => self.falling(in_turn, random),
             6 => self.overlapping(in_turn, random),
             7 => ending_past(random),
-            8 => changed(2, random, equal),
-            _ => changed(1, random, any_offset),
+            8 => changed(2, random, |offsets, random| equal(offsets, random)),
+            _ => changed(1, random, |offsets, random| any_offset(offsets, random)),
         }
     }
 
@@ -129,7 +129,7 @@ fn too_many(offsets: &mut Vec<u16>, random: &mut Random) {
     offsets.extend((1..=more).map(|place| last.wrapping_add((4 * place) as u16)));
 }
 
-fn first_low(offsets: &mut Vec<u16>, random: &mut Random) {
+fn first_low(offsets: &mut [u16], random: &mut Random) {
     let any = 4 * random.below(0x40) as u16;
     offsets[0] = random.pick(&[0x0FC, 0x0FC, 0x000, any]);
 }
@@ -158,7 +158,7 @@ fn ending_past(random: &mut Random) -> Proposed {
 }
 
 /// Two offsets are the same: neighbours, any two, or all.
-fn equal(offsets: &mut Vec<u16>, random: &mut Random) {
+fn equal(offsets: &mut [u16], random: &mut Random) {
     let count = offsets.len();
     let place = random.below(count - 1);
     match random.below(5) {
@@ -168,7 +168,7 @@ fn equal(offsets: &mut Vec<u16>, random: &mut Random) {
     }
 }
 
-fn any_offset(offsets: &mut Vec<u16>, random: &mut Random) {
+fn any_offset(offsets: &mut [u16], random: &mut Random) {
     let any = random.bits() as u16;
     let place = random.below(offsets.len());
     offsets[place] = random.pick(&[any, any & 0xFFFC, any & 0xFFC, 0xFFFF, 0]);

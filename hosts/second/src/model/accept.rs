@@ -34,7 +34,7 @@ fn is_acceptable(structures: &[Structure], offsets: &[u16]) -> bool {
     let mut claims = Claims::none();
     let mut pairs = structures.iter().zip(offsets).enumerate();
     let all_have_theirs = pairs.all(|(place, (structure, &offset))| claims.claim(place, structure, offset.into()));
-    all_have_theirs && claims.from_the_lowest().eq(0..structures.len())
+    all_have_theirs && claims.upwards().eq(0..structures.len())
 }
 
 /// The same once more, from each structure to the next. Only stated: no answer rests on it.

@@ -38,7 +38,7 @@ impl Claims {
     }
 
     /// The owners from the lowest byte up, each told where its bytes begin.
-    pub(super) fn from_the_lowest(&self) -> impl Iterator<Item = usize> {
+    pub(super) fn upwards(&self) -> impl Iterator<Item = usize> {
         let runs = self.owners.chunk_by(|one, next| one == next).map(|run| run[0]);
         runs.filter(|&owner| owner != NOBODY).map(usize::from)
     }
