@@ -6,7 +6,8 @@ use thawribbon::raw::Structure;
 
 use crate::harness::{Wrong, expect_caught, expect_not_caught};
 use crate::surveyor::{
-    Clauses, RIGHT, accepting, are_bad, expect_accepting_caught, expect_clauses_caught, needed, offsets_by, up,
+    Apart, Clauses, Ends, RIGHT, accepting, are_bad, expect_accepting_caught, expect_clauses_caught, needed,
+    offsets_by, up,
 };
 
 fn expect_accepting_not_caught(accept: impl Fn(&[Structure], &[u16]) -> bool + Clone + 'static) {
@@ -161,7 +162,7 @@ fn offsets_that_may_be_equal() {
 
 #[test]
 fn overlaps_looked_for_by_the_start_only() {
-    let tests: [fn([usize; 2], [usize; 2]) -> bool; 5] = [
+    let tests: [Apart; 5] = [
         |_, _| true,
         |[start, _], [next, _]| start < next,
         |[start, _], [next, _]| start + 4 <= next,
@@ -175,13 +176,13 @@ fn overlaps_looked_for_by_the_start_only() {
 
 #[test]
 fn overlaps_of_some_bytes_taken() {
-    let tests: [fn([usize; 2], [usize; 2]) -> bool; 9] = [
+    let tests: [Apart; 9] = [
         |[_, end], [next, _]| end <= next + 1,
         |[_, end], [next, _]| end <= next + 2,
         |[_, end], [next, _]| end <= next + 3,
         |[_, end], [next, _]| end <= next + 4,
         |[start, end], [next, _]| start + (end - start) / 4 * 4 <= next,
-        |[_, end], [next, _]| end != next + 1 && end <= next + 1 || end <= next || end > next + 4 && end < next + 8,
+        |[_, end], [next, _]| end <= next || end > next + 4 && end < next + 8,
         |[start, end], [next, its_end]| start + (its_end - next) <= next && end <= next + 8,
         |[_, end], [_, its_end]| end < its_end,
         |[_, end], [next, _]| (end % 0x100 <= next % 0x100 || end / 0x100 < next / 0x100) || end <= next,
@@ -193,7 +194,7 @@ fn overlaps_of_some_bytes_taken() {
 
 #[test]
 fn a_gap_wanted_or_none() {
-    let tests: [fn([usize; 2], [usize; 2]) -> bool; 5] = [
+    let tests: [Apart; 5] = [
         |[_, end], [next, _]| end < next,
         |[_, end], [next, _]| end + 4 <= next,
         |[start, end], [next, _]| start + up(end - start) == next,
@@ -210,7 +211,7 @@ fn only_some_neighbours_compared() {
     for left_out in [0, 1, 2, 100, 957, 958] {
         expect_accepting_caught(move |structures, offsets| {
             let mut shorter = structures.to_vec();
-            let way = |place: usize| Some(offsets.get(place + 1)?.checked_sub(*offsets.get(place)?)?);
+            let way = |place: usize| offsets.get(place + 1)?.checked_sub(*offsets.get(place)?);
             if let (Some(one), Some(way)) = (shorter.get_mut(left_out), way(left_out)) {
                 one.length = one.length.min(way);
             }
@@ -258,7 +259,7 @@ fn an_order_that_falls_taken() {
 
 #[test]
 fn an_end_past_1000h_taken() {
-    let tests: [fn([usize; 2], usize, usize) -> bool; 11] = [
+    let tests: [Ends; 11] = [
         |_, _, _| true,
         |[start, _], _, _| start < 0x1000,
         |[start, _], _, _| start <= 0xFFC,
@@ -295,7 +296,7 @@ fn the_last_end_taken_with_one_number_of_structures() {
 
 #[test]
 fn an_earlier_end_wanted() {
-    let tests: [fn([usize; 2], usize, usize) -> bool; 5] = [
+    let tests: [Ends; 5] = [
         |[_, end], _, _| end < 0x1000,
         |[_, end], _, _| end < 0xFFF,
         |[_, end], _, _| end <= 0xFFC,

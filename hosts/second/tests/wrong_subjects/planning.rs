@@ -406,60 +406,15 @@ fn too_small_a_room_taken() {
 
 #[test]
 fn the_tests_in_another_order() {
-    let none = |structures: &[Structure]| needed(structures) > 3840;
-    let small = |structures: &[Structure], room: &[u16]| room.len() < structures.len();
-    let orders: [fn(bool, bool, bool) -> u8; 4] = [
-        |bad, small, none| {
-            if small {
-                2
-            } else if bad {
-                1
-            } else if none {
-                14
-            } else {
-                0
-            }
-        },
-        |bad, small, none| {
-            if bad {
-                1
-            } else if none {
-                14
-            } else if small {
-                2
-            } else {
-                0
-            }
-        },
-        |bad, small, none| {
-            if none {
-                14
-            } else if bad {
-                1
-            } else if small {
-                2
-            } else {
-                0
-            }
-        },
-        |bad, small, none| {
-            if small {
-                2
-            } else if none {
-                14
-            } else if bad {
-                1
-            } else {
-                0
-            }
-        },
-    ];
-    for order in orders {
+    for order in [[2, 1, 14], [1, 14, 2], [14, 1, 2], [2, 14, 1], [14, 2, 1]] {
         expect_plan_caught(Wrong::plan(move |structures, room| {
-            match order(are_bad(structures), small(structures, room), none(structures)) {
-                0 => plan(structures, room),
-                number => number,
-            }
+            let applies = |number: &u8| match number {
+                1 => are_bad(structures),
+                2 => room.len() < structures.len(),
+                _ => needed(structures) > 3840,
+            };
+            let refusal = order.into_iter().find(applies);
+            refusal.unwrap_or_else(|| plan(structures, room))
         }));
     }
 }

@@ -50,6 +50,11 @@ pub fn plan(structures: &[Structure], room: &mut [u16]) -> u8 {
     0
 }
 
+/// A test of a structure's start and end, and those of the next one.
+pub type Apart = fn([usize; 2], [usize; 2]) -> bool;
+/// A test of a structure's start and end, its place, and how many there are.
+pub type Ends = fn([usize; 2], usize, usize) -> bool;
+
 /// A checker by its clauses, one of which may be wrong. Each is given what it looks at, for each structure that has an
 /// offset.
 #[derive(Clone, Copy)]
@@ -60,10 +65,8 @@ pub struct Clauses {
     pub is_multiple: fn(u16, usize, usize) -> bool,
     /// An offset and the next one.
     pub rises: fn(u16, u16) -> bool,
-    /// A structure's start and end, and those of the next one.
-    pub are_apart: fn([usize; 2], [usize; 2]) -> bool,
-    /// A structure's start and end, its place, and how many there are.
-    pub ends: fn([usize; 2], usize, usize) -> bool,
+    pub are_apart: Apart,
+    pub ends: Ends,
 }
 
 pub const RIGHT: Clauses = Clauses {
