@@ -129,3 +129,70 @@ fn count_again(count: usize, before: &Lists, tally: &mut Tally) {
         tally.add_if(old == MOST_STRUCTURES, Group::DraftAgain, 3);
     }
 }
+
+#[cfg(test)]
+mod tests {
+    use super::{DraftView, Lists, Structure, Tally, Walked, count};
+
+    const fn listed(count: usize) -> Walked {
+        Walked {
+            count,
+            number: 0,
+            place: 0,
+        }
+    }
+
+    /// A structure at 100h of a space of zeros, after which these lists are told, and a byte is as told.
+    fn count_one(extended: u16, compatible: usize, place: usize, byte: u8) {
+        let structures = [Structure {
+            id: 0x0023,
+            version: 1,
+            length: 4,
+        }];
+        let before = [0; 4096];
+        let mut space = before;
+        space[0x100..0x104].copy_from_slice(&[0x23, 0x00, 0x01, 0x00]);
+        space[place] = byte;
+        let view = DraftView {
+            structures: &structures,
+            plan: &[0x100],
+            offsets: &[0x100],
+            numbers: [0; 3],
+            lists: [(0, 0), (1, compatible)].map(|(count, compatible)| Lists {
+                extended: (listed(count), vec![extended; count]),
+                compatible: (listed(compatible), vec![0x40; compatible]),
+            }),
+            spaces: [&before, &space],
+        };
+        count(&view, &mut Tally::new());
+    }
+
+    #[test]
+    fn a_list_as_given_is_counted() {
+        count_one(0x100, 0, 0x100, 0x23);
+    }
+
+    #[test]
+    #[should_panic(expected = "the lists are not what the layout has")]
+    fn another_offset_stops_the_run() {
+        count_one(0x104, 0, 0x100, 0x23);
+    }
+
+    #[test]
+    #[should_panic(expected = "the lists are not what the layout has")]
+    fn another_id_stops_the_run() {
+        count_one(0x100, 0, 0x100, 0x24);
+    }
+
+    #[test]
+    #[should_panic(expected = "the lists are not what the layout has")]
+    fn another_byte_stops_the_run() {
+        count_one(0x100, 0, 0x104, 0x01);
+    }
+
+    #[test]
+    #[should_panic(expected = "the lists are not what the layout has")]
+    fn another_compatible_list_stops_the_run() {
+        count_one(0x100, 1, 0x100, 0x23);
+    }
+}

@@ -119,3 +119,41 @@ fn count_refused_forms(proposal: &Proposal<'_>, writes: usize, tally: &mut Tally
         ProposalForm::LastAtZero,
     );
 }
+
+#[cfg(test)]
+mod tests {
+    use super::{LayoutView, Structure, Tally, count_check};
+
+    fn count_two(offsets: &[u16], number: u8) {
+        let structures = [5, 4].map(|length| Structure {
+            id: 1,
+            version: 0,
+            length,
+        });
+        let view = LayoutView {
+            structures: &structures,
+            offsets,
+            number,
+        };
+        count_check(&view, &mut Tally::new());
+    }
+
+    #[test]
+    fn what_the_clauses_call_for_is_counted() {
+        count_two(&[0x100, 0x108], 0);
+        count_two(&[0x100, 0xFFC], 0);
+        count_two(&[0x100, 0x104], 18);
+    }
+
+    #[test]
+    #[should_panic(expected = "the model and the clauses disagree on a proposal")]
+    fn an_overlap_that_is_accepted_stops_the_run() {
+        count_two(&[0x100, 0x104], 0);
+    }
+
+    #[test]
+    #[should_panic(expected = "the model and the clauses disagree on a proposal")]
+    fn a_gap_that_is_refused_stops_the_run() {
+        count_two(&[0x100, 0x110], 18);
+    }
+}

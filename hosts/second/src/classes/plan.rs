@@ -161,3 +161,68 @@ fn count_sum(count: usize, needed: usize, tally: &mut Tally) {
         _ => {}
     }
 }
+
+#[cfg(test)]
+mod tests {
+    use super::{PlanView, Structure, Tally, count, needed};
+
+    fn of_length(length: u16) -> Structure {
+        Structure {
+            id: 1,
+            version: 0,
+            length,
+        }
+    }
+
+    /// Counts a plan for structures of these lengths, in a room that held ones.
+    fn count_plan(lengths: &[u16], room: &[u16], number: u8) {
+        let structures: Vec<Structure> = lengths.iter().map(|&length| of_length(length)).collect();
+        let view = PlanView {
+            structures: &structures,
+            before: &vec![1; room.len()],
+            room,
+            number,
+        };
+        count(&view, &mut Tally::new());
+    }
+
+    #[test]
+    fn the_last_is_added_as_it_stands() {
+        for (lengths, sum) in [
+            (&[5][..], 5),
+            (&[5, 5], 13),
+            (&[6, 7, 4], 20),
+            (&[4, 3837], 3841),
+            (&[], 0),
+        ] {
+            let structures: Vec<Structure> = lengths.iter().map(|&length| of_length(length)).collect();
+            assert_eq!(needed(&structures), sum);
+        }
+    }
+
+    #[test]
+    fn what_the_sum_calls_for_is_counted() {
+        count_plan(&[5, 4], &[0x100, 0x108, 1], 0);
+        count_plan(&[5, 4], &[1], 2);
+        count_plan(&[5, 3833], &[1, 1], 14);
+        count_plan(&[5, 3841], &[1], 1);
+    }
+
+    #[test]
+    #[should_panic(expected = "the model and the sum disagree on a layout")]
+    fn a_plan_that_cannot_be_stops_the_run() {
+        count_plan(&[5, 3833], &[0x100, 0x108], 0);
+    }
+
+    #[test]
+    #[should_panic(expected = "the model and the sum disagree on a plan")]
+    fn a_plan_that_is_not_the_lowest_stops_the_run() {
+        count_plan(&[5, 4], &[0x100, 0x10C], 0);
+    }
+
+    #[test]
+    #[should_panic(expected = "a plan writes what it should not")]
+    fn a_refusal_that_writes_stops_the_run() {
+        count_plan(&[5, 3833], &[0x100, 1], 14);
+    }
+}
