@@ -140,7 +140,7 @@ impl<'call> Proposal<'call> {
         unaligned.next().filter(|_| unaligned.next().is_none())
     }
 
-    /// Counts the only two neighbours that fall, where the others rise past them.
+    /// Counts the only two neighbours that fall, where the others rise past them. One below the first is none of these.
     fn count_order(&self, writes: usize, tally: &mut Tally) -> ProposalCause {
         let falls: Vec<usize> = (1..self.offsets.len())
             .filter(|&place| self.offsets[place - 1] > self.offsets[place])
@@ -150,7 +150,7 @@ impl<'call> Proposal<'call> {
         };
         let mut other_way_round = self.offsets.to_vec();
         other_way_round.swap(high - 1, high);
-        if !other_way_round.is_sorted() {
+        if high == 1 || !other_way_round.is_sorted() {
             return ProposalCause::FallingFurther;
         }
         tally.add(Group::FallPairs, (MOST_STRUCTURES - 2) * writes + high - 2);

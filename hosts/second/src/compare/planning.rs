@@ -59,7 +59,7 @@ impl Desk {
         let room = self.offsets.lent_mut();
         room.refill(|cells| {
             for (place, cell) in cells.iter_mut().enumerate() {
-                *cell = base.wrapping_add(2 * place as u16) | 1;
+                *cell = base.wrapping_add((2 * place) as u16) | 1;
             }
         });
         room.remember();

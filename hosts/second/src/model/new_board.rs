@@ -39,9 +39,7 @@ fn check_of(lengths: &[u16], offsets: &[u16]) -> u8 {
 fn one_to_960_structures() {
     for (count, number) in [(0, 1), (1, 0), (2, 0), (959, 0), (960, 0), (961, 1), (65537, 1)] {
         let structures = vec![structure(4); count];
-        let offsets: Vec<u16> = (0..count)
-            .map(|place| 0x100_u16.wrapping_add(4 * place as u16))
-            .collect();
+        let offsets: Vec<u16> = (0..count).map(|place| (0x100 + 4 * place) as u16).collect();
         assert_eq!(planned(&structures, count).0, number);
         assert_eq!(check_layout(&structures, &offsets), number);
         assert_eq!(write_layout(&structures, &offsets, &mut [0; 4096]), number);
@@ -113,12 +111,11 @@ fn the_lengths_before_the_last_are_rounded_up() {
 /// 4, plus the last as it stands exceed 3,840."
 #[test]
 fn no_layout_is_where_the_sum_exceeds_3840() {
-    for first in (4..=3840).step_by(17).chain(3820..=3840) {
-        for last in (4..=3840)
-            .step_by(13)
-            .chain([3840 - first / 4 * 4, 3841 - first / 4 * 4, 3837 - first / 4 * 4])
-        {
-            let sum = u32::from(first).div_ceil(4) * 4 + u32::from(last);
+    for first in (4..=3840_u16).step_by(17).chain(3820..=3840) {
+        let left = 3840_u16.saturating_sub(first.next_multiple_of(4));
+        let around = [left.saturating_sub(1), left, left + 1, left + 4];
+        for last in (4..=3840).step_by(13).chain(around) {
+            let sum = first.next_multiple_of(4) + last;
             if (4..=3840).contains(&last) {
                 assert_eq!(
                     plan_of(&[first, last]).0,
