@@ -109,7 +109,7 @@ pub const TABLE: [Line; 225] = [
         Group::TypeForms,
         "serve: both editions, type codes, bit 7, digest, poison",
         72,
-        40,
+        35,
     ),
     numbered(
         Group::ReservedBits,
@@ -191,7 +191,7 @@ pub const TABLE: [Line; 225] = [
         Group::TrustedWrites,
         "serve: every word changed by a write, trusted",
         1024,
-        6,
+        5,
     ),
     named(Group::Rules, "serve: rules of enabled bytes, success", RULES, 1000),
     named(
@@ -246,7 +246,7 @@ pub const TABLE: [Line; 225] = [
         Group::WholeForms,
         "serve: read, not enabled, bit 7, poison, digest, places",
         24,
-        40,
+        35,
     ),
     named(
         Group::Neighbours,
@@ -604,7 +604,7 @@ pub const TABLE: [Line; 225] = [
         Group::RoutePortsOfLists,
         "route: leaves by each port of lists of 1 to 32",
         528,
-        6,
+        5,
     ),
     numbered(
         Group::RouteBuses,
@@ -660,7 +660,7 @@ pub const TABLE: [Line; 225] = [
         Group::WriteUnaligned,
         "write_request: offsets of no word, remainders, pages",
         48,
-        5,
+        4,
     ),
     numbered(
         Group::WriteOverEnables,
@@ -862,7 +862,7 @@ pub const TABLE: [Line; 225] = [
         Group::JudgeRecordEdges,
         "judge: indexes under 12, numbers just over, alone",
         79,
-        3,
+        2,
     ),
     numbered(
         Group::JudgeRecordEnables,
@@ -950,7 +950,7 @@ pub const TABLE: [Line; 225] = [
         Group::LeftOut,
         "pair: bit 7 refused and left out, type codes, 1 to 4",
         28,
-        4,
+        2,
     ),
     numbered(
         Group::HalfShared,

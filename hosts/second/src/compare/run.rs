@@ -24,7 +24,7 @@ use crate::generate::{Random, SHAPES};
 /// read_completion. Then how often a circle is gone through. Then multicast and judge. Then how often a pair and a half of
 /// demand 3 go a step on, and a packet goes through a router to a board. Then plan_layout, check_layout and write_layout,
 /// and how often a layout goes through all of them.
-const WEIGHTS: [usize; 21] = [92, 3, 8, 13, 12, 6, 3, 5, 30, 11, 12, 6, 10, 22, 7, 9, 4, 9, 12, 11, 3];
+const WEIGHTS: [usize; 21] = [100, 3, 8, 12, 12, 6, 3, 5, 30, 11, 13, 6, 10, 23, 7, 9, 4, 8, 10, 9, 3];
 
 /// Where a run met a difference.
 #[derive(Debug)]
