@@ -98,25 +98,19 @@ fn count_refused_forms(proposal: &Proposal<'_>, writes: usize, tally: &mut Tally
     let offsets = proposal.offsets;
     let first = PROPOSAL_FORMS.len() * writes;
     let mut add_if = |condition, form| tally.add_if(condition, Group::ProposalForms, first + form as usize);
-    let mut overlaps = proposal.overlaps.iter();
-    let are_equal = |&(low, high): &(usize, usize)| offsets[low] == offsets[high];
-    let are_neighbours = |&(low, high): &(usize, usize)| low.abs_diff(high) == 1;
-    let only = match proposal.overlaps[..] {
-        [only] => Some(only),
-        _ => None,
-    };
-    let only_is =
-        |equal, neighbours| only.is_some_and(|pair| are_equal(&pair) == equal && are_neighbours(&pair) == neighbours);
-    add_if(only_is(true, true), ProposalForm::EqualNeighbours);
-    add_if(only_is(true, false), ProposalForm::EqualApart);
-    add_if(only_is(false, false), ProposalForm::OverlapApart);
-    let all_at_100h = offsets.iter().all(|&offset| offset == 0x100);
-    add_if(all_at_100h && overlaps.any(|_| true), ProposalForm::AllEqual);
+    if let [(low, high)] = proposal.overlaps[..] {
+        let (are_equal, are_neighbours) = (offsets[low] == offsets[high], low.abs_diff(high) == 1);
+        add_if(are_equal && are_neighbours, ProposalForm::EqualNeighbours);
+        add_if(are_equal && !are_neighbours, ProposalForm::EqualApart);
+        add_if(!are_equal && !are_neighbours, ProposalForm::OverlapApart);
+    }
+    let all_at_100h = offsets.len() > 1 && offsets.iter().all(|&offset| offset == 0x100);
+    add_if(all_at_100h, ProposalForm::AllEqual);
     add_if(needed(proposal.structures) > 3840, ProposalForm::NoLayout);
     add_if(offsets.contains(&0xFFFF), ProposalForm::OffsetFfffh);
     add_if(
         offsets.iter().skip(1).any(|&offset| offset == 0),
-        ProposalForm::LastAtZero,
+        ProposalForm::ZeroBehindTheFirst,
     );
 }
 

@@ -211,7 +211,7 @@ pub enum ProposalForm {
     OverlapApart,
     NoLayout,
     OffsetFfffh,
-    LastAtZero,
+    ZeroBehindTheFirst,
 }
 
 pub const PROPOSAL_FORMS: &[&str] = &[
