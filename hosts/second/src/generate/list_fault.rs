@@ -22,20 +22,26 @@ pub enum ListFault {
 #[derive(Clone, Copy)]
 pub enum StructureFault {
     Id,
-    Version,
+    /// A bit that a version cannot have, or any version over 15.
+    Version(usize),
     Under,
     Over,
 }
 
+/// The bits that a version cannot have: those from bit 4 on.
+const VERSION_BITS: usize = 12;
+
 /// Draws faults, with lists that have a place for them.
 pub struct ListFaultMaker {
     places: Cursor,
+    version_bits: Cursor,
 }
 
 impl ListFaultMaker {
     pub const fn new() -> Self {
         Self {
             places: Cursor::new(MOST_STRUCTURES),
+            version_bits: Cursor::new(VERSION_BITS),
         }
     }
 
@@ -45,28 +51,29 @@ impl ListFaultMaker {
         let (count, fault) = match random.weighted(&[66, 16, 6, 5, 20]) {
             0 => {
                 let place = self.places.draw(in_turn, random);
-                (random.within(place + 1, MOST_STRUCTURES), any_fault(place, random))
+                (random.within(place + 1, MOST_STRUCTURES), self.any_fault(place, random))
             }
-            1 => (count, any_fault(random.pick(&[0, count / 2, count - 1]), random)),
+            1 => (count, self.any_fault(random.pick(&[0, count / 2, count - 1]), random)),
             2 => (
                 MOST_STRUCTURES,
-                any_fault(MOST_STRUCTURES - random.within(1, 3), random),
+                self.any_fault(MOST_STRUCTURES - random.within(1, 3), random),
             ),
             3 => (count, ListFault::NoStructure),
             _ => (count, ListFault::TooMany),
         };
         (fitting(count, random), fault)
     }
-}
 
-fn any_fault(place: usize, random: &mut Random) -> ListFault {
-    let faults = [
-        StructureFault::Id,
-        StructureFault::Version,
-        StructureFault::Under,
-        StructureFault::Over,
-    ];
-    ListFault::At(place, random.pick(&faults))
+    /// Any fault of a structure, at a place. The bits of a version have their turn.
+    fn any_fault(&mut self, place: usize, random: &mut Random) -> ListFault {
+        let fault = match random.below(4) {
+            0 => StructureFault::Id,
+            1 => StructureFault::Version(4 + self.version_bits.sweep()),
+            2 => StructureFault::Under,
+            _ => StructureFault::Over,
+        };
+        ListFault::At(place, fault)
+    }
 }
 
 impl ListFault {
@@ -84,7 +91,7 @@ impl ListFault {
             Self::NoStructure => structures.clear(),
             Self::TooMany => {
                 let count = too_many(structures.len(), random);
-                structures.resize_with(count, || sound_structure(1, random));
+                structures.resize(count, sound_structure(1, random));
             }
             Self::At(place, fault) => fault.put(&mut structures[place], random),
         }
@@ -93,7 +100,7 @@ impl ListFault {
 
 /// More structures than a list may have: by one, by some, or such a number as would be good in 10 or in 16 bits.
 fn too_many(count: usize, random: &mut Random) -> usize {
-    match random.weighted(&[50, 20, 22, 3]) {
+    match random.weighted(&[50, 20, 22, 7]) {
         0 => MOST_STRUCTURES + 1,
         1 => random.within(MOST_STRUCTURES + 2, MOST_STRUCTURES + 64),
         2 => (1 << 10) + count,
@@ -106,10 +113,10 @@ impl StructureFault {
     pub fn put(self, structure: &mut Structure, random: &mut Random) {
         match self {
             Self::Id => structure.id = 0,
-            Self::Version => {
-                let one = structure.version | 1 << random.within(4, 15);
+            Self::Version(bit) => {
+                let one = structure.version | 1 << bit;
                 let any = random.within(16, 0xFFFF) as u16;
-                structure.version = random.pick(&[16, 16, one, one, one, one, any, 0xFFFF]);
+                structure.version = random.pick(&[16, one, one, one, one, one, any, 0xFFFF]);
             }
             Self::Under => structure.length = random.below(4) as u16,
             Self::Over => {
