@@ -843,7 +843,7 @@ pub const TABLE: [Line; 225] = [
         JUDGE_ANSWERS,
         1000,
     ),
-    named(Group::JudgeCauses, "judge: each cause of 1 alone", JUDGE_CAUSES, 12),
+    named(Group::JudgeCauses, "judge: each cause of 1 alone", JUDGE_CAUSES, 9),
     named(Group::JudgeTogether, "judge: causes of 1 together", JUDGE_TOGETHER, 20),
     numbered(Group::JudgeLengths, "judge: lists of 0 to 34 ports, and more", 36, 100),
     numbered(
@@ -984,7 +984,7 @@ pub const TABLE: [Line; 225] = [
         1000,
     ),
     named(Group::PlanRooms, "plan_layout: rooms for 0 and for 2", PLAN_ROOMS, 2),
-    numbered(Group::PlanCounts, "plan_layout: plans of 1 to 960 structures", 960, 3),
+    numbered(Group::PlanCounts, "plan_layout: plans of 1 to 960 structures", 960, 2),
     numbered(Group::NoLayoutCounts, "plan_layout: 14 for 2 to 960 structures", 959, 2),
     numbered(
         Group::PlanSums,

@@ -180,7 +180,7 @@ pub fn spoil_more(offsets: &mut Vec<u16>, random: &mut Random) {
         return;
     }
     let (place, last) = (random.below(offsets.len()), offsets.len() - 1);
-    match random.below(8) {
+    match random.below(9) {
         0 => offsets.truncate(last),
         1 => offsets.push(offsets[last].wrapping_add(64)),
         2 => offsets[0] = random.pick(&[0x0FC, 0x104, 0x101]),
@@ -188,6 +188,10 @@ pub fn spoil_more(offsets: &mut Vec<u16>, random: &mut Random) {
         4 => offsets[place] = offsets[last],
         5 => offsets.swap(place, last),
         6 => offsets[last] = random.pick(&[0x0FFC, 0x1000, 0xFFFC]),
+        7 if last > 1 => {
+            offsets.truncate(last);
+            offsets[last - 1] = 0x1000;
+        }
         _ => offsets[place] = offsets[place].wrapping_sub(4),
     }
 }
