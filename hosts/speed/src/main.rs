@@ -3,6 +3,7 @@
 //! Before anything is timed, every input of every row is given to all sides, and their answers must be equal.
 
 mod asks;
+mod layouts;
 mod machine;
 mod measure;
 mod merges;
@@ -53,6 +54,7 @@ fn measure_all(plan: Plan) -> Result<(), String> {
     rows.extend(routes::rows()?);
     rows.extend(asks::rows()?);
     rows.extend(multicast::rows()?);
+    rows.extend(layouts::rows()?);
     let mut variants = packets::variants::all()?;
     let row_contests = rows.iter_mut().map(|row| &mut row.contest);
     let variant_contests = variants.iter_mut().map(|variants| &mut variants.contest);
@@ -63,6 +65,7 @@ fn measure_all(plan: Plan) -> Result<(), String> {
     table::print_looks(&rows);
     table::print_variants(&variants);
     table::print_summary(&rows);
+    table::print_growth(&rows);
     table::print_reading(&rows);
     Ok(())
 }

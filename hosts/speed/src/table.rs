@@ -136,3 +136,21 @@ pub fn print_summary(rows: &[Row]) {
     let ratio = full.filter_map(|row| row.ratio(Peer::Chase)).fold(0.0, f64::max);
     println!("An extended walk of 960 headers takes at most {ratio:.2} times the bare chase.");
 }
+
+/// Prints what a structure of a layout takes where there are 96 and where there are 960: the same, if time grows with the count.
+pub fn print_growth(rows: &[Row]) {
+    let each = |job: &str, count: u32| {
+        let what = format!("layout, {job}, {count} structures");
+        let row = rows.iter().find(|row| row.what == what)?;
+        Some(row.contest.median(0) / f64::from(count))
+    };
+    let of_job = |job: &str| Some(format!("{job} {:.2} and {:.2}", each(job, 96)?, each(job, 960)?));
+    let all: Vec<String> = ["planned", "checked", "written"]
+        .into_iter()
+        .filter_map(of_job)
+        .collect();
+    println!(
+        "A structure of a layout takes, in ns, where there are 96 and where there are 960: {}.",
+        all.join("; ")
+    );
+}
