@@ -20,7 +20,7 @@ const CALLS: usize = 256;
 struct Kind {
     what: &'static str,
     draw: fn(&mut Random, &mut [u8]),
-    number: u8,
+    number: u64,
 }
 
 const KINDS: [Kind; 3] = [
@@ -61,7 +61,8 @@ fn draw(random: &mut Random, left: &mut [u8]) {
 }
 
 /// Reads the capability at an offset: a function that is not inlined and makes one call to its side. What it answers goes
-/// through black_box there, so that it is no mere jump to its side. The library is lent the fields, which it writes.
+/// through black_box there, so that it is no mere jump to its side; the library's number as a whole word, for a byte would
+/// lie in a word of the stack that is read as a whole on return. The library is lent the fields, which it writes.
 type Read<Answer> = fn(&[u8], usize, &mut raw::Groups) -> Answer;
 
 pub fn rows() -> Result<Vec<Row>, String> {
@@ -78,8 +79,8 @@ fn row(kind: &Kind, seed: u64) -> Result<Row, String> {
 }
 
 #[inline(never)]
-fn by_library(space: &[u8], at: usize, groups: &mut raw::Groups) -> u8 {
-    black_box(raw::multicast(space, at, groups))
+fn by_library(space: &[u8], at: usize, groups: &mut raw::Groups) -> u64 {
+    black_box(raw::multicast(space, at, groups).into())
 }
 
 #[inline(never)]
@@ -105,7 +106,7 @@ fn check(kind: &Kind, Place { space, at }: &Place) -> Result<(), String> {
     let found = (by_library(space, *at, &mut groups), groups);
     let expected = match by_safe_rust(space, *at, &mut groups) {
         Ok(port) => (0, in_library_form(port)),
-        Err(number) => (number, raw::Groups::ZEROS),
+        Err(number) => (number.into(), raw::Groups::ZEROS),
     };
     if found != expected || expected.0 != kind.number {
         let what = kind.what;
