@@ -39,7 +39,7 @@ fn draw(random: &mut Random) -> Draft {
 
 /// Changes one number to one that is near a bound, or how many offsets there are.
 fn spoil(random: &mut Random, draft: &mut Draft) {
-    let what = random.below(6);
+    let what = random.below(7);
     let last = draft.structures.len().saturating_sub(1);
     let any = random.below(last + 1);
     let place = random.pick(&[0, last, any]);
@@ -51,7 +51,7 @@ fn spoil(random: &mut Random, draft: &mut Draft) {
         (3, Some(structure), _) => structure.length = structure.length.wrapping_add(random.below(9) as u16),
         (4, _, Some(offset)) => *offset = random.pick(&[0, 0xFC, 0x100, 0x104, 0xFFC, 0x1000, 0xFFFC, 0xFFFF]),
         (5, _, Some(offset)) => *offset = offset.wrapping_add(random.below(17) as u16).wrapping_sub(8),
-        _ => draft.offsets.resize(random.below(4), 0x100),
+        _ => draft.offsets.resize(random.pick(&[0, last, last + 2]), 0xFFC),
     }
 }
 

@@ -87,18 +87,17 @@ impl Kind {
         if self.count < 96 { 64 } else { 8 }
     }
 
-    /// Whether a room or the space was written, and what was planned is walked, where the row says so.
+    /// Whether what is lent is left as the row's name says.
     pub fn is_as_named(&self, lent: &Lent, left: &Lent) -> bool {
-        let has_planned = left.planned != lent.planned;
-        let has_written = left.space != lent.space;
-        let has_walked = left.listed != lent.listed;
-        let named = match self.job {
-            _ if self.number != 0 => (false, false, false),
-            Job::Plan => (true, false, false),
-            Job::Check => (false, false, false),
-            Job::Write => (false, true, false),
-            Job::PlanWriteWalk => (true, true, left.listed == left.planned),
-        };
-        (has_planned, has_written, has_walked) == named
+        let planned = left.planned != lent.planned;
+        let written = left.space != lent.space;
+        let walked = left.listed != lent.listed;
+        match self.job {
+            _ if self.number != 0 => left == lent,
+            Job::Plan => planned && !written && !walked,
+            Job::Check => left == lent,
+            Job::Write => written && !planned && !walked,
+            Job::PlanWriteWalk => planned && written && left.listed == left.planned,
+        }
     }
 }
