@@ -99,7 +99,7 @@ page_notices() {
     other_page_rust "Rust program 10 of $page stops at an ID of 0000h" 10 's/id: 0x000C/id: 0x0000/' 'Error: BadDescription'
     other_page_rust "Rust program 10 of $page stops at a room that is too small" 10 's/\[0; List::Extended.maximum()\]/[0; 2]/' 'Error: NoRoom'
     other_page_rust "Rust program 10 of $page stops at a layout that is not accepted" 10 's/0x100, 0x200/0x100, 0x114/' \
-        "$(sed -n 's/.*in the middle of the first structure, it would end with `\(Error: [^`]*\)`.*/\1/p' $page)"
+        "$(sed -n 's/.*inside the first structure, it would end with `\(Error: [^`]*\)`.*/\1/p' $page)"
 }
 
 # The page's N-th Rust program has no board: of the archive, only the asking side is linked.

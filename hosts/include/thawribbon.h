@@ -1215,7 +1215,7 @@ static inline int thawribbon_layout_overlaps(const thawribbon_structure *structu
  * layout->offsets says where each structure stands. With 1, also where the space is NULL, and with 14 the space is unchanged, and there are
  * no offsets. 18 is not given: what is planned is accepted. structures_length counts structures, not bytes. `layout` is not NULL.
  *
- * Where space, layout and structures overlap, the number is 1, and nothing is written but `layout`.
+ * Where space, layout and structures overlap, the number is 1, and nothing is written but `layout`, even where it lies in the space.
  */
 THAWRIBBON_MUST_USE static inline uint8_t thawribbon_layout_lay(const thawribbon_structure *structures, size_t structures_length,
                                                                 thawribbon_bytes *space, thawribbon_layout *layout)

@@ -121,7 +121,7 @@ chained s (at ∷ offsets) on above =
 
 module _ {structures : List (List ℕ)} {offsets s after : List ℕ} (wide : SixteenBits structures) (laid : Laid structures offsets s after) where
   -- the word at 100h has an ID, and is not zero
-  begins : word after 0x100 ≡ 0 → ⊥
+  pub begins : word after 0x100 ≡ 0 → ⊥
   begins z =
       let gave = given structures (laid .0) in
       let first-there = laid .1 .first in

@@ -1,4 +1,4 @@
-// The checker: whether a proposal of offsets is accepted. One look at each offset.
+// The checker: whether a proposal of offsets is accepted, in one pass over them.
 ghost use mathlib.Core.Path.{_≡_};
 ghost use Rattle.layout.specs.Accepting.{Checks};
 ghost use Rattle.layout.specs.Inner.{mayStand, accepts};
