@@ -73,7 +73,7 @@ fn has_wrong_size(bytes: &[u8], rules: &[u8], marks: &[u8]) -> bool
 }
 
 // Answer 1: the sizes and the board's numbers first, which are soon looked at, and then every bit of the rules and marks.
-pub(super) fn is_badly_described(
+pub fn is_badly_described(
     description: Description,
     kept: Capture,
     ordinary: &[u8],

@@ -1,5 +1,6 @@
 // One function of one endpoint: every configuration packet answered, and every space left, as document 01 says.
-// `serve` and `reset` are the entries; what they promise for every input is specs/Promise.antt over specs/Serving.antt.
+// `serve`, `reset` and `is_badly_described` are the entries; what they promise for every input is specs/Promise.antt over specs/Serving.antt,
+// and specs/Description.antt.
 mod access;
 mod completing;
 mod describing;
@@ -8,6 +9,7 @@ mod serving;
 
 use answers::Answer;
 use capture::Capture;
+pub use describing::is_badly_described;
 pub use serving::reset;
 pub use serving::serve;
 

@@ -1,0 +1,4 @@
+pub mod Pair
+pub mod Serving
+pub mod Promise
+pub mod Inner
