@@ -1,4 +1,5 @@
 pub mod Packets
+pub mod Pairs
 pub mod Walks
 pub mod Records
 pub mod Inner
