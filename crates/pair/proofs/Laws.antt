@@ -3,6 +3,7 @@ use Prim.Native.Nat.{ℕ, zero, suc}
 use mathlib.Core.Bool.{Bool, true, false, not, _&&_, _||_, cond, or-false, or-true, and-true, and-false, true≢false}
 use mathlib.Core.List.{List, []}
 use mathlib.Core.Path.{_≡_, refl, sym, ap, _∙_}
+use native.Mathlib.Omega.{arith}
 use lib.Dec.{eqb, ltb}
 use borrow.Author.Tests.{eq-eqb, ne-eqb, eqb-true, eqb-false}
 use Rattle.answers.specs.declared.Refusal.{Refusal}
@@ -23,6 +24,7 @@ use Rattle.board.proofs.Outcomes.{respond-unsupported}
 use Rattle.board.proofs.Refusals.{sound-served}
 use Rattle.pair.specs.Pair.{Pair, Role, Primary, Alternate, other, side, board, badPair, WellPaired, isFor, isForRole}
 use Rattle.pair.specs.Pair as pairs
+use Rattle.pair.specs.Serving as serving
 use Rattle.pair.specs.Serving.{PairOutcome, answersAs, servedBy, delivered, pairNumber, pairRefused, byPairNumber, servePair}
 
 -- ---- whom a packet is for
@@ -179,3 +181,43 @@ module _ (pair : Pair) (p : List ℕ) (size : ℕ) (apart : pairs.numberOf Prima
 
   pub primary-answers : badlyDescribed (board Alternate pair) ≡ false → isForRole Alternate pair p ≡ false → servePair pair p size ≡ servedBy Primary pair p size
   primary-answers well h = answered-by Primary pair p size apart well (λ n. primary-delivers n h _ refl)
+
+-- ---- a pair that is well described
+
+-- what is for neither, by the number
+abbrev pub byNeither : ℕ → Pair → List ℕ → PairOutcome
+byNeither zero pair p = serving.unsupported pair (requestOf p)
+byNeither (suc n) pair p = pairRefused (suc n) pair
+
+-- where the pair's number is 0, each function's is
+pub each-number : (role : Role) (pair : Pair) (p : List ℕ) (size : ℕ) → pairNumber pair p size ≡ 0 → serveNumber (board role pair) p size ≡ 0
+each-number role pair p size n = by (badPair pair) refl n
+  where
+    by : (b : Bool) → badPair pair ≡ b → cond b 1 (cond (ltb size 16) 2 (numberUnder (pair .edition) p)) ≡ 0 → serveNumber (board role pair) p size ≡ 0
+    by true w e = absurd (omega (arith, e))
+    by false w e = rw (well-each pair w role) e
+
+-- the number of a pair that is well described is the packet's and the reply size's, under its edition
+pub well-number : (pair : Pair) (p : List ℕ) (size : ℕ) → WellPaired pair → pairNumber pair p size ≡ cond (ltb size 16) 2 (numberUnder (pair .edition) p)
+well-number pair p size w = rw w
+
+module _ (pair : Pair) (w : WellPaired pair) (p : List ℕ) (size : ℕ) where
+  -- a packet is not for the other function
+  pub not-other : (role : Role) → isForRole role pair p ≡ true → isForRole (other role) pair p ≡ false
+  not-other Primary h = for-one (pair .edition) _ _ p (well-apart pair w) h
+  not-other Alternate h = for-one (pair .edition) _ _ p (λ e. well-apart pair w (sym e)) h
+
+  -- each function answers what is for it
+  pub own-answers : (role : Role) → isForRole role pair p ≡ true → servePair pair p size ≡ servedBy role pair p size
+  own-answers Primary h = primary-answers pair p size (well-apart pair w) (well-each pair w Alternate) (not-other Primary h)
+  own-answers Alternate h = alternate-answers pair p size (well-apart pair w) (well-each pair w Primary) h
+
+  -- what is for neither leaves all as it is, and is answered with the primary's completer ID or refused
+  neither-by : (n : ℕ) → isForRole Primary pair p ≡ false → isForRole Alternate pair p ≡ false → byPairNumber n pair p size ≡ byNeither n pair p
+  neither-by zero h k = rw (h, k)
+  neither-by (suc n) h k = refl
+
+  pub neither-answers : isForRole Primary pair p ≡ false → isForRole Alternate pair p ≡ false
+      → servePair pair p size ≡ byNeither (cond (ltb size 16) 2 (numberUnder (pair .edition) p)) pair p
+  unfolding servePair
+  neither-answers h k = rw (well-number pair p size w) (neither-by (cond (ltb size 16) 2 (numberUnder (pair .edition) p)) h k)

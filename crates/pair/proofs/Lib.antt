@@ -1,2 +1,5 @@
 pub mod Laws
 pub mod Outcomes
+pub mod Unique
+pub mod Refusals
+pub mod Keeps
