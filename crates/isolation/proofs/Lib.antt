@@ -1,0 +1,3 @@
+pub mod Project
+pub mod Alone
+pub mod Isolated
