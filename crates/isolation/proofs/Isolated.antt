@@ -102,11 +102,11 @@ module _ (pair : Pair) (w : WellPaired pair) where
 -- ---- a faithful row, as the unchanged function sees it
 
 -- what a row has in common with its events
-ends-alike : {Step : Type 0} (row : Row Step) (s : Pair) (xs : List Step) → end row s xs ≡ endOf (row .next) s xs
+pub ends-alike : {Step : Type 0} (row : Row Step) (s : Pair) (xs : List Step) → end row s xs ≡ endOf (row .next) s xs
 ends-alike row s [] = refl
 ends-alike row s (x ∷ xs) = ends-alike row (row .next s x) xs
 
-events-alike : {Step : Type 0} (row : Row Step) (xs : List Step) → eventsIn row xs ≡ eventsOf (row .event) xs
+pub events-alike : {Step : Type 0} (row : Row Step) (xs : List Step) → eventsIn row xs ≡ eventsOf (row .event) xs
 events-alike row [] = refl
 events-alike row (x ∷ xs) = ap (λ (es : List Event). row .event x ∷ es) (events-alike row xs)
 
@@ -124,10 +124,10 @@ module _ {Step : Type 0} (row : Row Step) (Fits : Pair → List Step → Type 0)
   kept = notFor (other unchanged) d
 
   -- a row of the pair, with the kinds that it started with
-  abbrev Fit : Pair → List Step → Type 0
+  abbrev pub Fit : Pair → List Step → Type 0
   Fit s xs = Fits s xs × SameKinds d s
 
-  moved : (s : Pair) (x : Step) (xs : List Step) → Fit s (x ∷ xs) → board unchanged (row .next s x) ≡ move (board unchanged s) (row .event x)
+  pub moved : (s : Pair) (x : Step) (xs : List Step) → Fit s (x ∷ xs) → board unchanged (row .next s x) ≡ move (board unchanged s) (row .event x)
   moved s x xs f =
       ap (board unchanged) (faithful .after s x xs (f .0))
       ∙ goes-alone unchanged s (row .event x) (faithful .well s (x ∷ xs) (f .0))

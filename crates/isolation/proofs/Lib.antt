@@ -1,3 +1,4 @@
 pub mod Project
 pub mod Alone
 pub mod Isolated
+pub mod Halves

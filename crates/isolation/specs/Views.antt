@@ -86,7 +86,7 @@ module _ {Step : Type 0} (row : Row Step) where
 
   -- ---- demand 3 for one function
 
-  abbrev sightIn : (Side → Space) → Role → Pair → Step → Sight
+  abbrev pub sightIn : (Side → Space) → Role → Pair → Step → Sight
   sightIn space role pair step =
       record { number = row .number pair step; written = row .written pair step; bytes = space (side role (row .next pair step)) .bytes }
 
