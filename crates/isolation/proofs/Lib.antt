@@ -2,3 +2,5 @@ pub mod Project
 pub mod Alone
 pub mod Isolated
 pub mod Halves
+pub mod Examples
+pub mod Bite

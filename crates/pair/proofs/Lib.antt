@@ -3,3 +3,4 @@ pub mod Outcomes
 pub mod Unique
 pub mod Refusals
 pub mod Keeps
+pub mod Computing
