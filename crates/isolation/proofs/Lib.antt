@@ -4,3 +4,4 @@ pub mod Isolated
 pub mod Halves
 pub mod Examples
 pub mod Bite
+pub mod Needed
