@@ -5,3 +5,4 @@ pub mod Halves
 pub mod Examples
 pub mod Bite
 pub mod Needed
+pub mod HalvesNeeded

@@ -113,58 +113,58 @@ RepliesAlways =
 -- ---- the witnesses
 
 -- spaces: zero with the bench sheet's rules, FFh in four places, nothing writable, four bytes of FFh at 008h that no write changes, and the same as a status
-abbrev zero : Space
+abbrev pub zero : Space
 zero = plain zeros benchRules
 
-abbrev full : ℕ → Space
+abbrev pub full : ℕ → Space
 full at = plain (holding at ones) benchRules
 
-abbrev shut : Space
+abbrev pub shut : Space
 shut = plain zeros zeros
 
-abbrev fixed : Space
+abbrev pub fixed : Space
 fixed = full 0x008
 
-abbrev status : Space
+abbrev pub status : Space
 status = withStatus zero
 
 -- function 2 with bus 05h and device 3 captured; with nothing captured; another number
-abbrev usualWith : ℕ → ℕ → Space → Space → Side
+abbrev pub usualWith : ℕ → ℕ → Space → Space → Side
 usualWith a b ordinary trusted = sideWith 2 a b (Number 0x05 0x03) ordinary trusted
 
-abbrev usual : Side
+abbrev pub usual : Side
 usual = usualWith 0x104 0x00c zero zero
 
-abbrev unknown : Side
+abbrev pub unknown : Side
 unknown = sideWith 2 0x104 0x00c Nothing zero zero
 
 abbrev numbered : ℕ → Side
 numbered n = sideWith n 0x104 0x00c (Number 0x05 0x03) zero zero
 
 -- function 3, badly described: a bit that is writable is marked too
-abbrev twice : Side
+abbrev pub twice : Side
 twice = sideWith 3 0x104 0x00c Nothing zero (record { bytes = zeros; rules = benchRules; marks = benchRules })
 
 -- runs of one or two packets for function 2, and for neither
-abbrev atIt : List Event
+abbrev pub atIt : List Event
 atIt = toMine read4 ∷ []
 
-abbrev atA : List Event
+abbrev pub atA : List Event
 atA = toMine (readAt 0x01 0x04) ∷ []
 
-abbrev stored : List Event
+abbrev pub stored : List Event
 stored = toMine p2 ∷ atIt
 
-abbrev stored8 : List Event
+abbrev pub stored8 : List Event
 stored8 = toMine (changed p2 0xb 0x08) ∷ toMine (readAt 0x00 0x08) ∷ []
 
-abbrev trustedIt : List Event
+abbrev pub trustedIt : List Event
 trustedIt = toMine trusted4 ∷ []
 
-abbrev kept : List Event
+abbrev pub kept : List Event
 kept = toMine (trustedWriteAt 0x0f 0x00 0x04 ones) ∷ trustedIt
 
-abbrev kept8 : List Event
+abbrev pub kept8 : List Event
 kept8 = toMine (trustedWriteAt 0x0f 0x00 0x08 ones) ∷ toMine (trustedReadAt 0x00 0x08) ∷ []
 
 -- a read for neither, and one with bit 7 set
