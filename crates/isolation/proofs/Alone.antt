@@ -94,7 +94,7 @@ runs-faithful =
     }
 
 -- and calls that meet their promises
-call-after : (s : Pair) (c : PairCall) → Meets s c → calls .next s c ≡ pairOutcome s (calls .event c) .after
+pub call-after : (s : Pair) (c : PairCall) → Meets s c → calls .next s c ≡ pairOutcome s (calls .event c) .after
 call-after s (called bytes reply r po pt ao at replied) m = pair-call-holds s bytes reply r po pt ao at replied m
 call-after s (wasReset kept) m =
     λ i.
@@ -104,12 +104,12 @@ call-after s (wasReset kept) m =
       alternate = record { function = s .alternate .function; capture = m i .alternate; ordinary = s .alternate .ordinary; trusted = s .alternate .trusted };
     }
 
-call-number : (s : Pair) (c : PairCall) → Meets s c → calls .number s c ≡ pairOutcome s (calls .event c) .number
+pub call-number : (s : Pair) (c : PairCall) → Meets s c → calls .number s c ≡ pairOutcome s (calls .event c) .number
 unfolding pairShows
 call-number s (called bytes reply r po pt ao at replied) m = ap (λ (x : PairSeen). x .number) m
 call-number s (wasReset kept) m = refl
 
-call-written : (s : Pair) (c : PairCall) → Meets s c → calls .written s c ≡ pairOutcome s (calls .event c) .written
+pub call-written : (s : Pair) (c : PairCall) → Meets s c → calls .written s c ≡ pairOutcome s (calls .event c) .written
 unfolding pairShows
 call-written s (called bytes reply r po pt ao at replied) m =
     ap (λ (x : PairSeen). take (x .count) (x .reply)) m ∙ take-append-seam (servePair s bytes (length reply) .written) _

@@ -6,3 +6,6 @@ pub mod Examples
 pub mod Bite
 pub mod Needed
 pub mod HalvesNeeded
+pub mod Wrong
+pub mod Dual
+pub mod Calls

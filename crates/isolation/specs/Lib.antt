@@ -1,3 +1,4 @@
 pub mod Rows
 pub mod Views
 pub mod Statements
+pub mod Servers
