@@ -1,12 +1,13 @@
 -- A second result that meets a promise of this crate is the same result. Assumes nothing.
 use Prim.Native.Nat.{ℕ}
+use mathlib.Core.Bool.{Bool}
 use mathlib.Core.List.{List}
 use mathlib.Core.Path.{_≡_, sym, ap, _∙_}
 use Rattle.answers.proofs.Unique.{answer-tells}
 use Rattle.capture.specs.declared.Capture.{Capture}
 use Rattle.capture.specs.Kept.{forgotten}
 use Rattle.board.specs.declared.Served.{Served}
-use Rattle.board.specs.Description.{Board}
+use Rattle.board.specs.Description.{Board, badlyDescribed}
 use Rattle.board.specs.Promise.{Seen, seen, Serves}
 
 -- the statement: whatever meets `serve`'s promise from the same board, packet and reply is the same result, with the same three buffers
@@ -29,3 +30,6 @@ serve-unique d p reply r q o t after o′ t′ after′ e f =
 
 pub reset-unique : (kept r q : Capture) → r ≡ forgotten kept → q ≡ forgotten kept → r ≡ q
 reset-unique kept r q e f = e ∙ sym f
+
+pub badly-described-unique : (d : Board) (r q : Bool) → r ≡ badlyDescribed d → q ≡ badlyDescribed d → r ≡ q
+badly-described-unique d r q e f = e ∙ sym f

@@ -2,4 +2,5 @@ pub mod Told
 pub mod Bodies
 pub mod Numbers
 pub mod Sequence
+pub mod Both
 pub mod Unique
