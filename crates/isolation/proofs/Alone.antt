@@ -2,21 +2,20 @@
 -- way alone. And what runs and calls owe for that. Assumes nothing.
 use Prim.Native.Nat.{ℕ}
 use mathlib.Core.Bool.{Bool, true, false, cond}
-use mathlib.Core.List.{List, [], _∷_}
-use mathlib.Core.Path.{_≡_, refl, sym, ap, _∙_}
+use mathlib.Core.List.{List, _∷_}
+use mathlib.Core.Path.{_≡_, refl, ap, _∙_}
 use lib.ListN.{length, take}
 use lib.Seq.{take-append-seam}
 use Rattle.board.specs.Description.{Board, afterReset}
 use Rattle.board.specs.Serving.{serve}
 use Rattle.runs.specs.Run.{Event, packet, reset}
 use Rattle.pair.specs.declared.Function.{Function}
-use Rattle.pair.specs.declared.Captures.{Captures}
 use Rattle.pair.specs.Pair.{Pair, Role, Primary, Alternate, boardOf, board, WellPaired, isFor, isForRole}
 use Rattle.pair.specs.Pair as pairs
 use Rattle.pair.specs.Serving.{servePair}
 use Rattle.pair.specs.Promise.{PairSeen, pairShows}
 use Rattle.pair.proofs.Keeps.{pair-serve-keeps, pair-call-holds, own-board, other-keeps, pair-serve-keeps-well, pair-reset-keeps-well}
-use Rattle.isolation.specs.Rows.{Row, pairOutcome, runs, PairCall, called, wasReset, calls, Meets, AllMeet}
+use Rattle.isolation.specs.Rows.{Row, pairOutcome, runs, PairCall, called, wasReset, calls, Meets}
 use Rattle.isolation.specs.Views.{forRole}
 use Rattle.isolation.specs.Statements.{met}
 

@@ -14,7 +14,7 @@ use Rattle.capture.specs.declared.Capture.{Capture}
 use Rattle.capture.specs.declared.Capture.the-variants.{Nothing, Number}
 use Rattle.shares.specs.Kinds.{only}
 use Rattle.shares.proofs.Bite.{Apart, completed}
-use Rattle.pair.specs.Pair.{Side, Pair, Role, Primary, Alternate, other, side, WellPaired}
+use Rattle.pair.specs.Pair.{Pair, Role, Primary, Alternate, other, side, WellPaired}
 use Rattle.pair.proofs.Computing.{pairComputing}
 use Rattle.isolation.specs.Rows.{runs}
 use Rattle.isolation.specs.Views.{OwnSight, forRole, notFor, eventsThat, ownSights, neitherNumbers, neitherReplies}

@@ -1,6 +1,5 @@
 -- Calling the entries of a pair packet by packet gives the run: what the caller holds at the end is the run's pair, and each call answered the run's number and wrote
 -- the run's reply bytes. The start is any pair, fresh or not, well described or not. Assumes nothing.
-use Prim.Native.Nat.{ℕ}
 use mathlib.Core.Bool.{true}
 use mathlib.Core.List.{List, [], _∷_}
 use mathlib.Core.Path.{_≡_, refl, ap, _∙_}

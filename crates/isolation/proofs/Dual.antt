@@ -2,12 +2,10 @@
 -- the alternate's, and is served as the alternate serves it. And an example: the record reads back as this board's second function, and a Type 0 write to the device
 -- and function that it names, and a trusted read after it, are answered by the alternate. Assumes nothing.
 use Prim.Native.Nat.{ℕ}
-use mathlib.Core.Bool.{Bool, true, false, not, _&&_}
+use mathlib.Core.Bool.{true, not, _&&_}
 use mathlib.Core.List.{List, [], _∷_}
-use mathlib.Core.Path.{_≡_, refl, sym, ap, _∙_}
-use lib.Dec.{eqb}
+use mathlib.Core.Path.{_≡_, refl, ap, _∙_}
 use borrow.Author.Tests.{eq-eqb}
-use Rattle.words.specs.Bytes.{put}
 use Rattle.packet.specs.declared.Target.{Target}
 use Rattle.packet.specs.declared.Target.the-variants.{Type0, Type1, Trusted}
 use Rattle.packet.specs.Request.{numberUnder, requestOf}
@@ -15,12 +13,11 @@ use Rattle.records.specs.Required.{sized}
 use Rattle.records.specs.DualRule.{DualTold, dualSays, dualNumber, fitsDual, knownPair, isDual, setPlaces, oneSet, setPlace}
 use Rattle.capture.specs.declared.Capture.the-variants.{Nothing}
 use Rattle.board.specs.Access.{isType1}
-use Rattle.board.specs.Description.{Space}
 use Rattle.runs.specs.Run.{Event}
 use Rattle.runs.specs.Bench.{zeros, holding, benchRules, p2}
 use Rattle.shares.proofs.Examples.{sent, plain}
 use Rattle.shares.proofs.Bite.{completed}
-use Rattle.pair.specs.Pair.{Side, Pair, Role, Primary, Alternate, WellPaired, isForRole}
+use Rattle.pair.specs.Pair.{Pair, Primary, Alternate, WellPaired}
 use Rattle.pair.specs.Pair as pairs
 use Rattle.pair.specs.Serving.{servedBy, servePair}
 use Rattle.pair.proofs.Laws.{for-target, own-answers}

@@ -3,24 +3,21 @@
 use Prim.Native.Nat.{ℕ}
 use mathlib.Core.Bool.{Bool, true, false, not, _&&_, _||_, or-false, false≢true}
 use mathlib.Core.List.{List, [], _∷_}
-use mathlib.Core.Option.{Option}
 use mathlib.Core.Path.{_≡_, refl, sym, ap, _∙_, subst}
-use Rattle.capture.specs.declared.Capture.{Capture}
-use Rattle.board.specs.Description.{Space, Board, badlyDescribed, WellDescribed}
-use Rattle.board.specs.Serving.{serve}
+use Rattle.board.specs.Description.{Space, Board, WellDescribed}
 use Rattle.runs.specs.Run.{Event, packet, reset, next, after}
 use Rattle.shares.specs.Kinds.{keep, only, along}
-use Rattle.shares.specs.Views.{Sight, OrdinaryState, TrustedState, ordinaryPacket, trustedPacket, ordinaryState, trustedState, sightAt, register}
+use Rattle.shares.specs.Views.{Sight, ordinaryPacket, trustedPacket, ordinaryState, trustedState, sightAt, register}
 use Rattle.shares.proofs.FirstHalf.{first-half}
 use Rattle.shares.proofs.SecondHalf.{second-half}
 use Rattle.pair.specs.Pair.{Side, Pair, Role, Primary, Alternate, side, sideOf, board, WellPaired, isFor}
 use Rattle.pair.specs.Pair as pairs
-use Rattle.pair.specs.Serving.{PairOutcome, servedBy, servePair}
+use Rattle.pair.specs.Serving.{PairOutcome, servedBy}
 use Rattle.pair.proofs.Laws.{well-each, own-answers}
 use Rattle.isolation.specs.Rows.{Row, eventsIn, end, pairOutcome, runs, calls}
-use Rattle.isolation.specs.Views.{forRole, isReset, ordinaryOrReset, ordinaryFor, trustedFor, eventsThat, valuesAt, sightIn}
+use Rattle.isolation.specs.Views.{forRole, isReset, ordinaryOrReset, trustedFor, eventsThat, valuesAt, sightIn}
 use Rattle.isolation.specs.Statements.{FirstHalfOf, SecondHalfOf, PairFirstHalf, PairSecondHalf, met, BothHalvesOfPairCalls}
-use Rattle.isolation.proofs.Project.{eventsOf, endOf, Owed, Shown, end-projected, values-projected}
+use Rattle.isolation.proofs.Project.{endOf, Owed, end-projected, values-projected}
 use Rattle.isolation.proofs.Alone.{SameKinds, same-kinds, kinds-kept, for-same, moveFor, Faithful, runs-faithful, calls-faithful}
 use Rattle.isolation.proofs.Isolated.{Fit, moved, ends-alike, events-alike}
 

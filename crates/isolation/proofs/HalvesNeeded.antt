@@ -2,7 +2,7 @@
 -- for neither differ too, and so does what the other function is and has captured. Which number the function has, and which edition, are not among the premises
 -- here: a packet that is for the function in both runs names it in both, and is without a fault under both editions. Assumes nothing.
 use Prim.Native.Nat.{ℕ}
-use mathlib.Core.Bool.{Bool, false}
+use mathlib.Core.Bool.{false}
 use mathlib.Core.List.{List, [], _∷_, map}
 use mathlib.Core.Option.{Option, some}
 use mathlib.Core.Path.{_≡_, refl, sym, ap, _∙_}
@@ -19,10 +19,10 @@ use Rattle.shares.specs.Views.{OrdinaryState, TrustedState, Sight, ordinaryStat
 use Rattle.shares.proofs.Examples.{ones, plain, withStatus, trustedReadAt, trustedWriteAt, register}
 use Rattle.shares.proofs.Needed.{whole, nothing, butA, butCapture, butBytes, butRules, butMarks, inOrdinary, inTrusted, noBytes, noSize, butPlaces, nth}
 use Rattle.shares.proofs.Bite.{Apart, completed}
-use Rattle.pair.specs.Pair.{Side, Pair, Role, Primary, Alternate, other, side, board, WellPaired}
+use Rattle.pair.specs.Pair.{Pair, Role, Primary, Alternate, other, side, board, WellPaired}
 use Rattle.pair.proofs.Computing.{pairComputing}
 use Rattle.isolation.specs.Rows.{runs}
-use Rattle.isolation.specs.Views.{forRole, forNeither, ordinaryOrReset, trustedFor, eventsThat, valuesAt, ordinarySightsFor, trustedSightsFor, registersFor, capturesFor}
+use Rattle.isolation.specs.Views.{forNeither, ordinaryOrReset, trustedFor, eventsThat, valuesAt, ordinarySightsFor, trustedSightsFor, registersFor, capturesFor}
 use Rattle.isolation.proofs.Halves.{pair-first-half, pair-second-half}
 use Rattle.isolation.proofs.Examples.{sideWith, paired, writable, another, changedOther, to, toMine, toAnother, toChanged, toNeither, secret, read4, trusted4}
 use Rattle.isolation.proofs.Needed.{NumbersDiffer, zero, full, shut, fixed, status, usualWith, usual, unknown, twice, atIt, atA, stored, stored8, trustedIt, kept, kept8}

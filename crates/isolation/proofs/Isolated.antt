@@ -7,7 +7,6 @@ use mathlib.Core.List.{List, [], _∷_}
 use mathlib.Core.Path.{_≡_, refl, sym, ap, _∙_, subst}
 use borrow.Author.Tests.{not-true, not-false}
 use lib.Dec.{ltb}
-use Rattle.packet.specs.declared.Id.{Id}
 use Rattle.packet.specs.declared.Status.the-variants.{Unsupported}
 use Rattle.packet.specs.Request.{numberUnder, requestOf}
 use Rattle.packet.specs.Completion.{withoutData}
@@ -15,14 +14,13 @@ use Rattle.board.specs.Description.{Board}
 use Rattle.board.specs.Serving.{serve, completerOf}
 use Rattle.runs.specs.Run.{Event, packet, reset}
 use Rattle.shares.specs.Kinds.{only, along}
-use Rattle.pair.specs.declared.Function.{Function}
 use Rattle.pair.specs.Pair.{Side, Pair, Role, Primary, Alternate, other, side, sideOf, boardOf, board, WellPaired, isFor, isForRole}
 use Rattle.pair.specs.Pair as pairs
-use Rattle.pair.specs.Serving.{PairOutcome, servedBy, servePair}
+use Rattle.pair.specs.Serving.{PairOutcome, servedBy}
 use Rattle.pair.proofs.Laws.{byNeither, not-other, own-answers, neither-answers}
 use Rattle.isolation.specs.Rows.{Row, eventsIn, end, pairOutcome, runs, calls}
 use Rattle.isolation.specs.Views.{OwnSight, forRole, forNeither, notFor, ownSight, ownSights, sidesBut, neitherNumbers, neitherReplies}
-use Rattle.isolation.specs.Statements.{Unaffected, IsolationOf, Isolation, met, IsolationOfCalls}
+use Rattle.isolation.specs.Statements.{IsolationOf, Isolation, met, IsolationOfCalls}
 use Rattle.isolation.proofs.Project.{eventsOf, endOf, Owed, Shown, end-projected, values-projected}
 use Rattle.isolation.proofs.Alone.{SameKinds, same-kinds, kinds-kept, for-same, moveFor, goes-alone, Faithful, runs-faithful, calls-faithful}
 

@@ -10,13 +10,13 @@ use mathlib.Core.Path.{_≡_, refl, ap}
 use lib.Dec.{eqb}
 use lib.ListN.{length, getD}
 use borrow.Author.Tests.{eqb-false}
-use Rattle.words.specs.Bytes.{byte, put}
+use Rattle.words.specs.Bytes.{byte}
 use Rattle.capture.specs.declared.Capture.the-variants.{Nothing, Number}
 use Rattle.board.specs.Description.{Space, badlyDescribed}
 use Rattle.runs.specs.Run.{Event, packet, reset}
 use Rattle.runs.specs.Bench.{zeros, holding, benchRules, p2, readAt, changed}
 use Rattle.shares.specs.Kinds.{only}
-use Rattle.shares.proofs.Examples.{sent, ones, plain, withStatus, trustedReadAt, trustedWriteAt}
+use Rattle.shares.proofs.Examples.{ones, plain, withStatus, trustedReadAt, trustedWriteAt}
 use Rattle.shares.proofs.Needed.{whole, nothing, butBytes, butRules, butMarks, noBytes, noSize, butPlaces}
 use Rattle.pair.specs.declared.Function.{Function}
 use Rattle.pair.specs.Pair.{Side, Pair, Role, Primary, Alternate, other, side, board, WellPaired, isFor}
@@ -25,7 +25,7 @@ use Rattle.pair.proofs.Computing.{pairComputing}
 use Rattle.isolation.specs.Rows.{runs}
 use Rattle.isolation.specs.Views.{OwnSight, isReset, notFor, eventsThat, ownSights, neitherNumbers, neitherReplies}
 use Rattle.isolation.proofs.Isolated.{isolated}
-use Rattle.isolation.proofs.Examples.{sideWith, paired, withPairEdition, writable, another, to, toMine, toNeither, tooLong, read4, trusted4}
+use Rattle.isolation.proofs.Examples.{sideWith, paired, withPairEdition, another, to, toMine, toNeither, tooLong, read4, trusted4}
 use Rattle.isolation.proofs.Bite.{nthSight, nthReply}
 
 -- ---- the statements

@@ -2,7 +2,7 @@
 -- the model over the kept events alone, and what is shown of it is what the model shows. For any states, steps, events and models. Assumes nothing.
 use mathlib.Core.Bool.{Bool, true, false}
 use mathlib.Core.List.{List, [], _∷_}
-use mathlib.Core.Path.{_≡_, refl, sym, ap, _∙_}
+use mathlib.Core.Path.{_≡_, refl, ap, _∙_}
 use Rattle.shares.specs.Kinds.{keep, only, along}
 
 -- two lists with or without a first element

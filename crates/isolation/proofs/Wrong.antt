@@ -1,28 +1,22 @@
 -- THEOREMS. Every server of a board of two functions with one of the faults of specs/Servers.antt is wrong about a packet that is named here: whatever else it does, its
 -- answer is not the promised one. Assumes nothing.
-use Prim.Native.Nat.{ℕ, _≤_, _%_}
-use mathlib.Core.Bool.{true, false}
-use mathlib.Core.List.{List, []}
-use mathlib.Core.Path.{_≡_, refl, sym, ap, _∙_, subst}
+use Prim.Native.Nat.{ℕ, _%_}
+use mathlib.Core.List.{List}
+use mathlib.Core.Path.{refl, sym, ap, _∙_}
 use native.Mathlib.Omega.{arith}
-use lib.Dec.{eqb}
-use lib.ListN.{length, drop, take}
+use lib.ListN.{drop}
 use borrow.Author.Tests.{eqb-false}
-use Rattle.words.specs.Bytes.{byte, four}
-use Rattle.packet.specs.declared.Target.the-variants.{Trusted}
-use Rattle.packet.specs.Fields.{functionOf}
-use Rattle.packet.specs.Request.{requestOf}
+use Rattle.words.specs.Bytes.{byte}
 use Rattle.capture.specs.declared.Capture.{Capture}
 use Rattle.capture.specs.declared.Capture.the-variants.{Nothing, Number}
 use Rattle.runs.specs.Servers.{untouched}
 use Rattle.runs.specs.Bench.{p2}
-use Rattle.pair.specs.Pair.{Side, Pair, Role, Primary, Alternate, WellPaired}
-use Rattle.pair.specs.Promise.{PairSeen, pairShows}
-use Rattle.pair.specs.Serving.{servePair}
+use Rattle.pair.specs.Pair.{Side, Pair, Role, Primary, Alternate}
+use Rattle.pair.specs.Promise.{PairSeen}
 use Rattle.pair.proofs.Computing.{pairComputing}
-use Rattle.isolation.specs.Servers.{PairServer, PairRightAt, pairCompletion, SharesCapture, Ask, LooksUpOther, WritesOther, NamesTheNamed, RoutesFirst, RoutesType1, AnswersAsAlternate, ServesEqual, LooksAtOne}
+use Rattle.isolation.specs.Servers.{PairServer, PairRightAt, pairCompletion, SharesCapture, LooksUpOther, WritesOther, NamesTheNamed, RoutesFirst, RoutesType1, AnswersAsAlternate, ServesEqual, LooksAtOne}
 use Rattle.isolation.proofs.Examples.{mine, another, paired, to, type1, tooLong, secret, read4, trusted4, sideWith}
-use Rattle.isolation.proofs.Needed.{usual, usualWith, zero, full, twice}
+use Rattle.isolation.proofs.Needed.{usual, zero, full, twice}
 
 -- ---- the witnesses
 

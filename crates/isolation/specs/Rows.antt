@@ -8,7 +8,7 @@ use Rattle.answers.specs.Numbers.{answerOf}
 use Rattle.runs.specs.Run.{Event, packet, reset}
 use Rattle.pair.specs.declared.Captures.{Captures}
 use Rattle.pair.specs.declared.Served.{Served}
-use Rattle.pair.specs.Pair.{Side, Pair, forgottenBoth}
+use Rattle.pair.specs.Pair.{Pair, forgottenBoth}
 use Rattle.pair.specs.Serving.{PairOutcome, servePair, pairAfterReset}
 use Rattle.pair.specs.Promise.{PairServes, pairAfterCall}
 

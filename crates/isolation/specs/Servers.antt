@@ -7,11 +7,10 @@ use mathlib.Core.Path.{_≡_}
 use lib.ListN.{length, take, drop}
 use Rattle.words.specs.Bytes.{byte, four}
 use Rattle.registers.specs.Shown.{shown}
-use Rattle.packet.specs.declared.Target.the-variants.{Type0, Trusted}
+use Rattle.packet.specs.declared.Target.the-variants.{Trusted}
 use Rattle.packet.specs.Fields.{functionOf}
 use Rattle.packet.specs.Request.{requestOf}
 use Rattle.capture.specs.declared.Capture.{Capture}
-use Rattle.capture.specs.declared.Capture.the-variants.{Nothing, Number}
 use Rattle.runs.specs.Servers.{untouched}
 use Rattle.pair.specs.declared.Captures.{Captures}
 use Rattle.pair.specs.Pair.{Pair, Role, Primary, Alternate, other, side, WellPaired, isForRole}

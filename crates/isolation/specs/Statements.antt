@@ -1,7 +1,6 @@
 -- Document 02, 11/13: the isolation of the two functions, and demand 3 for each of them, of any row of steps. Assumes nothing.
 use mathlib.Core.List.{List}
 use mathlib.Core.Path.{_≡_}
-use Rattle.runs.specs.Run.{Event}
 use Rattle.shares.specs.Views.{ordinaryState, trustedState}
 use Rattle.pair.specs.Pair.{Pair, Role, Primary, other, side, board, WellPaired}
 use Rattle.isolation.specs.Rows.{Row, end, runs, PairCall, calls, AllMeet}

@@ -4,7 +4,7 @@ use mathlib.Core.Bool.{Bool, false, true, not, _&&_, _||_}
 use mathlib.Core.List.{List}
 use mathlib.Core.Option.{Option}
 use Rattle.capture.specs.declared.Capture.{Capture}
-use Rattle.board.specs.Description.{Space, Board}
+use Rattle.board.specs.Description.{Space}
 use Rattle.runs.specs.Run.{Event, packet, reset}
 use Rattle.shares.specs.Kinds.{only, along}
 use Rattle.shares.specs.Views.{Sight, trustedPacket, ordinaryPacket, register}

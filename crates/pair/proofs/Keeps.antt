@@ -3,22 +3,21 @@
 use Prim.Native.Nat.{ℕ, zero, suc}
 use mathlib.Core.Bool.{Bool, true, false, cond}
 use mathlib.Core.List.{List}
-use mathlib.Core.Path.{_≡_, refl, sym, ap, _∙_, subst}
+use mathlib.Core.Path.{_≡_, refl, sym, ap, _∙_}
 use lib.Dec.{ltb}
 use lib.ListN.{length}
 use Rattle.packet.specs.Request.{numberUnder}
 use Rattle.board.specs.declared.Description.{Description}
-use Rattle.board.specs.Description.{Space, withBytes, Board, badlyDescribed, afterReset}
+use Rattle.board.specs.Description.{withBytes, Board, badlyDescribed}
 use Rattle.board.specs.Serving.{serve}
 use Rattle.board.proofs.Keeps.{serve-keeps, serve-keeps-well, reset-keeps-well}
 use Rattle.pair.specs.declared.Function.{Function}
-use Rattle.pair.specs.declared.Captures.{Captures}
 use Rattle.pair.specs.declared.Served.{Served}
 use Rattle.pair.specs.Pair.{Side, Pair, Role, Primary, Alternate, other, side, withSide, boardOf, sideOf, board, WellPaired, isForRole}
 use Rattle.pair.specs.Pair as pairs
 use Rattle.pair.specs.Serving.{PairOutcome, servedBy, delivered, pairNumber, byPairNumber, servePair, pairAfterReset}
-use Rattle.pair.specs.Promise.{PairSeen, pairShows, PairServes, heldSide, pairAfterCall}
-use Rattle.pair.proofs.Laws.{well-each, well-apart, pair-well, not-other, own-answers, neither-answers, byNeither}
+use Rattle.pair.specs.Promise.{PairSeen, pairShows, PairServes, pairAfterCall}
+use Rattle.pair.proofs.Laws.{well-each, well-apart, pair-well, own-answers, neither-answers, byNeither}
 
 -- ---- any property of pairs that holds before, and after either function has served, holds after serving
 

@@ -1,11 +1,11 @@
 -- Laws of the definitions of this crate: whom a packet is for, and which of the two functions answers it. Assumes nothing.
 use Prim.Native.Nat.{ℕ, zero, suc}
-use mathlib.Core.Bool.{Bool, true, false, not, _&&_, _||_, cond, or-false, or-true, and-true, and-false, true≢false}
+use mathlib.Core.Bool.{Bool, true, false, not, _&&_, cond, or-false, or-true, and-false, true≢false}
 use mathlib.Core.List.{List, []}
 use mathlib.Core.Path.{_≡_, refl, sym, ap, _∙_}
 use native.Mathlib.Omega.{arith}
 use lib.Dec.{eqb, ltb}
-use borrow.Author.Tests.{eq-eqb, ne-eqb, eqb-true, eqb-false}
+use borrow.Author.Tests.{eq-eqb, ne-eqb, eqb-true}
 use Rattle.answers.specs.declared.Refusal.{Refusal}
 use Rattle.answers.specs.Numbers.{numberOf}
 use Rattle.answers.proofs.Unique.{number-positive}
@@ -19,10 +19,10 @@ use Rattle.capture.specs.declared.Capture.the-variants.{Nothing, Number}
 use Rattle.board.specs.declared.Description.{Description}
 use Rattle.board.specs.Description.{Board, badlyDescribed}
 use Rattle.board.specs.Access.{isType1, unsupported}
-use Rattle.board.specs.Serving.{Outcome, serve, serveNumber, byNumber, respond}
+use Rattle.board.specs.Serving.{serve, serveNumber, byNumber, respond}
 use Rattle.board.proofs.Outcomes.{respond-unsupported}
 use Rattle.board.proofs.Refusals.{sound-served}
-use Rattle.pair.specs.Pair.{Pair, Role, Primary, Alternate, other, side, board, badPair, WellPaired, isFor, isForRole}
+use Rattle.pair.specs.Pair.{Pair, Role, Primary, Alternate, other, board, badPair, WellPaired, isFor, isForRole}
 use Rattle.pair.specs.Pair as pairs
 use Rattle.pair.specs.Serving as serving
 use Rattle.pair.specs.Serving.{PairOutcome, answersAs, servedBy, delivered, pairNumber, pairRefused, byPairNumber, servePair}

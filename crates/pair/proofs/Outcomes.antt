@@ -3,19 +3,18 @@
 use Prim.Native.Nat.{ℕ}
 use mathlib.Core.Bool.{Bool, true, false}
 use mathlib.Core.List.{List}
-use mathlib.Core.Path.{_≡_, refl, ap, _∙_}
+use mathlib.Core.Path.{_≡_, refl, ap}
 use lib.ListN.{length}
 use Rattle.answers.specs.declared.Answer.the-variants.{Refused}
 use Rattle.answers.specs.declared.Refusal.the-variants.{BadDescription}
 use Rattle.board.specs.declared.Description.{Description}
 use Rattle.board.specs.declared.Served.{Served}
 use Rattle.board.specs.Description.{Board, badlyDescribed}
-use Rattle.board.specs.Serving.{Outcome}
-use Rattle.board.specs.Promise.{Seen, seen, shows, Serves}
+use Rattle.board.specs.Promise.{Seen, shows, Serves}
 use Rattle.pair.specs.Pair.{Side, Pair, Primary, Alternate, described, board, isForRole}
 use Rattle.pair.specs.Pair as pairs
-use Rattle.pair.specs.Serving.{PairOutcome, answersAs, servedBy, servePair}
-use Rattle.pair.specs.Promise.{PairSeen, pairSeen, pairShows, PairServes}
+use Rattle.pair.specs.Serving.{answersAs, servedBy, servePair}
+use Rattle.pair.specs.Promise.{pairShows, PairServes}
 use Rattle.pair.specs.Inner.{refusing, toldBy, besides, ServesBeside}
 use Rattle.pair.proofs.Laws.{equal-refused, beside-refused, alternate-answers, primary-answers}
 

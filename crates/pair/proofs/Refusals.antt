@@ -9,13 +9,9 @@ use native.Mathlib.Omega.{arith}
 use lib.ListN.{length}
 use Rattle.answers.specs.Numbers.{answerOf}
 use Rattle.answers.proofs.Checks.{Lowest, Positive, Rising, gives-lowest, gives-one-of}
-use Rattle.packet.specs.Fields.{dataOf}
-use Rattle.packet.specs.Request.{requestOf}
-use Rattle.board.specs.Serving.{serve, serveNumber, respond}
 use Rattle.board.proofs.Refusals.{outcome-number}
 use Rattle.pair.specs.declared.Served.{Served}
-use Rattle.pair.specs.declared.Captures.{Captures}
-use Rattle.pair.specs.Pair.{Pair, Role, Primary, Alternate, board, badPair, isForRole}
+use Rattle.pair.specs.Pair.{Pair, Primary, Alternate, board, isForRole}
 use Rattle.pair.specs.Serving.{servedBy, delivered, pairChecks, pairNumber, pairRefused, byPairNumber, servePair}
 use Rattle.pair.specs.Promise.{PairSeen, pairShows, PairServes}
 use Rattle.pair.proofs.Laws.{each-number}

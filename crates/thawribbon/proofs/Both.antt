@@ -10,7 +10,7 @@ use Rattle.board.specs.Description.{Space, withBytes}
 use Rattle.pair.specs.declared.Captures.{Captures}
 use Rattle.pair.specs.Pair.{Pair, forgottenBoth}
 use Rattle.pair.specs.Serving.{PairOutcome, delivered, pairNumber, byPairNumber, servePair, pairAfterReset}
-use Rattle.pair.specs.Promise.{PairSeen, pairShows}
+use Rattle.pair.specs.Promise.{pairShows}
 use Rattle.pair.proofs.Keeps.{pair-serve-keeps}
 use Rattle.pair.proofs.Refusals.{PairNumberSays, pair-outcome-number, pair-number-says, pair-refused}
 use Rattle.thawribbon.specs.declared.HostFunction.{HostFunction}

@@ -6,9 +6,6 @@ use Rattle.pair.proofs.Laws.{for-refused, for-target}
 use borrow.Author.Needs.{needs}
 use Rattle.pair.proofs.choosing.is_for.Statement.{statement}
 use Rattle.pair.proofs.choosing.is_for.Tie as tie
-use Rattle.pair.proofs.choosing.is_for.Reads as reads
-use Rattle.pair.proofs.choosing.is_for.Lts as lts
-use Rattle.packet.proofs.decode_under.Reads as decode-under-reads
 
 -- src/choosing.rt:11:34
 decode-under-requires : tie.Need-decode-under-requires

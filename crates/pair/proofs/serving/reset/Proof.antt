@@ -2,9 +2,6 @@
 use borrow.Author.Needs.{needs}
 use Rattle.pair.proofs.serving.reset.Statement.{statement}
 use Rattle.pair.proofs.serving.reset.Tie as tie
-use Rattle.pair.proofs.serving.reset.Reads as reads
-use Rattle.pair.proofs.serving.reset.Lts as lts
-use Rattle.board.proofs.reset.Reads as reset-reads
 
 -- src/serving.rt:204:18
 reset-requires : tie.Need-reset-requires

@@ -6,13 +6,6 @@ use Rattle.pair.proofs.Outcomes.{equal-seen, alternate-seen, primary-se
 use borrow.Author.Needs.{needs}
 use Rattle.pair.proofs.serving.serve.Statement.{statement}
 use Rattle.pair.proofs.serving.serve.Tie as tie
-use Rattle.pair.proofs.serving.serve.Reads as reads
-use Rattle.pair.proofs.serving.serve.Lts as lts
-use Rattle.pair.proofs.choosing.is_for.Reads as is-for-reads
-use Rattle.pair.proofs.serving.description_of.Reads as description-of-reads
-use Rattle.pair.proofs.serving.refuse.Reads as refuse-reads
-use Rattle.pair.proofs.serving.serve_beside.Reads as serve-beside-reads
-use Rattle.pair.proofs.serving.told.Reads as told-reads
 
 -- src/serving.rt:127:9
 refuse-requires : tie.Need-refuse-requires

@@ -6,10 +6,6 @@ use Rattle.pair.proofs.Outcomes.{beside-bad-seen, beside-served}
 use borrow.Author.Needs.{needs}
 use Rattle.pair.proofs.serving.serve_beside.Statement.{statement}
 use Rattle.pair.proofs.serving.serve_beside.Tie as tie
-use Rattle.pair.proofs.serving.serve_beside.Reads as reads
-use Rattle.pair.proofs.serving.serve_beside.Lts as lts
-use Rattle.board.proofs.is_badly_described.Reads as is-badly-described-reads
-use Rattle.board.proofs.serve.Reads as serve-reads
 
 -- src/serving.rt:93:8
 is-badly-described-requires : tie.Need-is-badly-described-requires

@@ -2,9 +2,6 @@
 use borrow.Author.Needs.{needs}
 use Rattle.thawribbon.proofs.pairs.captures_of.Statement.{statement}
 use Rattle.thawribbon.proofs.pairs.captures_of.Tie as tie
-use Rattle.thawribbon.proofs.pairs.captures_of.Reads as reads
-use Rattle.thawribbon.proofs.pairs.captures_of.Lts as lts
-use Rattle.thawribbon.proofs.packets.capture_of.Reads as capture-of-reads
 
 -- src/pairs.rt:31:18
 capture-of-requires : tie.Need-capture-of-requires

@@ -2,11 +2,6 @@
 use borrow.Author.Needs.{needs}
 use Rattle.thawribbon.proofs.pairs.thawribbon_reset_pair.Statement.{statement}
 use Rattle.thawribbon.proofs.pairs.thawribbon_reset_pair.Tie as tie
-use Rattle.thawribbon.proofs.pairs.thawribbon_reset_pair.Reads as reads
-use Rattle.thawribbon.proofs.pairs.thawribbon_reset_pair.Lts as lts
-use Rattle.pair.proofs.reset.Reads as reset-reads
-use Rattle.thawribbon.proofs.pairs.captures_of.Reads as captures-of-reads
-use Rattle.thawribbon.proofs.pairs.told_captures.Reads as told-captures-reads
 
 -- src/pairs.rt:116:31
 captures-of-requires : tie.Need-captures-of-requires

@@ -5,12 +5,6 @@ use Rattle.thawribbon.proofs.Told.{serves-told-pair}
 use borrow.Author.Needs.{needs}
 use Rattle.thawribbon.proofs.pairs.thawribbon_serve_pair.Statement.{statement}
 use Rattle.thawribbon.proofs.pairs.thawribbon_serve_pair.Tie as tie
-use Rattle.thawribbon.proofs.pairs.thawribbon_serve_pair.Reads as reads
-use Rattle.thawribbon.proofs.pairs.thawribbon_serve_pair.Lts as lts
-use Rattle.pair.proofs.serve.Reads as serve-reads
-use Rattle.thawribbon.proofs.pairs.captures_of.Reads as captures-of-reads
-use Rattle.thawribbon.proofs.pairs.function_of.Reads as function-of-reads
-use Rattle.thawribbon.proofs.pairs.told_pair.Reads as told-pair-reads
 
 -- src/pairs.rt:91:9
 function-of-requires : tie.Need-function-of-requires

@@ -2,9 +2,6 @@
 use borrow.Author.Needs.{needs}
 use Rattle.thawribbon.proofs.pairs.told_captures.Statement.{statement}
 use Rattle.thawribbon.proofs.pairs.told_captures.Tie as tie
-use Rattle.thawribbon.proofs.pairs.told_captures.Reads as reads
-use Rattle.thawribbon.proofs.pairs.told_captures.Lts as lts
-use Rattle.thawribbon.proofs.packets.told_capture.Reads as told-capture-reads
 
 -- src/pairs.rt:42:18
 told-capture-requires : tie.Need-told-capture-requires

@@ -3,10 +3,6 @@ use borrow.Author.Tests.{eq-eqb, ne-eqb}
 use borrow.Author.Needs.{needs}
 use Rattle.thawribbon.proofs.pairs.told_pair.Statement.{statement}
 use Rattle.thawribbon.proofs.pairs.told_pair.Tie as tie
-use Rattle.thawribbon.proofs.pairs.told_pair.Reads as reads
-use Rattle.thawribbon.proofs.pairs.told_pair.Lts as lts
-use Rattle.answers.proofs.Answer.number.Reads as number-reads
-use Rattle.thawribbon.proofs.pairs.told_captures.Reads as told-captures-reads
 
 -- src/pairs.rt:52:9
 number-requires : tie.Need-number-requires
