@@ -9,3 +9,4 @@ pub mod HalvesNeeded
 pub mod Wrong
 pub mod Dual
 pub mod Calls
+pub mod Faulty

@@ -55,7 +55,7 @@ byPairNumber (suc n) pair p size = pairRefused (suc n) pair
 unfoldable pub servePair : Pair → List ℕ → ℕ → PairOutcome
 servePair pair p size = byPairNumber (pairNumber pair p size) pair p size
 
--- "Packets for neither, resets": a reset of the board resets both functions
+-- a reset of the board is one of both functions; document 01 of each: "Reset forgets the capture and changes no byte."
 abbrev pub pairAfterReset : Pair → Pair
 pairAfterReset pair =
     record {
