@@ -18,13 +18,17 @@ use Rattle.pair.specs.Pair.{Pair, Role, Primary, Alternate, other, side, WellPa
 use Rattle.pair.proofs.Computing.{pairComputing}
 use Rattle.isolation.specs.Rows.{runs}
 use Rattle.isolation.specs.Views.{OwnSight, forRole, notFor, eventsThat, ownSights, neitherNumbers, neitherReplies}
-use Rattle.isolation.proofs.Examples.{mine, another, changedOther, paired, oneRun, otherRun}
+use Rattle.isolation.proofs.Examples.{mine, another, changedOther, paired, withPairEdition, oneRun, otherRun, oneRun2, otherRun2}
 
 abbrev pub one : Role → Pair
 one role = paired role mine another
 
 abbrev pub two : Role → Pair
 two role = paired role mine changedOther
+
+-- under edition 2
+abbrev pub two2 : Role → Pair
+two2 role = withPairEdition (one role) 2
 
 -- the n-th of a list of sights, or of replies
 abbrev pub nthSight : ℕ → List OwnSight → OwnSight
@@ -51,12 +55,23 @@ pub record IsolationBites (role : Role) : Type 0 where
   pub differentRules : Apart (side (other role) (one role) .ordinary .rules) (side (other role) (two role) .ordinary .rules)
   pub differentMarks : Apart (side (other role) (one role) .ordinary .marks) (side (other role) (two role) .ordinary .marks)
   pub differentTrusted : Apart (side (other role) (one role) .trusted .bytes) (side (other role) (two role) .trusted .bytes)
+  pub differentTrustedRules : Apart (side (other role) (one role) .trusted .rules) (side (other role) (two role) .trusted .rules)
   pub differentTrustedMarks : Apart (side (other role) (one role) .trusted .marks) (side (other role) (two role) .trusted .marks)
   pub differentPackets : (length (only (forRole (other role) (one role)) oneRun) ≡ 1) × (length (only (forRole (other role) (two role)) otherRun) ≡ 4)
   pub ownPackets : length (ownSights runs role (one role) oneRun) ≡ 4
   pub trustedReply : nthSight 2 (ownSights runs role (one role) oneRun) .written ≡ completed (0x05 ∷ 0x1a ∷ []) 0x08 (0x5a ∷ 0x6b ∷ 0x7c ∷ 0x8d ∷ [])
   pub ordinaryReply : nthSight 3 (ownSights runs role (one role) oneRun) .written ≡ completed (0x00 ∷ 0x02 ∷ []) 0x09 (0x11 ∷ 0x22 ∷ 0x33 ∷ 0x44 ∷ [])
   pub neitherOnes : neitherNumbers runs (one role) oneRun ≡ 0 ∷ 0 ∷ 5 ∷ []
+
+-- under edition 2 a packet with bit 7 has a fault, and counts as for neither though it names the other function: it is compared, and is answered 4. Under edition 1 it
+-- is for the other function
+pub record IsolationBitesUnderTwo (role : Role) : Type 0 where
+  pub well : WellPaired (two2 role)
+  pub events : eventsThat runs (notFor (other role) (two2 role)) oneRun2 ≡ eventsThat runs (notFor (other role) (two2 role)) otherRun2
+  pub differentPackets : (length (only (forRole (other role) (two2 role)) oneRun2) ≡ 0) × (length (only (forRole (other role) (two2 role)) otherRun2) ≡ 1)
+  pub underOne : (length (only (forRole (other role) (one role)) oneRun2) ≡ 1) × (length (only (forRole (other role) (one role)) otherRun2) ≡ 2)
+  pub neitherOnes : neitherNumbers runs (two2 role) oneRun2 ≡ 4 ∷ []
+  pub reply : nthSight 1 (ownSights runs role (two2 role) oneRun2) .written ≡ completed (0x05 ∷ 0x1a ∷ []) 0x09 (0x11 ∷ 0x22 ∷ 0x33 ∷ 0x44 ∷ [])
 
 -- where the primary is unchanged, what is for neither is answered with its completer ID; where it is changed, these replies differ
 pub record RepliesBite : Type 0 where
@@ -92,6 +107,7 @@ isolation-bites Primary =
       differentRules = apart at4 refl;
       differentMarks = apart (λ l. byte l 8) refl;
       differentTrusted = apart at4 refl;
+      differentTrustedRules = apart at4 refl;
       differentTrustedMarks = apart (λ l. byte l 8) refl;
       differentPackets = (refl, refl);
       ownPackets = refl;
@@ -113,6 +129,7 @@ isolation-bites Alternate =
       differentRules = apart at4 refl;
       differentMarks = apart (λ l. byte l 8) refl;
       differentTrusted = apart at4 refl;
+      differentTrustedRules = apart at4 refl;
       differentTrustedMarks = apart (λ l. byte l 8) refl;
       differentPackets = (refl, refl);
       ownPackets = refl;
@@ -120,6 +137,13 @@ isolation-bites Alternate =
       ordinaryReply = refl;
       neitherOnes = refl;
     }
+
+pub isolation-bites-under-two : (role : Role) → IsolationBitesUnderTwo role
+unfolding pairComputing
+isolation-bites-under-two Primary =
+    record { well = refl; events = refl; differentPackets = (refl, refl); underOne = (refl, refl); neitherOnes = refl; reply = refl }
+isolation-bites-under-two Alternate =
+    record { well = refl; events = refl; differentPackets = (refl, refl); underOne = (refl, refl); neitherOnes = refl; reply = refl }
 
 pub replies-bite : RepliesBite
 unfolding pairComputing

@@ -1,5 +1,5 @@
--- The Dual-BDF record in the primary's space: where it reads without refusal and names the alternate's number, every request that is made for the function it names is
--- the alternate's, and is served as the alternate serves it. And an example: the record reads back as this board's second function, and a Type 0 write to the device
+-- The Dual-BDF record in the primary's space: where it reads without refusal and names the alternate's number, every Type 0 or trusted request for the function that it
+-- names is the alternate's, and is served as the alternate serves it. And an example: the record reads back as this board's second function, and a Type 0 write to the device
 -- and function that it names, and a trusted read after it, are answered by the alternate. Assumes nothing.
 use Prim.Native.Nat.{ℕ}
 use mathlib.Core.Bool.{true, not, _&&_}

@@ -37,7 +37,7 @@ abbrev pub another : Side
 another = sideWith 3 0x104 0x00c Nothing (writable ones) (writable ones)
 
 abbrev pub changedOther : Side
-changedOther = sideWith 4 0x108 0x010 (Number 0x09 0x01) (withStatus (plain zeros zeros)) (withStatus (plain zeros benchRules))
+changedOther = sideWith 4 0x108 0x010 (Number 0x09 0x01) (withStatus (plain zeros zeros)) (withStatus (plain zeros zeros))
 
 -- ---- packets, by the function that byte 9 names: bus 05h and device 3
 
@@ -102,3 +102,13 @@ otherRun =
     ∷ packet (to 0x1c p2) 3
     ∷ toMine read4
     ∷ []
+
+-- ---- under edition 2: a trusted write but for its bit 7, which is set, that names the other function of one run; in one run alone a packet for the other function
+abbrev pub bit7Other : Event
+bit7Other = toAnother (changed secret 0 0xdb)
+
+abbrev pub oneRun2 : List Event
+oneRun2 = toMine p2 ∷ bit7Other ∷ toMine read4 ∷ []
+
+abbrev pub otherRun2 : List Event
+otherRun2 = toMine p2 ∷ toAnother secret ∷ bit7Other ∷ toMine read4 ∷ []

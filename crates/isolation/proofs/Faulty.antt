@@ -1,6 +1,6 @@
 -- There are servers with each of the faults of specs/Servers.antt that are right about every packet but those where the fault shows: so what is refuted in Wrong.antt
 -- is the fault, and nothing else that such a server would have to do. Assumes nothing.
-use Prim.Native.Nat.{ℕ, _≤_, _%_}
+use Prim.Native.Nat.{ℕ, _%_}
 use mathlib.Core.Bool.{Bool, true, false, not, _&&_, cond}
 use mathlib.Core.List.{List, [], _∷_}
 use mathlib.Core.Path.{_≡_, refl, sym, ap, _∙_}
@@ -13,12 +13,12 @@ use Rattle.words.specs.Bytes.{byte, four}
 use Rattle.registers.specs.Shown.{shown}
 use Rattle.packet.specs.Fields.{functionOf}
 use Rattle.packet.specs.Request.{requestOf}
-use Rattle.board.specs.Description.{Board, badlyDescribed, ranges}
+use Rattle.board.specs.Description.{ranges}
 use Rattle.board.specs.Access.{isType1}
 use Rattle.board.specs.Serving.{serve}
 use Rattle.board.proofs.Laws.{well-described}
 use Rattle.pair.specs.declared.Captures.{Captures}
-use Rattle.pair.specs.Pair.{Side, Pair, Role, Primary, Alternate, other, side, boardOf, board, WellPaired, isFor, isForRole}
+use Rattle.pair.specs.Pair.{Pair, Role, Primary, Alternate, other, side, boardOf, board, WellPaired, isFor, isForRole}
 use Rattle.pair.specs.Pair as pairs
 use Rattle.pair.specs.Serving.{servePair}
 use Rattle.pair.specs.Promise.{PairSeen, pairShows}

@@ -1,6 +1,7 @@
--- Demand 3 for each function of a pair says something, and each premise is needed, for either function. In the runs that bite, the packets for the other function and
--- for neither differ too, and so does what the other function is and has captured. Which number the function has, and which edition, are not among the premises
--- here: a packet that is for the function in both runs names it in both, and is without a fault under both editions. Assumes nothing.
+-- Demand 3 for each function of a pair says something, and each premise is needed, for either function, but for three: the function's number and the edition, which are
+-- in the compared state, and in the first half the reply sizes. A packet that is for the function in both runs names it in both, and is without a fault under both
+-- editions; and the registers, which are asked about where a packet is served, tell already whether its reply has room. In the runs that bite, the packets for the other
+-- function and for neither differ too, and so does what the other function is and has captured. Assumes nothing.
 use Prim.Native.Nat.{ℕ}
 use mathlib.Core.Bool.{false}
 use mathlib.Core.List.{List, [], _∷_, map}
@@ -13,7 +14,7 @@ use Rattle.words.specs.Bytes.{byte}
 use Rattle.capture.specs.declared.Capture.{Capture}
 use Rattle.capture.specs.declared.Capture.the-variants.{Nothing, Number}
 use Rattle.runs.specs.Run.{Event, packet, reset}
-use Rattle.runs.specs.Bench.{zeros, holding, p2, readAt, changed}
+use Rattle.runs.specs.Bench.{zeros, p2, readAt, changed}
 use Rattle.shares.specs.Kinds.{only}
 use Rattle.shares.specs.Views.{OrdinaryState, TrustedState, Sight, ordinaryState, trustedState}
 use Rattle.shares.proofs.Examples.{ones, plain, withStatus, trustedReadAt, trustedWriteAt, register}
@@ -25,7 +26,7 @@ use Rattle.isolation.specs.Rows.{runs}
 use Rattle.isolation.specs.Views.{forNeither, ordinaryOrReset, trustedFor, eventsThat, valuesAt, ordinarySightsFor, trustedSightsFor, registersFor, capturesFor}
 use Rattle.isolation.proofs.Halves.{pair-first-half, pair-second-half}
 use Rattle.isolation.proofs.Examples.{sideWith, paired, writable, another, changedOther, to, toMine, toAnother, toChanged, toNeither, secret, read4, trusted4}
-use Rattle.isolation.proofs.Needed.{NumbersDiffer, zero, full, shut, fixed, status, usualWith, usual, unknown, twice, atIt, atA, stored, stored8, trustedIt, kept, kept8}
+use Rattle.isolation.proofs.Needed.{EachWell, NumbersDiffer, numbered, zero, full, shut, fixed, status, usualWith, usual, unknown, twice, atIt, atA, stored, stored8, trustedIt, kept, kept8}
 
 -- ---- runs that meet the premises
 
@@ -61,7 +62,7 @@ abbrev pub secondOne : Role → Pair
 secondOne role = paired role (sideWith 2 0x104 0x00c Nothing (writable ones) (register 0x010)) another
 
 abbrev pub secondTwo : Role → Pair
-secondTwo role = paired role (sideWith 2 0x108 0x010 (Number 0x07 0x01) (plain (holding 0x004 ones) zeros) (register 0x010)) changedOther
+secondTwo role = paired role (sideWith 2 0x108 0x010 (Number 0x07 0x01) (withStatus (plain zeros zeros)) (register 0x010)) changedOther
 
 abbrev pub secondRun : List Event
 secondRun =
@@ -91,7 +92,9 @@ pub record PairFirstBites (role : Role) : Type 0 where
   pub events : eventsThat runs (ordinaryOrReset role (firstOne role)) firstRun ≡ eventsThat runs (ordinaryOrReset role (firstTwo role)) firstOther
   pub registers : registersFor runs role (firstOne role) firstRun ≡ registersFor runs role (firstTwo role) firstOther
   pub differentB : Apart (side role (firstOne role) .function .b) (side role (firstTwo role) .function .b)
-  pub differentTrusted : Apart (side role (firstOne role) .trusted .marks) (side role (firstTwo role) .trusted .marks)
+  pub differentBytes : Apart (side role (firstOne role) .trusted .bytes) (side role (firstTwo role) .trusted .bytes)
+  pub differentRules : Apart (side role (firstOne role) .trusted .rules) (side role (firstTwo role) .trusted .rules)
+  pub differentMarks : Apart (side role (firstOne role) .trusted .marks) (side role (firstTwo role) .trusted .marks)
   pub differentPackets : (length (only (trustedFor role (firstOne role)) firstRun) ≡ 1) × (length (only (trustedFor role (firstTwo role)) firstOther) ≡ 2)
   pub differentNeither : (length (only (forNeither (firstOne role)) firstRun) ≡ 0) × (length (only (forNeither (firstTwo role)) firstOther) ≡ 1)
   pub differentOther : Apart (side (other role) (firstOne role) .function .number) (side (other role) (firstTwo role) .function .number)
@@ -105,7 +108,11 @@ pub record PairSecondBites (role : Role) : Type 0 where
   pub captured : capturesFor runs role (secondOne role) secondRun ≡ capturesFor runs role (secondTwo role) secondOther
   pub othersCaptured : Apart (othersCaptures role (secondOne role) secondRun) (othersCaptures role (secondTwo role) secondOther)
   pub differentA : Apart (side role (secondOne role) .function .a) (side role (secondTwo role) .function .a)
-  pub differentBytes : Apart (side role (secondOne role) .ordinary .rules) (side role (secondTwo role) .ordinary .rules)
+  pub differentB : Apart (side role (secondOne role) .function .b) (side role (secondTwo role) .function .b)
+  pub differentCapture : Apart (side role (secondOne role) .capture) (side role (secondTwo role) .capture)
+  pub differentBytes : Apart (side role (secondOne role) .ordinary .bytes) (side role (secondTwo role) .ordinary .bytes)
+  pub differentRules : Apart (side role (secondOne role) .ordinary .rules) (side role (secondTwo role) .ordinary .rules)
+  pub differentMarks : Apart (side role (secondOne role) .ordinary .marks) (side role (secondTwo role) .ordinary .marks)
   pub differentNeither : (length (only (forNeither (secondOne role)) secondRun) ≡ 0) × (length (only (forNeither (secondTwo role)) secondOther) ≡ 1)
   pub reply : nth 1 (trustedSightsFor runs role (secondOne role) secondRun) .written ≡ completed (0x05 ∷ 0x1a ∷ []) 0x08 (0x5a ∷ 0x6b ∷ 0x7c ∷ 0x8d ∷ [])
 
@@ -136,9 +143,9 @@ pub record PairFirstNeeded (role : Role) : Type 0 where
   pub marks : ¬ AskingFirst role WellPaired (inOrdinary butMarks) whole whole
   pub capture : ¬ AskingFirst role WellPaired butCapture whole whole
   pub packets : ¬ AskingFirst role WellPaired whole (map noBytes) whole
-  pub sizes : ¬ AskingFirst role WellPaired whole (map noSize) nothing
   pub resets : ¬ AskingFirst role WellPaired whole butPlaces whole
   pub described : ¬ AskingFirst role NumbersDiffer whole whole whole
+  pub apart : ¬ AskingFirst role EachWell whole whole whole
 
 pub record PairSecondNeeded (role : Role) : Type 0 where
   pub holds : AskingSecond role WellPaired whole whole (capturesFor runs role) whole
@@ -150,6 +157,7 @@ pub record PairSecondNeeded (role : Role) : Type 0 where
   pub packets : ¬ AskingSecond role WellPaired whole (map noBytes) (capturesFor runs role) whole
   pub sizes : ¬ AskingSecond role WellPaired whole (map noSize) (capturesFor runs role) whole
   pub described : ¬ AskingSecond role NumbersDiffer whole whole (capturesFor runs role) whole
+  pub apart : ¬ AskingSecond role EachWell whole whole (capturesFor runs role) whole
 
 -- ---- the proofs
 
@@ -217,7 +225,9 @@ pair-first-bites Primary =
       events = refl;
       registers = registers-one Primary ∙ sym (registers-two Primary);
       differentB = apart (λ n. n) refl;
-      differentTrusted = apart (λ l. byte l 8) refl;
+      differentBytes = apart (λ l. byte l 12) refl;
+      differentRules = apart (λ l. byte l 12) refl;
+      differentMarks = apart (λ l. byte l 8) refl;
       differentPackets = (refl, refl);
       differentNeither = (refl, refl);
       differentOther = apart (λ n. n) refl;
@@ -230,7 +240,9 @@ pair-first-bites Alternate =
       events = refl;
       registers = registers-one Alternate ∙ sym (registers-two Alternate);
       differentB = apart (λ n. n) refl;
-      differentTrusted = apart (λ l. byte l 8) refl;
+      differentBytes = apart (λ l. byte l 12) refl;
+      differentRules = apart (λ l. byte l 12) refl;
+      differentMarks = apart (λ l. byte l 8) refl;
       differentPackets = (refl, refl);
       differentNeither = (refl, refl);
       differentOther = apart (λ n. n) refl;
@@ -247,7 +259,11 @@ pair-second-bites Primary =
       captured = captures-one Primary ∙ sym (captures-two Primary);
       othersCaptured = others-captured Primary;
       differentA = apart (λ n. n) refl;
+      differentB = apart (λ n. n) refl;
+      differentCapture = apart bus refl;
       differentBytes = apart (λ l. byte l 4) refl;
+      differentRules = apart (λ l. byte l 4) refl;
+      differentMarks = apart (λ l. byte l 8) refl;
       differentNeither = (refl, refl);
       reply = second-reply Primary;
     }
@@ -259,7 +275,11 @@ pair-second-bites Alternate =
       captured = captures-one Alternate ∙ sym (captures-two Alternate);
       othersCaptured = others-captured Alternate;
       differentA = apart (λ n. n) refl;
+      differentB = apart (λ n. n) refl;
+      differentCapture = apart bus refl;
       differentBytes = apart (λ l. byte l 4) refl;
+      differentRules = apart (λ l. byte l 4) refl;
+      differentMarks = apart (λ l. byte l 8) refl;
       differentNeither = (refl, refl);
       reply = second-reply Alternate;
     }
@@ -314,10 +334,6 @@ first-packets-primary : ¬ AskingFirst Primary WellPaired whole (map noBytes) wh
 unfolding pairComputing
 first-packets-primary = refuted-first Primary WellPaired whole (map noBytes) whole (paired Primary (usualWith 0x104 0x00c (full 0x004) zero) another) (paired Primary (usualWith 0x104 0x00c (full 0x004) zero) another) atIt (toMine (readAt 0x00 0x08) ∷ []) refl refl refl refl refl (replied 0 12) refl
 
-first-sizes-primary : ¬ AskingFirst Primary WellPaired whole (map noSize) nothing
-unfolding pairComputing
-first-sizes-primary = refuted-first Primary WellPaired whole (map noSize) nothing (paired Primary usual another) (paired Primary usual another) atIt (packet (to 0x1a read4) 15 ∷ []) refl refl refl refl refl (answer 0) refl
-
 first-resets-primary : ¬ AskingFirst Primary WellPaired whole butPlaces whole
 unfolding pairComputing
 first-resets-primary = refuted-first Primary WellPaired whole butPlaces whole (paired Primary usual another) (paired Primary usual another) (reset ∷ toMine read4 ∷ []) (toMine read4 ∷ reset ∷ []) refl refl refl refl refl (replied 0 4) refl
@@ -325,6 +341,14 @@ first-resets-primary = refuted-first Primary WellPaired whole butPlaces whole (p
 first-described-primary : ¬ AskingFirst Primary NumbersDiffer whole whole whole
 unfolding pairComputing
 first-described-primary = refuted-first Primary NumbersDiffer whole whole whole (paired Primary usual another) (paired Primary usual twice) atIt atIt refl refl refl refl refl (answer 0) refl
+
+first-apart-primary : ¬ AskingFirst Primary EachWell whole whole whole
+unfolding pairComputing
+first-apart-primary = refuted-first Primary EachWell whole whole whole (paired Primary usual another) (paired Primary usual (numbered 2)) atIt atIt (refl, refl) (refl, refl) refl refl refl (answer 0) refl
+
+second-apart-primary : ¬ AskingSecond Primary EachWell whole whole (capturesFor runs Primary) whole
+unfolding pairComputing
+second-apart-primary = refuted-second Primary EachWell whole whole (capturesFor runs Primary) whole (paired Primary usual another) (paired Primary usual (numbered 2)) trustedIt trustedIt (refl, refl) (refl, refl) refl refl refl (answer 0) refl
 
 second-capture-primary : ¬ AskingSecond Primary WellPaired whole whole (capturesFor runs Primary) nothing
 unfolding pairComputing
@@ -386,10 +410,6 @@ first-packets-alternate : ¬ AskingFirst Alternate WellPaired whole (map noBytes
 unfolding pairComputing
 first-packets-alternate = refuted-first Alternate WellPaired whole (map noBytes) whole (paired Alternate (usualWith 0x104 0x00c (full 0x004) zero) another) (paired Alternate (usualWith 0x104 0x00c (full 0x004) zero) another) atIt (toMine (readAt 0x00 0x08) ∷ []) refl refl refl refl refl (replied 0 12) refl
 
-first-sizes-alternate : ¬ AskingFirst Alternate WellPaired whole (map noSize) nothing
-unfolding pairComputing
-first-sizes-alternate = refuted-first Alternate WellPaired whole (map noSize) nothing (paired Alternate usual another) (paired Alternate usual another) atIt (packet (to 0x1a read4) 15 ∷ []) refl refl refl refl refl (answer 0) refl
-
 first-resets-alternate : ¬ AskingFirst Alternate WellPaired whole butPlaces whole
 unfolding pairComputing
 first-resets-alternate = refuted-first Alternate WellPaired whole butPlaces whole (paired Alternate usual another) (paired Alternate usual another) (reset ∷ toMine read4 ∷ []) (toMine read4 ∷ reset ∷ []) refl refl refl refl refl (replied 0 4) refl
@@ -397,6 +417,14 @@ first-resets-alternate = refuted-first Alternate WellPaired whole butPlaces whol
 first-described-alternate : ¬ AskingFirst Alternate NumbersDiffer whole whole whole
 unfolding pairComputing
 first-described-alternate = refuted-first Alternate NumbersDiffer whole whole whole (paired Alternate usual another) (paired Alternate usual twice) atIt atIt refl refl refl refl refl (answer 0) refl
+
+first-apart-alternate : ¬ AskingFirst Alternate EachWell whole whole whole
+unfolding pairComputing
+first-apart-alternate = refuted-first Alternate EachWell whole whole whole (paired Alternate usual another) (paired Alternate usual (numbered 2)) atIt atIt (refl, refl) (refl, refl) refl refl refl (answer 0) refl
+
+second-apart-alternate : ¬ AskingSecond Alternate EachWell whole whole (capturesFor runs Alternate) whole
+unfolding pairComputing
+second-apart-alternate = refuted-second Alternate EachWell whole whole (capturesFor runs Alternate) whole (paired Alternate usual another) (paired Alternate usual (numbered 2)) trustedIt trustedIt (refl, refl) (refl, refl) refl refl refl (answer 0) refl
 
 second-capture-alternate : ¬ AskingSecond Alternate WellPaired whole whole (capturesFor runs Alternate) nothing
 unfolding pairComputing
@@ -441,9 +469,9 @@ pair-first-needed Primary =
       marks = first-marks-primary;
       capture = first-capture-primary;
       packets = first-packets-primary;
-      sizes = first-sizes-primary;
       resets = first-resets-primary;
       described = first-described-primary;
+      apart = first-apart-primary;
     }
 pair-first-needed Alternate =
     record {
@@ -455,9 +483,9 @@ pair-first-needed Alternate =
       marks = first-marks-alternate;
       capture = first-capture-alternate;
       packets = first-packets-alternate;
-      sizes = first-sizes-alternate;
       resets = first-resets-alternate;
       described = first-described-alternate;
+      apart = first-apart-alternate;
     }
 
 pub pair-second-needed : (role : Role) → PairSecondNeeded role
@@ -472,6 +500,7 @@ pair-second-needed Primary =
       packets = second-packets-primary;
       sizes = second-sizes-primary;
       described = second-described-primary;
+      apart = second-apart-primary;
     }
 pair-second-needed Alternate =
     record {
@@ -484,4 +513,5 @@ pair-second-needed Alternate =
       packets = second-packets-alternate;
       sizes = second-sizes-alternate;
       described = second-described-alternate;
+      apart = second-apart-alternate;
     }

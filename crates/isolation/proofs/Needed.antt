@@ -1,10 +1,10 @@
 -- The isolation holds with all that it asks, and with one thing less it is false, for either function as the unchanged one: that both functions are well described;
 -- that their numbers differ; the edition; of the unchanged function's start its number, A, B, its capture, and of each space the bytes, the rules and the marks;
--- of the events that are not for the other function the packets for it, those for neither, the packets' bytes, their reply sizes and where the resets stand. And with
+-- of the events that are not for the other function the packets for it and those for neither, of each kind the bytes and the reply sizes, and where the resets stand. And with
 -- replies to packets for neither compared where the primary is changed it is false too: two runs that differ in the primary's capture alone disagree there.
 -- Assumes nothing.
 use Prim.Native.Nat.{ℕ}
-use mathlib.Core.Bool.{Bool, false, _||_, not}
+use mathlib.Core.Bool.{Bool, false, not, cond}
 use mathlib.Core.List.{List, [], _∷_, map}
 use mathlib.Core.Path.{_≡_, refl, ap}
 use lib.Dec.{eqb}
@@ -19,11 +19,11 @@ use Rattle.shares.specs.Kinds.{only}
 use Rattle.shares.proofs.Examples.{ones, plain, withStatus, trustedReadAt, trustedWriteAt}
 use Rattle.shares.proofs.Needed.{whole, nothing, butBytes, butRules, butMarks, noBytes, noSize, butPlaces}
 use Rattle.pair.specs.declared.Function.{Function}
-use Rattle.pair.specs.Pair.{Side, Pair, Role, Primary, Alternate, other, side, board, WellPaired, isFor}
+use Rattle.pair.specs.Pair.{Side, Pair, Role, Primary, Alternate, other, side, board, WellPaired}
 use Rattle.pair.specs.Pair as pairs
 use Rattle.pair.proofs.Computing.{pairComputing}
 use Rattle.isolation.specs.Rows.{runs}
-use Rattle.isolation.specs.Views.{OwnSight, isReset, notFor, eventsThat, ownSights, neitherNumbers, neitherReplies}
+use Rattle.isolation.specs.Views.{OwnSight, forRole, forNeither, notFor, eventsThat, ownSights, neitherNumbers, neitherReplies}
 use Rattle.isolation.proofs.Isolated.{isolated}
 use Rattle.isolation.proofs.Examples.{sideWith, paired, withPairEdition, another, to, toMine, toNeither, tooLong, read4, trusted4}
 use Rattle.isolation.proofs.Bite.{nthSight, nthReply}
@@ -35,10 +35,10 @@ abbrev pub compared : Role → Pair → List Event → List OwnSight × List ℕ
 compared role pair es = (ownSights runs role pair es, neitherNumbers runs pair es)
 
 -- the isolation, where something is asked of each pair, and a part of the edition, of the unchanged function's start and of the events is the same
-abbrev pub Asking : {N S E : Type 0} → Role → (Pair → Type 0) → (ℕ → N) → (Side → S) → (List Event → E) → Type 0
+abbrev pub Asking : {N S E : Type 0} → Role → (Pair → Type 0) → (ℕ → N) → (Side → S) → (Pair → List Event → E) → Type 0
 Asking role fit editions sides events =
     (d e : Pair) (es fs : List Event) → fit d → fit e → editions (d .edition) ≡ editions (e .edition) → sides (side role d) ≡ sides (side role e)
-    → events (eventsThat runs (notFor (other role) d) es) ≡ events (eventsThat runs (notFor (other role) e) fs)
+    → events d (eventsThat runs (notFor (other role) d) es) ≡ events e (eventsThat runs (notFor (other role) e) fs)
     → compared role d es ≡ compared role e fs
 
 -- both functions are well described, whatever their numbers; the numbers differ, however they are described
@@ -70,38 +70,48 @@ inItsOrdinary but s = record { function = s .function; capture = s .capture; ord
 abbrev pub inItsTrusted : (Space → Space) → Side → Side
 inItsTrusted but s = record { function = s .function; capture = s .capture; ordinary = s .ordinary; trusted = but (s .trusted) }
 
--- the events but for the packets for the unchanged function, and but for those for neither: it is function 2 of edition 1 in the witnesses
-abbrev pub isIts : Event → Bool
-isIts (packet bytes size) = isFor 1 2 bytes
-isIts reset = false
+-- all the events; but for the packets for the unchanged function, or for neither; but for the bytes of such packets, or their reply sizes; but for where the
+-- resets stand between the packets
+abbrev pub allEvents : Pair → List Event → List Event
+allEvents pair es = es
 
-abbrev pub butIts : List Event → List Event
-butIts es = only (λ e. not (isIts e)) es
+abbrev pub but : (Pair → Event → Bool) → Pair → List Event → List Event
+but kind pair es = only (λ e. not (kind pair e)) es
 
-abbrev pub butNeither : List Event → List Event
-butNeither es = only (λ e. isIts e || isReset e) es
+abbrev pub changedIf : (Event → Event) → Bool → Event → Event
+changedIf change counts e = cond counts (change e) e
+
+abbrev pub butBytesOf : (Pair → Event → Bool) → Pair → List Event → List Event
+butBytesOf kind pair es = map (λ e. changedIf noBytes (kind pair e) e) es
+
+abbrev pub butSizesOf : (Pair → Event → Bool) → Pair → List Event → List Event
+butSizesOf kind pair es = map (λ e. changedIf noSize (kind pair e) e) es
+
+abbrev pub butPlacesOf : Pair → List Event → List Event × List Event
+butPlacesOf pair es = butPlaces es
 
 pub record PremisesNeeded (role : Role) : Type 0 where
-  pub holds : Asking role WellPaired whole whole whole
-  pub described : ¬ Asking role NumbersDiffer whole whole whole
-  pub apart : ¬ Asking role EachWell whole whole whole
-  pub edition : ¬ Asking role WellPaired nothing whole whole
-  pub number : ¬ Asking role WellPaired whole (inFunction noNumber) whole
-  pub a : ¬ Asking role WellPaired whole (inFunction noA) whole
-  pub b : ¬ Asking role WellPaired whole (inFunction noB) whole
-  pub capture : ¬ Asking role WellPaired whole noCapture whole
-  pub ordinaryBytes : ¬ Asking role WellPaired whole (inItsOrdinary butBytes) whole
-  pub ordinaryRules : ¬ Asking role WellPaired whole (inItsOrdinary butRules) whole
-  pub ordinaryMarks : ¬ Asking role WellPaired whole (inItsOrdinary butMarks) whole
-  pub trustedBytes : ¬ Asking role WellPaired whole (inItsTrusted butBytes) whole
-  pub trustedRules : ¬ Asking role WellPaired whole (inItsTrusted butRules) whole
-  pub trustedMarks : ¬ Asking role WellPaired whole (inItsTrusted butMarks) whole
-  pub ownPackets : ¬ Asking role WellPaired whole whole butIts
-  pub neitherPackets : ¬ Asking role WellPaired whole whole butNeither
-  pub bytes : ¬ Asking role WellPaired whole whole (map noBytes)
-  pub ownSizes : ¬ Asking role WellPaired whole whole (map noSize)
-  pub neitherSizes : ¬ Asking role WellPaired whole whole (map noSize)
-  pub resets : ¬ Asking role WellPaired whole whole butPlaces
+  pub holds : Asking role WellPaired whole whole allEvents
+  pub described : ¬ Asking role NumbersDiffer whole whole allEvents
+  pub apart : ¬ Asking role EachWell whole whole allEvents
+  pub edition : ¬ Asking role WellPaired nothing whole allEvents
+  pub number : ¬ Asking role WellPaired whole (inFunction noNumber) allEvents
+  pub a : ¬ Asking role WellPaired whole (inFunction noA) allEvents
+  pub b : ¬ Asking role WellPaired whole (inFunction noB) allEvents
+  pub capture : ¬ Asking role WellPaired whole noCapture allEvents
+  pub ordinaryBytes : ¬ Asking role WellPaired whole (inItsOrdinary butBytes) allEvents
+  pub ordinaryRules : ¬ Asking role WellPaired whole (inItsOrdinary butRules) allEvents
+  pub ordinaryMarks : ¬ Asking role WellPaired whole (inItsOrdinary butMarks) allEvents
+  pub trustedBytes : ¬ Asking role WellPaired whole (inItsTrusted butBytes) allEvents
+  pub trustedRules : ¬ Asking role WellPaired whole (inItsTrusted butRules) allEvents
+  pub trustedMarks : ¬ Asking role WellPaired whole (inItsTrusted butMarks) allEvents
+  pub ownPackets : ¬ Asking role WellPaired whole whole (but (forRole role))
+  pub neitherPackets : ¬ Asking role WellPaired whole whole (but forNeither)
+  pub ownBytes : ¬ Asking role WellPaired whole whole (butBytesOf (forRole role))
+  pub neitherBytes : ¬ Asking role WellPaired whole whole (butBytesOf forNeither)
+  pub ownSizes : ¬ Asking role WellPaired whole whole (butSizesOf (forRole role))
+  pub neitherSizes : ¬ Asking role WellPaired whole whole (butSizesOf forNeither)
+  pub resets : ¬ Asking role WellPaired whole whole butPlacesOf
 
 -- with the replies to packets for neither compared, whichever function is unchanged
 abbrev pub RepliesAlways : Type 0
@@ -138,7 +148,7 @@ usual = usualWith 0x104 0x00c zero zero
 abbrev pub unknown : Side
 unknown = sideWith 2 0x104 0x00c Nothing zero zero
 
-abbrev numbered : ℕ → Side
+abbrev pub numbered : ℕ → Side
 numbered n = sideWith n 0x104 0x00c (Number 0x05 0x03) zero zero
 
 -- function 3, badly described: a bit that is writable is marked too
@@ -175,9 +185,9 @@ abbrev bit7 : List Event
 bit7 = toNeither (changed read4 0 0x84) ∷ []
 
 -- it is false if two runs meet what is asked and one number tells what they show apart
-refuted : {N S E : Type 0} (role : Role) (fit : Pair → Type 0) (editions : ℕ → N) (sides : Side → S) (events : List Event → E) (d e : Pair) (es fs : List Event)
+refuted : {N S E : Type 0} (role : Role) (fit : Pair → Type 0) (editions : ℕ → N) (sides : Side → S) (events : Pair → List Event → E) (d e : Pair) (es fs : List Event)
     → fit d → fit e → editions (d .edition) ≡ editions (e .edition) → sides (side role d) ≡ sides (side role e)
-    → events (eventsThat runs (notFor (other role) d) es) ≡ events (eventsThat runs (notFor (other role) e) fs) → (tell : List OwnSight × List ℕ → ℕ)
+    → events d (eventsThat runs (notFor (other role) d) es) ≡ events e (eventsThat runs (notFor (other role) e) fs) → (tell : List OwnSight × List ℕ → ℕ)
     → eqb (tell (compared role d es)) (tell (compared role e fs)) ≡ false → ¬ Asking role fit editions sides events
 refuted role fit editions sides events d e es fs w u n s o tell differ h = eqb-false _ _ differ (ap tell (h d e es fs w u n s o))
 
@@ -194,157 +204,165 @@ neither l = getD (l .1) 0 99
 abbrev ownCount : List OwnSight × List ℕ → ℕ
 ownCount l = length (l .0)
 
-described-primary : ¬ Asking Primary NumbersDiffer whole whole whole
+described-primary : ¬ Asking Primary NumbersDiffer whole whole allEvents
 unfolding pairComputing
-described-primary = refuted Primary NumbersDiffer whole whole whole (paired Primary usual another) (paired Primary usual twice) atIt atIt refl refl refl refl refl (answer 0) refl
+described-primary = refuted Primary NumbersDiffer whole whole allEvents (paired Primary usual another) (paired Primary usual twice) atIt atIt refl refl refl refl refl (answer 0) refl
 
-apart-primary : ¬ Asking Primary EachWell whole whole whole
+apart-primary : ¬ Asking Primary EachWell whole whole allEvents
 unfolding pairComputing
-apart-primary = refuted Primary EachWell whole whole whole (paired Primary usual another) (paired Primary usual (numbered 2)) atNeither atNeither (refl, refl) (refl, refl) refl refl refl neither refl
+apart-primary = refuted Primary EachWell whole whole allEvents (paired Primary usual another) (paired Primary usual (numbered 2)) atNeither atNeither (refl, refl) (refl, refl) refl refl refl neither refl
 
-edition-primary : ¬ Asking Primary WellPaired nothing whole whole
+edition-primary : ¬ Asking Primary WellPaired nothing whole allEvents
 unfolding pairComputing
-edition-primary = refuted Primary WellPaired nothing whole whole (paired Primary usual another) (withPairEdition (paired Primary usual another) 2) bit7 bit7 refl refl refl refl refl neither refl
+edition-primary = refuted Primary WellPaired nothing whole allEvents (paired Primary usual another) (withPairEdition (paired Primary usual another) 2) bit7 bit7 refl refl refl refl refl neither refl
 
-number-primary : ¬ Asking Primary WellPaired whole (inFunction noNumber) whole
+number-primary : ¬ Asking Primary WellPaired whole (inFunction noNumber) allEvents
 unfolding pairComputing
-number-primary = refuted Primary WellPaired whole (inFunction noNumber) whole (paired Primary usual another) (paired Primary (numbered 5) another) atIt atIt refl refl refl refl refl ownCount refl
+number-primary = refuted Primary WellPaired whole (inFunction noNumber) allEvents (paired Primary usual another) (paired Primary (numbered 5) another) atIt atIt refl refl refl refl refl ownCount refl
 
-a-primary : ¬ Asking Primary WellPaired whole (inFunction noA) whole
+a-primary : ¬ Asking Primary WellPaired whole (inFunction noA) allEvents
 unfolding pairComputing
-a-primary = refuted Primary WellPaired whole (inFunction noA) whole (paired Primary (usualWith 0x104 0x00c (full 0x104) zero) another) (paired Primary (usualWith 0x108 0x00c (full 0x104) zero) another) atA atA refl refl refl refl refl (replied 0 12) refl
+a-primary = refuted Primary WellPaired whole (inFunction noA) allEvents (paired Primary (usualWith 0x104 0x00c (full 0x104) zero) another) (paired Primary (usualWith 0x108 0x00c (full 0x104) zero) another) atA atA refl refl refl refl refl (replied 0 12) refl
 
-b-primary : ¬ Asking Primary WellPaired whole (inFunction noB) whole
+b-primary : ¬ Asking Primary WellPaired whole (inFunction noB) allEvents
 unfolding pairComputing
-b-primary = refuted Primary WellPaired whole (inFunction noB) whole (paired Primary (usualWith 0x104 0x00c zero (full 0x010)) another) (paired Primary (usualWith 0x104 0x010 zero (full 0x010)) another) atA atA refl refl refl refl refl (replied 0 12) refl
+b-primary = refuted Primary WellPaired whole (inFunction noB) allEvents (paired Primary (usualWith 0x104 0x00c zero (full 0x010)) another) (paired Primary (usualWith 0x104 0x010 zero (full 0x010)) another) atA atA refl refl refl refl refl (replied 0 12) refl
 
-capture-primary : ¬ Asking Primary WellPaired whole noCapture whole
+capture-primary : ¬ Asking Primary WellPaired whole noCapture allEvents
 unfolding pairComputing
-capture-primary = refuted Primary WellPaired whole noCapture whole (paired Primary usual another) (paired Primary unknown another) atIt atIt refl refl refl refl refl (replied 0 4) refl
+capture-primary = refuted Primary WellPaired whole noCapture allEvents (paired Primary usual another) (paired Primary unknown another) atIt atIt refl refl refl refl refl (replied 0 4) refl
 
-ordinaryBytes-primary : ¬ Asking Primary WellPaired whole (inItsOrdinary butBytes) whole
+ordinaryBytes-primary : ¬ Asking Primary WellPaired whole (inItsOrdinary butBytes) allEvents
 unfolding pairComputing
-ordinaryBytes-primary = refuted Primary WellPaired whole (inItsOrdinary butBytes) whole (paired Primary usual another) (paired Primary (usualWith 0x104 0x00c (full 0x004) zero) another) atIt atIt refl refl refl refl refl (replied 0 12) refl
+ordinaryBytes-primary = refuted Primary WellPaired whole (inItsOrdinary butBytes) allEvents (paired Primary usual another) (paired Primary (usualWith 0x104 0x00c (full 0x004) zero) another) atIt atIt refl refl refl refl refl (replied 0 12) refl
 
-ordinaryRules-primary : ¬ Asking Primary WellPaired whole (inItsOrdinary butRules) whole
+ordinaryRules-primary : ¬ Asking Primary WellPaired whole (inItsOrdinary butRules) allEvents
 unfolding pairComputing
-ordinaryRules-primary = refuted Primary WellPaired whole (inItsOrdinary butRules) whole (paired Primary usual another) (paired Primary (usualWith 0x104 0x00c shut zero) another) stored stored refl refl refl refl refl (replied 1 12) refl
+ordinaryRules-primary = refuted Primary WellPaired whole (inItsOrdinary butRules) allEvents (paired Primary usual another) (paired Primary (usualWith 0x104 0x00c shut zero) another) stored stored refl refl refl refl refl (replied 1 12) refl
 
-ordinaryMarks-primary : ¬ Asking Primary WellPaired whole (inItsOrdinary butMarks) whole
+ordinaryMarks-primary : ¬ Asking Primary WellPaired whole (inItsOrdinary butMarks) allEvents
 unfolding pairComputing
-ordinaryMarks-primary = refuted Primary WellPaired whole (inItsOrdinary butMarks) whole (paired Primary (usualWith 0x104 0x00c fixed zero) another) (paired Primary (usualWith 0x104 0x00c status zero) another) stored8 stored8 refl refl refl refl refl (replied 1 12) refl
+ordinaryMarks-primary = refuted Primary WellPaired whole (inItsOrdinary butMarks) allEvents (paired Primary (usualWith 0x104 0x00c fixed zero) another) (paired Primary (usualWith 0x104 0x00c status zero) another) stored8 stored8 refl refl refl refl refl (replied 1 12) refl
 
-trustedBytes-primary : ¬ Asking Primary WellPaired whole (inItsTrusted butBytes) whole
+trustedBytes-primary : ¬ Asking Primary WellPaired whole (inItsTrusted butBytes) allEvents
 unfolding pairComputing
-trustedBytes-primary = refuted Primary WellPaired whole (inItsTrusted butBytes) whole (paired Primary usual another) (paired Primary (usualWith 0x104 0x00c zero (full 0x004)) another) trustedIt trustedIt refl refl refl refl refl (replied 0 12) refl
+trustedBytes-primary = refuted Primary WellPaired whole (inItsTrusted butBytes) allEvents (paired Primary usual another) (paired Primary (usualWith 0x104 0x00c zero (full 0x004)) another) trustedIt trustedIt refl refl refl refl refl (replied 0 12) refl
 
-trustedRules-primary : ¬ Asking Primary WellPaired whole (inItsTrusted butRules) whole
+trustedRules-primary : ¬ Asking Primary WellPaired whole (inItsTrusted butRules) allEvents
 unfolding pairComputing
-trustedRules-primary = refuted Primary WellPaired whole (inItsTrusted butRules) whole (paired Primary usual another) (paired Primary (usualWith 0x104 0x00c zero shut) another) kept kept refl refl refl refl refl (replied 1 12) refl
+trustedRules-primary = refuted Primary WellPaired whole (inItsTrusted butRules) allEvents (paired Primary usual another) (paired Primary (usualWith 0x104 0x00c zero shut) another) kept kept refl refl refl refl refl (replied 1 12) refl
 
-trustedMarks-primary : ¬ Asking Primary WellPaired whole (inItsTrusted butMarks) whole
+trustedMarks-primary : ¬ Asking Primary WellPaired whole (inItsTrusted butMarks) allEvents
 unfolding pairComputing
-trustedMarks-primary = refuted Primary WellPaired whole (inItsTrusted butMarks) whole (paired Primary (usualWith 0x104 0x00c zero fixed) another) (paired Primary (usualWith 0x104 0x00c zero status) another) kept8 kept8 refl refl refl refl refl (replied 1 12) refl
+trustedMarks-primary = refuted Primary WellPaired whole (inItsTrusted butMarks) allEvents (paired Primary (usualWith 0x104 0x00c zero fixed) another) (paired Primary (usualWith 0x104 0x00c zero status) another) kept8 kept8 refl refl refl refl refl (replied 1 12) refl
 
-ownPackets-primary : ¬ Asking Primary WellPaired whole whole butIts
+ownPackets-primary : ¬ Asking Primary WellPaired whole whole (but (forRole Primary))
 unfolding pairComputing
-ownPackets-primary = refuted Primary WellPaired whole whole butIts (paired Primary usual another) (paired Primary usual another) atIt [] refl refl refl refl refl ownCount refl
+ownPackets-primary = refuted Primary WellPaired whole whole (but (forRole Primary)) (paired Primary usual another) (paired Primary usual another) atIt [] refl refl refl refl refl ownCount refl
 
-neitherPackets-primary : ¬ Asking Primary WellPaired whole whole butNeither
+neitherPackets-primary : ¬ Asking Primary WellPaired whole whole (but forNeither)
 unfolding pairComputing
-neitherPackets-primary = refuted Primary WellPaired whole whole butNeither (paired Primary usual another) (paired Primary usual another) atNeither (toNeither tooLong ∷ []) refl refl refl refl refl neither refl
+neitherPackets-primary = refuted Primary WellPaired whole whole (but forNeither) (paired Primary usual another) (paired Primary usual another) atNeither (toNeither tooLong ∷ []) refl refl refl refl refl neither refl
 
-bytes-primary : ¬ Asking Primary WellPaired whole whole (map noBytes)
+ownBytes-primary : ¬ Asking Primary WellPaired whole whole (butBytesOf (forRole Primary))
 unfolding pairComputing
-bytes-primary = refuted Primary WellPaired whole whole (map noBytes) (paired Primary (usualWith 0x104 0x00c (full 0x004) zero) another) (paired Primary (usualWith 0x104 0x00c (full 0x004) zero) another) atIt (toMine (readAt 0x00 0x08) ∷ []) refl refl refl refl refl (replied 0 12) refl
+ownBytes-primary = refuted Primary WellPaired whole whole (butBytesOf (forRole Primary)) (paired Primary (usualWith 0x104 0x00c (full 0x004) zero) another) (paired Primary (usualWith 0x104 0x00c (full 0x004) zero) another) atIt (toMine (readAt 0x00 0x08) ∷ []) refl refl refl refl refl (replied 0 12) refl
 
-ownSizes-primary : ¬ Asking Primary WellPaired whole whole (map noSize)
+neitherBytes-primary : ¬ Asking Primary WellPaired whole whole (butBytesOf forNeither)
 unfolding pairComputing
-ownSizes-primary = refuted Primary WellPaired whole whole (map noSize) (paired Primary usual another) (paired Primary usual another) atIt (packet (to 0x1a read4) 15 ∷ []) refl refl refl refl refl (answer 0) refl
+neitherBytes-primary = refuted Primary WellPaired whole whole (butBytesOf forNeither) (paired Primary usual another) (paired Primary usual another) atNeither (toNeither tooLong ∷ []) refl refl refl refl refl neither refl
 
-neitherSizes-primary : ¬ Asking Primary WellPaired whole whole (map noSize)
+ownSizes-primary : ¬ Asking Primary WellPaired whole whole (butSizesOf (forRole Primary))
 unfolding pairComputing
-neitherSizes-primary = refuted Primary WellPaired whole whole (map noSize) (paired Primary usual another) (paired Primary usual another) atNeither (packet (to 0x1d read4) 15 ∷ []) refl refl refl refl refl neither refl
+ownSizes-primary = refuted Primary WellPaired whole whole (butSizesOf (forRole Primary)) (paired Primary usual another) (paired Primary usual another) atIt (packet (to 0x1a read4) 15 ∷ []) refl refl refl refl refl (answer 0) refl
 
-resets-primary : ¬ Asking Primary WellPaired whole whole butPlaces
+neitherSizes-primary : ¬ Asking Primary WellPaired whole whole (butSizesOf forNeither)
 unfolding pairComputing
-resets-primary = refuted Primary WellPaired whole whole butPlaces (paired Primary usual another) (paired Primary usual another) (reset ∷ toMine read4 ∷ []) (toMine read4 ∷ reset ∷ []) refl refl refl refl refl (replied 0 4) refl
+neitherSizes-primary = refuted Primary WellPaired whole whole (butSizesOf forNeither) (paired Primary usual another) (paired Primary usual another) atNeither (packet (to 0x1d read4) 15 ∷ []) refl refl refl refl refl neither refl
 
-described-alternate : ¬ Asking Alternate NumbersDiffer whole whole whole
+resets-primary : ¬ Asking Primary WellPaired whole whole butPlacesOf
 unfolding pairComputing
-described-alternate = refuted Alternate NumbersDiffer whole whole whole (paired Alternate usual another) (paired Alternate usual twice) atIt atIt refl refl refl refl refl (answer 0) refl
+resets-primary = refuted Primary WellPaired whole whole butPlacesOf (paired Primary usual another) (paired Primary usual another) (reset ∷ toMine read4 ∷ []) (toMine read4 ∷ reset ∷ []) refl refl refl refl refl (replied 0 4) refl
 
-apart-alternate : ¬ Asking Alternate EachWell whole whole whole
+described-alternate : ¬ Asking Alternate NumbersDiffer whole whole allEvents
 unfolding pairComputing
-apart-alternate = refuted Alternate EachWell whole whole whole (paired Alternate usual another) (paired Alternate usual (numbered 2)) atNeither atNeither (refl, refl) (refl, refl) refl refl refl neither refl
+described-alternate = refuted Alternate NumbersDiffer whole whole allEvents (paired Alternate usual another) (paired Alternate usual twice) atIt atIt refl refl refl refl refl (answer 0) refl
 
-edition-alternate : ¬ Asking Alternate WellPaired nothing whole whole
+apart-alternate : ¬ Asking Alternate EachWell whole whole allEvents
 unfolding pairComputing
-edition-alternate = refuted Alternate WellPaired nothing whole whole (paired Alternate usual another) (withPairEdition (paired Alternate usual another) 2) bit7 bit7 refl refl refl refl refl neither refl
+apart-alternate = refuted Alternate EachWell whole whole allEvents (paired Alternate usual another) (paired Alternate usual (numbered 2)) atNeither atNeither (refl, refl) (refl, refl) refl refl refl neither refl
 
-number-alternate : ¬ Asking Alternate WellPaired whole (inFunction noNumber) whole
+edition-alternate : ¬ Asking Alternate WellPaired nothing whole allEvents
 unfolding pairComputing
-number-alternate = refuted Alternate WellPaired whole (inFunction noNumber) whole (paired Alternate usual another) (paired Alternate (numbered 5) another) atIt atIt refl refl refl refl refl ownCount refl
+edition-alternate = refuted Alternate WellPaired nothing whole allEvents (paired Alternate usual another) (withPairEdition (paired Alternate usual another) 2) bit7 bit7 refl refl refl refl refl neither refl
 
-a-alternate : ¬ Asking Alternate WellPaired whole (inFunction noA) whole
+number-alternate : ¬ Asking Alternate WellPaired whole (inFunction noNumber) allEvents
 unfolding pairComputing
-a-alternate = refuted Alternate WellPaired whole (inFunction noA) whole (paired Alternate (usualWith 0x104 0x00c (full 0x104) zero) another) (paired Alternate (usualWith 0x108 0x00c (full 0x104) zero) another) atA atA refl refl refl refl refl (replied 0 12) refl
+number-alternate = refuted Alternate WellPaired whole (inFunction noNumber) allEvents (paired Alternate usual another) (paired Alternate (numbered 5) another) atIt atIt refl refl refl refl refl ownCount refl
 
-b-alternate : ¬ Asking Alternate WellPaired whole (inFunction noB) whole
+a-alternate : ¬ Asking Alternate WellPaired whole (inFunction noA) allEvents
 unfolding pairComputing
-b-alternate = refuted Alternate WellPaired whole (inFunction noB) whole (paired Alternate (usualWith 0x104 0x00c zero (full 0x010)) another) (paired Alternate (usualWith 0x104 0x010 zero (full 0x010)) another) atA atA refl refl refl refl refl (replied 0 12) refl
+a-alternate = refuted Alternate WellPaired whole (inFunction noA) allEvents (paired Alternate (usualWith 0x104 0x00c (full 0x104) zero) another) (paired Alternate (usualWith 0x108 0x00c (full 0x104) zero) another) atA atA refl refl refl refl refl (replied 0 12) refl
 
-capture-alternate : ¬ Asking Alternate WellPaired whole noCapture whole
+b-alternate : ¬ Asking Alternate WellPaired whole (inFunction noB) allEvents
 unfolding pairComputing
-capture-alternate = refuted Alternate WellPaired whole noCapture whole (paired Alternate usual another) (paired Alternate unknown another) atIt atIt refl refl refl refl refl (replied 0 4) refl
+b-alternate = refuted Alternate WellPaired whole (inFunction noB) allEvents (paired Alternate (usualWith 0x104 0x00c zero (full 0x010)) another) (paired Alternate (usualWith 0x104 0x010 zero (full 0x010)) another) atA atA refl refl refl refl refl (replied 0 12) refl
 
-ordinaryBytes-alternate : ¬ Asking Alternate WellPaired whole (inItsOrdinary butBytes) whole
+capture-alternate : ¬ Asking Alternate WellPaired whole noCapture allEvents
 unfolding pairComputing
-ordinaryBytes-alternate = refuted Alternate WellPaired whole (inItsOrdinary butBytes) whole (paired Alternate usual another) (paired Alternate (usualWith 0x104 0x00c (full 0x004) zero) another) atIt atIt refl refl refl refl refl (replied 0 12) refl
+capture-alternate = refuted Alternate WellPaired whole noCapture allEvents (paired Alternate usual another) (paired Alternate unknown another) atIt atIt refl refl refl refl refl (replied 0 4) refl
 
-ordinaryRules-alternate : ¬ Asking Alternate WellPaired whole (inItsOrdinary butRules) whole
+ordinaryBytes-alternate : ¬ Asking Alternate WellPaired whole (inItsOrdinary butBytes) allEvents
 unfolding pairComputing
-ordinaryRules-alternate = refuted Alternate WellPaired whole (inItsOrdinary butRules) whole (paired Alternate usual another) (paired Alternate (usualWith 0x104 0x00c shut zero) another) stored stored refl refl refl refl refl (replied 1 12) refl
+ordinaryBytes-alternate = refuted Alternate WellPaired whole (inItsOrdinary butBytes) allEvents (paired Alternate usual another) (paired Alternate (usualWith 0x104 0x00c (full 0x004) zero) another) atIt atIt refl refl refl refl refl (replied 0 12) refl
 
-ordinaryMarks-alternate : ¬ Asking Alternate WellPaired whole (inItsOrdinary butMarks) whole
+ordinaryRules-alternate : ¬ Asking Alternate WellPaired whole (inItsOrdinary butRules) allEvents
 unfolding pairComputing
-ordinaryMarks-alternate = refuted Alternate WellPaired whole (inItsOrdinary butMarks) whole (paired Alternate (usualWith 0x104 0x00c fixed zero) another) (paired Alternate (usualWith 0x104 0x00c status zero) another) stored8 stored8 refl refl refl refl refl (replied 1 12) refl
+ordinaryRules-alternate = refuted Alternate WellPaired whole (inItsOrdinary butRules) allEvents (paired Alternate usual another) (paired Alternate (usualWith 0x104 0x00c shut zero) another) stored stored refl refl refl refl refl (replied 1 12) refl
 
-trustedBytes-alternate : ¬ Asking Alternate WellPaired whole (inItsTrusted butBytes) whole
+ordinaryMarks-alternate : ¬ Asking Alternate WellPaired whole (inItsOrdinary butMarks) allEvents
 unfolding pairComputing
-trustedBytes-alternate = refuted Alternate WellPaired whole (inItsTrusted butBytes) whole (paired Alternate usual another) (paired Alternate (usualWith 0x104 0x00c zero (full 0x004)) another) trustedIt trustedIt refl refl refl refl refl (replied 0 12) refl
+ordinaryMarks-alternate = refuted Alternate WellPaired whole (inItsOrdinary butMarks) allEvents (paired Alternate (usualWith 0x104 0x00c fixed zero) another) (paired Alternate (usualWith 0x104 0x00c status zero) another) stored8 stored8 refl refl refl refl refl (replied 1 12) refl
 
-trustedRules-alternate : ¬ Asking Alternate WellPaired whole (inItsTrusted butRules) whole
+trustedBytes-alternate : ¬ Asking Alternate WellPaired whole (inItsTrusted butBytes) allEvents
 unfolding pairComputing
-trustedRules-alternate = refuted Alternate WellPaired whole (inItsTrusted butRules) whole (paired Alternate usual another) (paired Alternate (usualWith 0x104 0x00c zero shut) another) kept kept refl refl refl refl refl (replied 1 12) refl
+trustedBytes-alternate = refuted Alternate WellPaired whole (inItsTrusted butBytes) allEvents (paired Alternate usual another) (paired Alternate (usualWith 0x104 0x00c zero (full 0x004)) another) trustedIt trustedIt refl refl refl refl refl (replied 0 12) refl
 
-trustedMarks-alternate : ¬ Asking Alternate WellPaired whole (inItsTrusted butMarks) whole
+trustedRules-alternate : ¬ Asking Alternate WellPaired whole (inItsTrusted butRules) allEvents
 unfolding pairComputing
-trustedMarks-alternate = refuted Alternate WellPaired whole (inItsTrusted butMarks) whole (paired Alternate (usualWith 0x104 0x00c zero fixed) another) (paired Alternate (usualWith 0x104 0x00c zero status) another) kept8 kept8 refl refl refl refl refl (replied 1 12) refl
+trustedRules-alternate = refuted Alternate WellPaired whole (inItsTrusted butRules) allEvents (paired Alternate usual another) (paired Alternate (usualWith 0x104 0x00c zero shut) another) kept kept refl refl refl refl refl (replied 1 12) refl
 
-ownPackets-alternate : ¬ Asking Alternate WellPaired whole whole butIts
+trustedMarks-alternate : ¬ Asking Alternate WellPaired whole (inItsTrusted butMarks) allEvents
 unfolding pairComputing
-ownPackets-alternate = refuted Alternate WellPaired whole whole butIts (paired Alternate usual another) (paired Alternate usual another) atIt [] refl refl refl refl refl ownCount refl
+trustedMarks-alternate = refuted Alternate WellPaired whole (inItsTrusted butMarks) allEvents (paired Alternate (usualWith 0x104 0x00c zero fixed) another) (paired Alternate (usualWith 0x104 0x00c zero status) another) kept8 kept8 refl refl refl refl refl (replied 1 12) refl
 
-neitherPackets-alternate : ¬ Asking Alternate WellPaired whole whole butNeither
+ownPackets-alternate : ¬ Asking Alternate WellPaired whole whole (but (forRole Alternate))
 unfolding pairComputing
-neitherPackets-alternate = refuted Alternate WellPaired whole whole butNeither (paired Alternate usual another) (paired Alternate usual another) atNeither (toNeither tooLong ∷ []) refl refl refl refl refl neither refl
+ownPackets-alternate = refuted Alternate WellPaired whole whole (but (forRole Alternate)) (paired Alternate usual another) (paired Alternate usual another) atIt [] refl refl refl refl refl ownCount refl
 
-bytes-alternate : ¬ Asking Alternate WellPaired whole whole (map noBytes)
+neitherPackets-alternate : ¬ Asking Alternate WellPaired whole whole (but forNeither)
 unfolding pairComputing
-bytes-alternate = refuted Alternate WellPaired whole whole (map noBytes) (paired Alternate (usualWith 0x104 0x00c (full 0x004) zero) another) (paired Alternate (usualWith 0x104 0x00c (full 0x004) zero) another) atIt (toMine (readAt 0x00 0x08) ∷ []) refl refl refl refl refl (replied 0 12) refl
+neitherPackets-alternate = refuted Alternate WellPaired whole whole (but forNeither) (paired Alternate usual another) (paired Alternate usual another) atNeither (toNeither tooLong ∷ []) refl refl refl refl refl neither refl
 
-ownSizes-alternate : ¬ Asking Alternate WellPaired whole whole (map noSize)
+ownBytes-alternate : ¬ Asking Alternate WellPaired whole whole (butBytesOf (forRole Alternate))
 unfolding pairComputing
-ownSizes-alternate = refuted Alternate WellPaired whole whole (map noSize) (paired Alternate usual another) (paired Alternate usual another) atIt (packet (to 0x1a read4) 15 ∷ []) refl refl refl refl refl (answer 0) refl
+ownBytes-alternate = refuted Alternate WellPaired whole whole (butBytesOf (forRole Alternate)) (paired Alternate (usualWith 0x104 0x00c (full 0x004) zero) another) (paired Alternate (usualWith 0x104 0x00c (full 0x004) zero) another) atIt (toMine (readAt 0x00 0x08) ∷ []) refl refl refl refl refl (replied 0 12) refl
 
-neitherSizes-alternate : ¬ Asking Alternate WellPaired whole whole (map noSize)
+neitherBytes-alternate : ¬ Asking Alternate WellPaired whole whole (butBytesOf forNeither)
 unfolding pairComputing
-neitherSizes-alternate = refuted Alternate WellPaired whole whole (map noSize) (paired Alternate usual another) (paired Alternate usual another) atNeither (packet (to 0x1d read4) 15 ∷ []) refl refl refl refl refl neither refl
+neitherBytes-alternate = refuted Alternate WellPaired whole whole (butBytesOf forNeither) (paired Alternate usual another) (paired Alternate usual another) atNeither (toNeither tooLong ∷ []) refl refl refl refl refl neither refl
 
-resets-alternate : ¬ Asking Alternate WellPaired whole whole butPlaces
+ownSizes-alternate : ¬ Asking Alternate WellPaired whole whole (butSizesOf (forRole Alternate))
 unfolding pairComputing
-resets-alternate = refuted Alternate WellPaired whole whole butPlaces (paired Alternate usual another) (paired Alternate usual another) (reset ∷ toMine read4 ∷ []) (toMine read4 ∷ reset ∷ []) refl refl refl refl refl (replied 0 4) refl
+ownSizes-alternate = refuted Alternate WellPaired whole whole (butSizesOf (forRole Alternate)) (paired Alternate usual another) (paired Alternate usual another) atIt (packet (to 0x1a read4) 15 ∷ []) refl refl refl refl refl (answer 0) refl
+
+neitherSizes-alternate : ¬ Asking Alternate WellPaired whole whole (butSizesOf forNeither)
+unfolding pairComputing
+neitherSizes-alternate = refuted Alternate WellPaired whole whole (butSizesOf forNeither) (paired Alternate usual another) (paired Alternate usual another) atNeither (packet (to 0x1d read4) 15 ∷ []) refl refl refl refl refl neither refl
+
+resets-alternate : ¬ Asking Alternate WellPaired whole whole butPlacesOf
+unfolding pairComputing
+resets-alternate = refuted Alternate WellPaired whole whole butPlacesOf (paired Alternate usual another) (paired Alternate usual another) (reset ∷ toMine read4 ∷ []) (toMine read4 ∷ reset ∷ []) refl refl refl refl refl (replied 0 4) refl
 
 pub premises-needed : (role : Role) → PremisesNeeded role
 premises-needed Primary =
@@ -365,7 +383,8 @@ premises-needed Primary =
       trustedMarks = trustedMarks-primary;
       ownPackets = ownPackets-primary;
       neitherPackets = neitherPackets-primary;
-      bytes = bytes-primary;
+      ownBytes = ownBytes-primary;
+      neitherBytes = neitherBytes-primary;
       ownSizes = ownSizes-primary;
       neitherSizes = neitherSizes-primary;
       resets = resets-primary;
@@ -388,7 +407,8 @@ premises-needed Alternate =
       trustedMarks = trustedMarks-alternate;
       ownPackets = ownPackets-alternate;
       neitherPackets = neitherPackets-alternate;
-      bytes = bytes-alternate;
+      ownBytes = ownBytes-alternate;
+      neitherBytes = neitherBytes-alternate;
       ownSizes = ownSizes-alternate;
       neitherSizes = neitherSizes-alternate;
       resets = resets-alternate;

@@ -11,7 +11,6 @@ use Rattle.packet.specs.declared.Target.{Target}
 use Rattle.packet.specs.declared.Target.the-variants.{Type0, Type1, Trusted}
 use Rattle.packet.specs.Fields.{functionOf}
 use Rattle.packet.specs.Request.{requestOf}
-use Rattle.capture.specs.declared.Capture.{Capture}
 use Rattle.board.specs.Description.{badlyDescribed}
 use Rattle.runs.specs.Servers.{untouched}
 use Rattle.pair.specs.Pair.{Pair, Role, Primary, Alternate, other, side, board, WellPaired, isForRole}
