@@ -37,5 +37,9 @@ int main(void)
     layouts();
     lays();
     laying_overlaps();
+    pairs();
+    pair_runs();
+    pair_helpers();
+    pair_overlaps();
     return failed_groups() == 0 ? 0 : 1;
 }

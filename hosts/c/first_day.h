@@ -28,5 +28,9 @@ void plans(void);
 void layouts(void);
 void lays(void);
 void laying_overlaps(void);
+void pairs(void);
+void pair_runs(void);
+void pair_helpers(void);
+void pair_overlaps(void);
 
 #endif

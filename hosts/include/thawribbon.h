@@ -1,11 +1,12 @@
 /*
- * thawribbon.h: a board's answers to configuration packets, the three capability lists, two records, a switch's router, the asking side:
- * requests written, and completions read back; a switch's multicast: capabilities read, and addresses judged; and the extended list of a
- * new board: laid out, checked and written.
+ * thawribbon.h: the answers of a board, of one function or of two, to configuration packets, the three capability lists, two records, a
+ * switch's router, the asking side: requests written, and completions read back; a switch's multicast: capabilities read, and addresses
+ * judged; and the extended list of a new board: laid out, checked and written.
  *
  * Document 01 of the project fixes what every function answers, with what document 02 corrects, and for the router, the asking side,
- * multicast and layouts document 02; their words are used here. The rules that hold stand in docs/RULES.md of the project, each with its
- * number: "rule 4.1" is one of them. Numbers ending in h are hexadecimal.
+ * multicast, layouts and boards of two functions document 02; their words are used here. The rules that hold stand in docs/RULES.md of the
+ * project, each with its number: "rule 4.1" is one of them. Numbers ending in h are hexadecimal. A board has one function, where nothing
+ * else is said.
  *
  * The packet that has to land is a trusted write. A board takes it only when a Type 0 write has told it its bus and device number. Done is
  * not landed: a write that is done has changed only the bits that the space's rules and marks let it change. So read it back, and compare:
@@ -26,12 +27,13 @@
  * A bit that is marked, such as an error status bit, is cleared by writing 1 and reads 0 then. It has landed where it reads 0.
  *
  * There are two parts. The first declares the functions of libthawribbon.a, which are compiled from proved code. The second, from
- * "Helpers" on, is inline C over them, tried and not proved: a board in one struct, what became of a packet, what leaves a switch, what
- * is heard of a request, the multicast of a switch in one struct, a layout in one struct, texts, and a list's headers. A program that
- * answers packets begins with thawribbon_board_serve, in the second part; one that passes them on begins with thawribbon_ports_route; one
- * that asks begins with thawribbon_board_ask, where it has the board, and with thawribbon_write_request and thawribbon_hear, where a bus is
- * between; one that wants to know which hosts get a radar's group begins with thawribbon_offload_read; one that lays out a new board begins
- * with thawribbon_layout_lay.
+ * "Helpers" on, is inline C over them, tried and not proved: a board in one struct, one of two functions too, what became of a packet, what
+ * leaves a switch, what is heard of a request, the multicast of a switch in one struct, a layout in one struct, texts, and a list's headers.
+ * A program that answers packets begins with thawribbon_board_serve, in the second part, or with thawribbon_pair_serve, where its board has
+ * two functions; one that passes them on begins with thawribbon_ports_route; one that asks begins with thawribbon_board_ask or
+ * thawribbon_pair_ask, where it has the board, and with thawribbon_write_request and thawribbon_hear, where a bus is between; one that
+ * wants to know which hosts get a radar's group begins with thawribbon_offload_read; one that lays out a new board begins with
+ * thawribbon_layout_lay.
  *
  * Any bytes, of any length, get an answer: every function tests what it is given, and returns. A number in an answer says how it went;
  * the numbers are named below. Each but 0 is a refusal, and a refusal changes no byte of a space, a reply, a room, the buffer for what
@@ -43,14 +45,17 @@
  * - A buffer is a pointer and a length, and that many bytes (for a room and for offsets, that many numbers; for a list of ports, that many
  *   ports; for structures, that many of them) are really there. With length 0 the pointer is never followed and may be anything, NULL
  *   included.
- * - A buffer that is written (ordinary, trusted, reply, room, leaving, a request's buffer, a capability's fields, the space that a layout is
- *   written into; of the helpers, the board, the answer with its completion, what leaves with its bytes, what is heard, an offload, what is
- *   judged, and a layout) overlaps no other buffer of the same call. Buffers that are only read may overlap each other, or be the same.
- *   thawribbon_board_serve, thawribbon_ports_route, thawribbon_board_ask and thawribbon_layout_lay look at this themselves, and answer 1.
+ * - A buffer that is written (an ordinary or trusted space, of a board of two functions all four, reply, room, leaving, a request's buffer, a
+ *   capability's fields, the space that a layout is written into; of the helpers, the board, of one function or of two, the answer with its
+ *   completion, what leaves with its bytes, what is heard, what a record says, an offload, what is judged, and a layout) overlaps no other
+ *   buffer of the same call. Buffers that are only read may overlap each other, or be the same. thawribbon_board_serve,
+ *   thawribbon_pair_serve, thawribbon_ports_route, thawribbon_board_ask, thawribbon_pair_ask and thawribbon_layout_lay look at this
+ *   themselves, and answer 1.
  * - While a call runs, no other thread writes to its buffers, or reads those that it writes.
  *
- * Nothing is kept: no function stores a pointer, allocates, or has a state of its own. What a board has captured goes in and comes back
- * by value, or is kept in the board that the caller owns. So any thread may call any function at any time on buffers of its own.
+ * Nothing is kept: no function stores a pointer, allocates, or has a state of its own. What a board, or each of its two functions, has
+ * captured goes in and comes back by value, or is kept in the board that the caller owns. So any thread may call any function at any time
+ * on buffers of its own.
  *
  * Link with the libthawribbon.a of the same version. It calls memcpy and memset of the C library, and nothing else.
  */
@@ -65,9 +70,9 @@ extern "C" {
 #endif
 
 /* The version of this header, and of the archive that came with it. */
-#define THAWRIBBON_VERSION "0.11.0"
+#define THAWRIBBON_VERSION "0.12.0"
 #define THAWRIBBON_VERSION_MAJOR 0
-#define THAWRIBBON_VERSION_MINOR 11
+#define THAWRIBBON_VERSION_MINOR 12
 #define THAWRIBBON_VERSION_PATCH 0
 
 /* An answer that is dropped is an answer that nobody looked at: compilers that can, warn. */
@@ -89,14 +94,15 @@ enum thawribbon_number {
     THAWRIBBON_SERVED = 0,
     /* a space, its rules or its marks aren't 4,096 bytes, a bit is 1 in the rules and in the marks of a space, a captured device is over
        31, a function number or A or B is outside its range, the edition is neither THAWRIBBON_EDITION_1 nor THAWRIBBON_EDITION_2 (one that
-       an initialiser leaves out is 0), a record is asked for where none may stand (rule 2.2); at thawribbon_board_serve, also where buffers
-       overlap; at a router, a list has over 32 ports, a port's secondary bus is over its subordinate bus, or two ranges of buses meet (rule
-       10.2); at thawribbon_ports_route, also where what leaves overlaps the ports or the packet; of a request to be written, its kind is
-       none of the six, its device is over 31, its function over 7, its offset over FFCh or not a multiple of 4, or its enables over 15; at
-       thawribbon_board_ask, also where what is heard overlaps the board; of an address to be judged, the list has over 32 ports, the packet
-       enters by none of them, or a port's fields are such as no reading gives (rule 12.4); of structures to be laid out, there are none or
-       over 960, an ID is 0000h, a version over 15, or a length outside 4 to 3,840 (rule 13.1), and where they are to be written, also where
-       the space isn't 4,096 bytes; at thawribbon_layout_lay, also where buffers overlap */
+       an initialiser leaves out is 0), the two functions of a board have one number, where all else is looked at for both (rule 14.1), a
+       record is asked for where none may stand (rule 2.2); at thawribbon_board_serve and thawribbon_pair_serve, also where buffers overlap;
+       at a router, a list has over 32 ports, a port's secondary bus is over its subordinate bus, or two ranges of buses meet (rule 10.2); at
+       thawribbon_ports_route, also where what leaves overlaps the ports or the packet; of a request to be written, its kind is none of the
+       six, its device is over 31, its function over 7, its offset over FFCh or not a multiple of 4, or its enables over 15; at
+       thawribbon_board_ask and thawribbon_pair_ask, also where what is heard overlaps the board; of an address to be judged, the list has
+       over 32 ports, the packet enters by none of them, or a port's fields are such as no reading gives (rule 12.4); of structures to be
+       laid out, there are none or over 960, an ID is 0000h, a version over 15, or a length outside 4 to 3,840 (rule 13.1), and where they
+       are to be written, also where the space isn't 4,096 bytes; at thawribbon_layout_lay, also where buffers overlap */
     THAWRIBBON_BAD_DESCRIPTION = 1,
     /* the reply is under 16 bytes, the list room is under the list's maximum, the buffer for what leaves is under 20 bytes, the buffer for a
        request is shorter than the request, or the room for a layout has fewer numbers than there are structures */
@@ -162,6 +168,8 @@ enum thawribbon_number {
  * - a trusted request while nothing is captured
  * - a trusted request that does not name the captured bus and device and the board's own function
  * - a poisoned write
+ * At a board of two functions these hold for the function that the request names. A Type 1 request, and a request that names neither
+ * function, get it with the primary's completer ID (rule 14.4).
  */
 #define THAWRIBBON_STATUS 6
 #define THAWRIBBON_STATUS_SUCCESSFUL 0x00
@@ -213,6 +221,32 @@ typedef struct thawribbon_served {
     uint8_t number;             /* 0 to 6 */
     thawribbon_capture capture; /* what to keep for the next packet */
 } thawribbon_served;
+
+/*
+ * One of the two functions of a board, the primary or the alternate: what stays of it while the board runs. The edition is the board's.
+ *
+ * Name all three members. One that an initialiser leaves out is 0: A or B is then answered 1, and so is a function number that is that of
+ * the other.
+ */
+typedef struct thawribbon_function {
+    uint8_t function; /* its number, 0 to 7, and another than that of the other function */
+    uint32_t a;       /* the ordinary place of its Device Correlation word: a multiple of 4 from 104h to FFCh */
+    uint32_t b;       /* its trusted place: a multiple of 4 from 00Ch to FFCh */
+} thawribbon_function;
+
+/* What each of two functions has captured, for itself. The caller keeps it between packets. Those of a fresh board are
+ * {THAWRIBBON_FRESH, THAWRIBBON_FRESH}. */
+typedef struct thawribbon_captures {
+    thawribbon_capture primary;
+    thawribbon_capture alternate;
+} thawribbon_captures;
+
+/* The answer of a board of two functions to a packet. */
+typedef struct thawribbon_pair_served {
+    size_t length;            /* how many bytes of the reply are written: 12 or 16, or 0 where refused */
+    uint8_t number;           /* 0 to 6 */
+    thawribbon_captures kept; /* what to keep for the next packet */
+} thawribbon_pair_served;
 
 /* The answer of a walk. */
 typedef struct thawribbon_walked {
@@ -397,6 +431,50 @@ THAWRIBBON_MUST_USE thawribbon_served thawribbon_serve(thawribbon_description de
  * Takes any capture, also one with a device over 31, and gives {0, 0, 0}. No byte of a space changes: none is lent.
  */
 THAWRIBBON_MUST_USE thawribbon_capture thawribbon_reset(thawribbon_capture kept);
+
+/*
+ * Answers a packet that a board of two functions receives. The function that the packet names in byte 9 does the access and writes the
+ * completion, as thawribbon_serve does it for a board that has that function alone, and the other stays as it is (rule 14.3).
+ *
+ * Takes the board's edition, what stays of the primary and of the alternate, what each has captured (kept), then of the primary and then of
+ * the alternate the two spaces, which an access may change, with the rules and the marks of each, the packet, and the reply to write into.
+ *
+ * The lowest number that applies is given (rule 14.2):
+ *   0  served. `length` bytes of the reply are the completion, and those past them stay as lent. It has the completer ID of the function
+ *      that is named; its byte 6 is 00h where the access was done, and 20h where it is an Unsupported Request: then nothing but the reply
+ *      has changed. A Type 1 request, whatever it names, and a request that names neither function are Unsupported Requests with the
+ *      primary's completer ID (rule 14.4). `kept` is to be kept for the next packet, of each function {0, 0, 0} while it has captured
+ *      nothing, else {1, bus, device}: only the one that is named may have captured something new.
+ *   1  the two function numbers are equal, or what is lent for either function, also the one that is not named, is such as thawribbon_serve
+ *      answers 1 to (rule 14.1). All rules and marks of both are looked at for every packet.
+ *   2  the reply is under 16 bytes, also where 12 would be written.
+ *   3, 4, 5, 6  the packet is such as thawribbon_serve gives this number to, whatever its byte 9 names.
+ * Any number but 0 leaves the four spaces and the reply unchanged, and gives length 0 and `kept` back, byte for byte. Rules, marks and
+ * packet are only read.
+ */
+THAWRIBBON_MUST_USE thawribbon_pair_served
+thawribbon_serve_pair(uint32_t edition, thawribbon_function primary, thawribbon_function alternate, thawribbon_captures kept,
+                      uint8_t *primary_ordinary, size_t primary_ordinary_length,
+                      const uint8_t *primary_ordinary_rules, size_t primary_ordinary_rules_length,
+                      const uint8_t *primary_ordinary_marks, size_t primary_ordinary_marks_length,
+                      uint8_t *primary_trusted, size_t primary_trusted_length,
+                      const uint8_t *primary_trusted_rules, size_t primary_trusted_rules_length,
+                      const uint8_t *primary_trusted_marks, size_t primary_trusted_marks_length,
+                      uint8_t *alternate_ordinary, size_t alternate_ordinary_length,
+                      const uint8_t *alternate_ordinary_rules, size_t alternate_ordinary_rules_length,
+                      const uint8_t *alternate_ordinary_marks, size_t alternate_ordinary_marks_length,
+                      uint8_t *alternate_trusted, size_t alternate_trusted_length,
+                      const uint8_t *alternate_trusted_rules, size_t alternate_trusted_rules_length,
+                      const uint8_t *alternate_trusted_marks, size_t alternate_trusted_marks_length,
+                      const uint8_t *packet, size_t packet_length,
+                      uint8_t *reply, size_t reply_length);
+
+/*
+ * Resets a board of two functions: forgets what both have captured (rule 14.5).
+ *
+ * Takes any captures, also one with a device over 31, and gives {0, 0, 0} for each. No byte of a space changes: none is lent.
+ */
+THAWRIBBON_MUST_USE thawribbon_captures thawribbon_reset_pair(thawribbon_captures kept);
 
 /*
  * Walks the compatible list of a space: it starts at byte 34h, and is empty if byte 06h bit 4 is 0.
@@ -660,13 +738,42 @@ THAWRIBBON_MUST_USE static inline thawribbon_capture thawribbon_fresh(void)
     return nothing;
 }
 
-/* What became of a packet, by what thawribbon_serve gave and the reply that it was lent. Only status 00h says that it was done. */
-THAWRIBBON_MUST_USE static inline thawribbon_outcome thawribbon_outcome_of(thawribbon_served served, const uint8_t *reply)
+/* What became of a packet, by its number and the reply that was lent. */
+static inline thawribbon_outcome thawribbon_outcome_by(uint8_t number, const uint8_t *reply)
 {
-    if (served.number != THAWRIBBON_SERVED) {
+    if (number != THAWRIBBON_SERVED) {
         return THAWRIBBON_REFUSED;
     }
     return reply[THAWRIBBON_STATUS] == THAWRIBBON_STATUS_SUCCESSFUL ? THAWRIBBON_DONE : THAWRIBBON_UNSUPPORTED_REQUEST;
+}
+
+/* What became of a packet, by what thawribbon_serve gave and the reply that it was lent. Only status 00h says that it was done. */
+THAWRIBBON_MUST_USE static inline thawribbon_outcome thawribbon_outcome_of(thawribbon_served served, const uint8_t *reply)
+{
+    return thawribbon_outcome_by(served.number, reply);
+}
+
+/* The same, by what thawribbon_serve_pair gave. */
+THAWRIBBON_MUST_USE static inline thawribbon_outcome thawribbon_pair_outcome_of(thawribbon_pair_served served, const uint8_t *reply)
+{
+    return thawribbon_outcome_by(served.number, reply);
+}
+
+/* An answer before its packet is served: FFh in the place of a completion. */
+static inline thawribbon_answer thawribbon_answer_none(void)
+{
+    const thawribbon_answer none = {THAWRIBBON_REFUSED, 0, 0,
+                                    {0xFF, 0xFF, 0xFF, 0xFF, 0xFF, 0xFF, 0xFF, 0xFF, 0xFF, 0xFF, 0xFF, 0xFF, 0xFF, 0xFF, 0xFF, 0xFF}};
+    return none;
+}
+
+/* Says in an answer what became of its packet, by the number and the length of the completion, which it has already. */
+static inline thawribbon_outcome thawribbon_answer_by(thawribbon_answer *answer, uint8_t number, size_t length)
+{
+    answer->number = number;
+    answer->length = length;
+    answer->outcome = thawribbon_outcome_by(number, answer->completion);
+    return answer->outcome;
 }
 
 /* A board's buffers on their way to thawribbon_serve: those that are written, those that are read, and how long they are. */
@@ -704,26 +811,42 @@ static inline int thawribbon_overlap_space(const void *one, size_t one_length, t
     return thawribbon_overlap(one, one_length, space.bytes, THAWRIBBON_SPACE) | thawribbon_overlap_read(one, one_length, space);
 }
 
+/* Whether a buffer overlaps either of two spaces, or their rules or marks. */
+static inline int thawribbon_overlap_spaces(const void *one, size_t one_length, thawribbon_space ordinary, thawribbon_space trusted)
+{
+    return thawribbon_overlap_space(one, one_length, ordinary) | thawribbon_overlap_space(one, one_length, trusted);
+}
+
+/* Whether either of two spaces overlaps the other, or the rules or marks of either. */
+static inline int thawribbon_overlap_within(thawribbon_space ordinary, thawribbon_space trusted)
+{
+    return thawribbon_overlap_read(ordinary.bytes, THAWRIBBON_SPACE, ordinary) |
+           thawribbon_overlap_read(trusted.bytes, THAWRIBBON_SPACE, ordinary) |
+           thawribbon_overlap_read(trusted.bytes, THAWRIBBON_SPACE, trusted) |
+           thawribbon_overlap_space(ordinary.bytes, THAWRIBBON_SPACE, trusted);
+}
+
+/* Whether a packet, of a byte at least, overlaps either of two spaces. */
+static inline int thawribbon_overlap_packet(const uint8_t *packet, size_t packet_length,
+                                            thawribbon_space ordinary, thawribbon_space trusted)
+{
+    return thawribbon_overlap(packet, packet_length, ordinary.bytes, THAWRIBBON_SPACE) |
+           thawribbon_overlap(packet, packet_length, trusted.bytes, THAWRIBBON_SPACE);
+}
+
 /* Whether what thawribbon_board_serve writes (spaces, board, answer) overlaps anything that it is lent: twenty-six comparisons. NULL counts
  * as 4,096 bytes here, which changes nothing: it is answered 1 in any case. */
 static inline int thawribbon_board_overlaps(const thawribbon_board *board, const uint8_t *packet, size_t packet_length,
                                             const thawribbon_answer *answer)
 {
     const thawribbon_space ordinary = board->ordinary, trusted = board->trusted;
-    const int spaces = thawribbon_overlap_read(ordinary.bytes, THAWRIBBON_SPACE, ordinary) |
-                       thawribbon_overlap_read(trusted.bytes, THAWRIBBON_SPACE, ordinary) |
-                       thawribbon_overlap_read(trusted.bytes, THAWRIBBON_SPACE, trusted) |
-                       thawribbon_overlap_space(ordinary.bytes, THAWRIBBON_SPACE, trusted);
-    const int structs = thawribbon_overlap_space(board, sizeof *board, ordinary) |
-                        thawribbon_overlap_space(board, sizeof *board, trusted) |
-                        thawribbon_overlap_space(answer, sizeof *answer, ordinary) |
-                        thawribbon_overlap_space(answer, sizeof *answer, trusted) |
+    const int structs = thawribbon_overlap_spaces(board, sizeof *board, ordinary, trusted) |
+                        thawribbon_overlap_spaces(answer, sizeof *answer, ordinary, trusted) |
                         thawribbon_overlap(board, sizeof *board, answer, sizeof *answer);
-    const int packets = packet_length != 0 && (thawribbon_overlap(packet, packet_length, ordinary.bytes, THAWRIBBON_SPACE) |
-                                               thawribbon_overlap(packet, packet_length, trusted.bytes, THAWRIBBON_SPACE) |
+    const int packets = packet_length != 0 && (thawribbon_overlap_packet(packet, packet_length, ordinary, trusted) |
                                                thawribbon_overlap(packet, packet_length, board, sizeof *board) |
                                                thawribbon_overlap(packet, packet_length, answer, sizeof *answer));
-    return spaces | structs | packets;
+    return thawribbon_overlap_within(ordinary, trusted) | structs | packets;
 }
 
 /*
@@ -741,14 +864,12 @@ THAWRIBBON_MUST_USE static inline thawribbon_outcome thawribbon_board_serve(thaw
                                                                             thawribbon_answer *answer)
 {
     const thawribbon_space nothing = {NULL, NULL, NULL};
-    const thawribbon_answer none = {THAWRIBBON_REFUSED, 0, 0,
-                                    {0xFF, 0xFF, 0xFF, 0xFF, 0xFF, 0xFF, 0xFF, 0xFF, 0xFF, 0xFF, 0xFF, 0xFF, 0xFF, 0xFF, 0xFF, 0xFF}};
     const int overlaps = thawribbon_board_overlaps(board, packet, packet_length, answer);
     const thawribbon_space ordinary = overlaps ? nothing : board->ordinary, trusted = overlaps ? nothing : board->trusted;
     const thawribbon_description description = board->description;
     const thawribbon_capture kept = board->capture;
     thawribbon_served served;
-    *answer = none; /* from here on the board may be overwritten, where they overlap */
+    *answer = thawribbon_answer_none(); /* from here on the board may be overwritten, where they overlap */
     served = thawribbon_serve(description, kept,
                               thawribbon_bytes_written(ordinary.bytes), thawribbon_bytes_length(ordinary.bytes),
                               thawribbon_bytes_read(ordinary.rules), thawribbon_bytes_length(ordinary.rules),
@@ -760,16 +881,179 @@ THAWRIBBON_MUST_USE static inline thawribbon_outcome thawribbon_board_serve(thaw
     if (!overlaps) {
         board->capture = served.capture;
     }
-    answer->number = served.number;
-    answer->length = served.length;
-    answer->outcome = thawribbon_outcome_of(served, answer->completion);
-    return answer->outcome;
+    return thawribbon_answer_by(answer, served.number, served.length);
 }
 
 /* Resets a board: forgets what it has captured, and changes no byte. */
 static inline void thawribbon_board_reset(thawribbon_board *board)
 {
     board->capture = thawribbon_reset(board->capture);
+}
+
+/* One of the two functions of a board: what stays of it, what it has captured, and its two spaces. */
+typedef struct thawribbon_side {
+    thawribbon_function description;
+    thawribbon_capture capture;
+    thawribbon_space ordinary;
+    thawribbon_space trusted;
+} thawribbon_side;
+
+/*
+ * A board of two functions with different numbers behind one device, which keeps what each captures. Every member may be read and set
+ * between packets. Without an edition, or with one number twice, it answers 1 to every packet. In C, with each member's name:
+ *   static thawribbon_bytes ordinary[2], trusted[2], rules;
+ *   static thawribbon_pair pair = {
+ *       .edition = THAWRIBBON_EDITION_1,
+ *       .primary = {
+ *           .description = {.function = 0, .a = 0x104, .b = 0x00C},
+ *           .capture = THAWRIBBON_FRESH,
+ *           .ordinary = {.bytes = &ordinary[0], .rules = &rules, .marks = &thawribbon_no_marks},
+ *           .trusted = {.bytes = &trusted[0], .rules = &rules, .marks = &thawribbon_no_marks},
+ *       },
+ *       .alternate = {
+ *           .description = {.function = 1, .a = 0x104, .b = 0x00C},
+ *           .capture = THAWRIBBON_FRESH,
+ *           .ordinary = {.bytes = &ordinary[1], .rules = &rules, .marks = &thawribbon_no_marks},
+ *           .trusted = {.bytes = &trusted[1], .rules = &rules, .marks = &thawribbon_no_marks},
+ *       },
+ *   };
+ */
+typedef struct thawribbon_pair {
+    uint32_t edition; /* of byte 0, for both: THAWRIBBON_EDITION_1 or THAWRIBBON_EDITION_2 */
+    thawribbon_side primary;
+    thawribbon_side alternate;
+} thawribbon_pair;
+
+/* Whether a space of one function overlaps a space of the other, or rules or marks of it. */
+static inline int thawribbon_overlap_sides(const thawribbon_side *one, const thawribbon_side *other)
+{
+    return thawribbon_overlap_spaces(one->ordinary.bytes, THAWRIBBON_SPACE, other->ordinary, other->trusted) |
+           thawribbon_overlap_spaces(one->trusted.bytes, THAWRIBBON_SPACE, other->ordinary, other->trusted) |
+           thawribbon_overlap_read(other->ordinary.bytes, THAWRIBBON_SPACE, one->ordinary) |
+           thawribbon_overlap_read(other->ordinary.bytes, THAWRIBBON_SPACE, one->trusted) |
+           thawribbon_overlap_read(other->trusted.bytes, THAWRIBBON_SPACE, one->ordinary) |
+           thawribbon_overlap_read(other->trusted.bytes, THAWRIBBON_SPACE, one->trusted);
+}
+
+/* Whether a buffer overlaps a space, rules or marks of either function. */
+static inline int thawribbon_overlap_pair(const void *one, size_t one_length, const thawribbon_pair *pair)
+{
+    return thawribbon_overlap_spaces(one, one_length, pair->primary.ordinary, pair->primary.trusted) |
+           thawribbon_overlap_spaces(one, one_length, pair->alternate.ordinary, pair->alternate.trusted);
+}
+
+/* Whether what thawribbon_pair_serve writes (four spaces, pair, answer) overlaps anything that it is lent: sixty-nine comparisons. NULL
+ * counts as 4,096 bytes here too. */
+static inline int thawribbon_pair_overlaps(const thawribbon_pair *pair, const uint8_t *packet, size_t packet_length,
+                                           const thawribbon_answer *answer)
+{
+    const thawribbon_side *primary = &pair->primary, *alternate = &pair->alternate;
+    const int spaces = thawribbon_overlap_within(primary->ordinary, primary->trusted) |
+                       thawribbon_overlap_within(alternate->ordinary, alternate->trusted) |
+                       thawribbon_overlap_sides(primary, alternate);
+    const int structs = thawribbon_overlap_pair(pair, sizeof *pair, pair) |
+                        thawribbon_overlap_pair(answer, sizeof *answer, pair) |
+                        thawribbon_overlap(pair, sizeof *pair, answer, sizeof *answer);
+    const int packets = packet_length != 0 &&
+                        (thawribbon_overlap_packet(packet, packet_length, primary->ordinary, primary->trusted) |
+                         thawribbon_overlap_packet(packet, packet_length, alternate->ordinary, alternate->trusted) |
+                         thawribbon_overlap(packet, packet_length, pair, sizeof *pair) |
+                         thawribbon_overlap(packet, packet_length, answer, sizeof *answer));
+    return spaces | structs | packets;
+}
+
+/*
+ * Has a board of two functions answer a packet, and keeps what each captures: thawribbon_serve_pair over a pair.
+ *
+ * Gives what became of the packet, and sets every member of the answer, as thawribbon_board_serve does. Only THAWRIBBON_DONE means that the
+ * access was done. The pair and the answer are not NULL.
+ *
+ * Where a space, the pair or the answer overlaps another buffer, also one of the other function, the number is 1, and nothing is written
+ * but the answer.
+ */
+THAWRIBBON_MUST_USE static inline thawribbon_outcome thawribbon_pair_serve(thawribbon_pair *pair,
+                                                                           const uint8_t *packet, size_t packet_length,
+                                                                           thawribbon_answer *answer)
+{
+    const int overlaps = thawribbon_pair_overlaps(pair, packet, packet_length, answer);
+    const thawribbon_side primary = pair->primary, alternate = pair->alternate;
+    const thawribbon_captures kept = {primary.capture, alternate.capture};
+    thawribbon_pair_served served;
+    *answer = thawribbon_answer_none(); /* from here on pair or packet may be overwritten, where they overlap */
+    if (overlaps) {
+        return thawribbon_answer_by(answer, THAWRIBBON_BAD_DESCRIPTION, 0);
+    }
+    served = thawribbon_serve_pair(pair->edition, primary.description, alternate.description, kept,
+                                   thawribbon_bytes_written(primary.ordinary.bytes), thawribbon_bytes_length(primary.ordinary.bytes),
+                                   thawribbon_bytes_read(primary.ordinary.rules), thawribbon_bytes_length(primary.ordinary.rules),
+                                   thawribbon_bytes_read(primary.ordinary.marks), thawribbon_bytes_length(primary.ordinary.marks),
+                                   thawribbon_bytes_written(primary.trusted.bytes), thawribbon_bytes_length(primary.trusted.bytes),
+                                   thawribbon_bytes_read(primary.trusted.rules), thawribbon_bytes_length(primary.trusted.rules),
+                                   thawribbon_bytes_read(primary.trusted.marks), thawribbon_bytes_length(primary.trusted.marks),
+                                   thawribbon_bytes_written(alternate.ordinary.bytes), thawribbon_bytes_length(alternate.ordinary.bytes),
+                                   thawribbon_bytes_read(alternate.ordinary.rules), thawribbon_bytes_length(alternate.ordinary.rules),
+                                   thawribbon_bytes_read(alternate.ordinary.marks), thawribbon_bytes_length(alternate.ordinary.marks),
+                                   thawribbon_bytes_written(alternate.trusted.bytes), thawribbon_bytes_length(alternate.trusted.bytes),
+                                   thawribbon_bytes_read(alternate.trusted.rules), thawribbon_bytes_length(alternate.trusted.rules),
+                                   thawribbon_bytes_read(alternate.trusted.marks), thawribbon_bytes_length(alternate.trusted.marks),
+                                   packet, packet_length, answer->completion, sizeof answer->completion);
+    pair->primary.capture = served.kept.primary;
+    pair->alternate.capture = served.kept.alternate;
+    return thawribbon_answer_by(answer, served.number, served.length);
+}
+
+/* Resets a board of two functions: forgets what both have captured, and changes no byte. */
+static inline void thawribbon_pair_reset(thawribbon_pair *pair)
+{
+    const thawribbon_captures kept = {pair->primary.capture, pair->alternate.capture};
+    const thawribbon_captures after = thawribbon_reset_pair(kept);
+    pair->primary.capture = after.primary;
+    pair->alternate.capture = after.alternate;
+}
+
+/* Whether a Dual-BDF record of a board names the board's alternate. */
+typedef enum thawribbon_named {
+    /* it does: by its function, and by the device of whatever the two functions have captured, one of them at least */
+    THAWRIBBON_NAMED_ALTERNATE = 0,
+    /* it has the alternate's function. Neither function has captured a device, so nothing says whether the record's is this board's */
+    THAWRIBBON_NAMED_UNCAPTURED = 1,
+    /* it does not: it has another function, or another device than one of the two functions has captured */
+    THAWRIBBON_NAMED_OTHER = 2,
+    /* there is no such record, and the number says why */
+    THAWRIBBON_NAMED_REFUSED = 3
+} thawribbon_named;
+
+/* Whether a function has captured another device than this one. */
+static inline int thawribbon_captured_other(thawribbon_capture capture, uint8_t device)
+{
+    return capture.captured != 0 && capture.device != device;
+}
+
+/*
+ * Reads the Dual-BDF record at an offset of the primary's ordinary space, by thawribbon_dual_bdf, and says whether it names the alternate of
+ * this board.
+ *
+ * Sets every member of `record` to what thawribbon_dual_bdf gives. Only THAWRIBBON_NAMED_ALTERNATE means that function and device of the
+ * record are those of this board's alternate. The device of a record is that of both functions, and a board knows its device only by what
+ * it has captured: so it is compared with each capture that there is, and THAWRIBBON_NAMED_UNCAPTURED says that there is none. With
+ * THAWRIBBON_NAMED_REFUSED, record->number says why: 1, also where the space is NULL, 8, 9 or 10. The offset may be any number. The pair,
+ * which is only read, and `record` are not NULL.
+ */
+THAWRIBBON_MUST_USE static inline thawribbon_named thawribbon_pair_dual_bdf(const thawribbon_pair *pair, size_t at,
+                                                                            thawribbon_alternate *record)
+{
+    const thawribbon_bytes *space = pair->primary.ordinary.bytes;
+    *record = thawribbon_dual_bdf(thawribbon_bytes_read(space), thawribbon_bytes_length(space), at);
+    if (record->number != THAWRIBBON_SERVED) {
+        return THAWRIBBON_NAMED_REFUSED;
+    }
+    if (record->function != pair->alternate.description.function ||
+        thawribbon_captured_other(pair->primary.capture, record->device) ||
+        thawribbon_captured_other(pair->alternate.capture, record->device)) {
+        return THAWRIBBON_NAMED_OTHER;
+    }
+    return pair->primary.capture.captured != 0 || pair->alternate.capture.captured != 0 ? THAWRIBBON_NAMED_ALTERNATE
+                                                                                         : THAWRIBBON_NAMED_UNCAPTURED;
 }
 
 /* The four bytes that a read gave; NULL where the answer has none: a write, an Unsupported Request, a refusal. */
@@ -787,7 +1071,7 @@ THAWRIBBON_MUST_USE static inline const char *thawribbon_text(unsigned number)
     case THAWRIBBON_BAD_DESCRIPTION:
         return "a space, rules or marks of 4,096 bytes are not lent, a bit is in both the rules and the marks of a space, "
                "a captured device is over 31, a function number or A or B is outside its range, the edition is neither 1 nor 2, "
-               "a record is asked for where none may stand, "
+               "the two functions of a board have one number, a record is asked for where none may stand, "
                "a list has over 32 ports, a secondary bus over its subordinate bus, or two ranges that meet, "
                "a packet enters by no port of the list, a port's Multicast fields are such as no reading gives, "
                "what leaves overlaps the ports or the packet, what is heard overlaps the board, "
@@ -838,6 +1122,22 @@ THAWRIBBON_MUST_USE static inline const char *thawribbon_answer_text(const thawr
         return thawribbon_text(answer->number);
     }
     return answer->outcome == THAWRIBBON_DONE ? "the access was done" : "Unsupported Request: the access was not done";
+}
+
+/* Whether a Dual-BDF record names a board's alternate, in words. */
+THAWRIBBON_MUST_USE static inline const char *thawribbon_named_text(thawribbon_named named, const thawribbon_alternate *record)
+{
+    switch (named) {
+    case THAWRIBBON_NAMED_ALTERNATE:
+        return "the record names the board's alternate";
+    case THAWRIBBON_NAMED_UNCAPTURED:
+        return "the record has the alternate's function, and neither function has captured a device to compare with its own";
+    case THAWRIBBON_NAMED_OTHER:
+        return "the record has another function than the alternate's, or another device than was captured";
+    case THAWRIBBON_NAMED_REFUSED:
+    default:
+        return thawribbon_text(record->number);
+    }
 }
 
 /* What a router says of a packet. */
@@ -996,8 +1296,7 @@ static inline thawribbon_asked thawribbon_hear_nothing(uint8_t number, thawribbo
 static inline int thawribbon_heard_overlaps(const thawribbon_board *board, const thawribbon_heard *heard)
 {
     return thawribbon_overlap(board, sizeof *board, heard, sizeof *heard) |
-           thawribbon_overlap_space(heard, sizeof *heard, board->ordinary) |
-           thawribbon_overlap_space(heard, sizeof *heard, board->trusted);
+           thawribbon_overlap_spaces(heard, sizeof *heard, board->ordinary, board->trusted);
 }
 
 /*
@@ -1023,6 +1322,31 @@ THAWRIBBON_MUST_USE static inline thawribbon_asked thawribbon_board_ask(thawribb
         return thawribbon_hear_nothing(THAWRIBBON_BAD_DESCRIPTION, heard);
     }
     if (thawribbon_board_serve(board, request, written.length, &answer) == THAWRIBBON_REFUSED) {
+        return thawribbon_hear_nothing(answer.number, heard);
+    }
+    return thawribbon_hear(parts, answer.completion, answer.length, heard);
+}
+
+/*
+ * Asks a board of two functions, as thawribbon_board_ask asks one of one: thawribbon_write_request, thawribbon_pair_serve and
+ * thawribbon_hear, in this order. The parts name the function that is asked.
+ *
+ * Where `heard` overlaps the pair, a space, rules or marks of either function, or the pair's buffers overlap each other, the number is 1,
+ * and nothing is written but `heard`.
+ */
+THAWRIBBON_MUST_USE static inline thawribbon_asked thawribbon_pair_ask(thawribbon_pair *pair, thawribbon_parts parts,
+                                                                       thawribbon_heard *heard)
+{
+    uint8_t request[THAWRIBBON_REQUEST];
+    thawribbon_answer answer;
+    const thawribbon_written written = thawribbon_write_request(parts, request, sizeof request);
+    if (written.number != THAWRIBBON_SERVED) {
+        return thawribbon_hear_nothing(written.number, heard);
+    }
+    if (thawribbon_overlap(pair, sizeof *pair, heard, sizeof *heard) | thawribbon_overlap_pair(heard, sizeof *heard, pair)) {
+        return thawribbon_hear_nothing(THAWRIBBON_BAD_DESCRIPTION, heard);
+    }
+    if (thawribbon_pair_serve(pair, request, written.length, &answer) == THAWRIBBON_REFUSED) {
         return thawribbon_hear_nothing(answer.number, heard);
     }
     return thawribbon_hear(parts, answer.completion, answer.length, heard);

@@ -6,6 +6,8 @@ void drop_routed(const thawribbon_port *ports, thawribbon_leaving *leaving, cons
 void drop_asked(thawribbon_board *board, thawribbon_parts parts, thawribbon_heard *heard, const uint8_t *bytes, uint8_t *buffer);
 void drop_judged(thawribbon_offload *offload, thawribbon_judged judged, const uint8_t *bytes, const thawribbon_capability *capabilities);
 void drop_laid(thawribbon_bytes *space, thawribbon_layout *layout, const thawribbon_structure *structures);
+void drop_pair(thawribbon_pair *pair, thawribbon_answer *answer, const uint8_t *bytes, uint8_t *reply);
+void drop_pair_asked(thawribbon_pair *pair, thawribbon_parts parts, thawribbon_heard *heard, thawribbon_alternate *record);
 
 void drop(thawribbon_board *board, thawribbon_answer *answer, const uint8_t *bytes, uint8_t *reply, uint16_t *room)
 {
@@ -69,4 +71,24 @@ void drop_laid(thawribbon_bytes *space, thawribbon_layout *layout, const thawrib
     thawribbon_check_layout(structures, 1, layout->offsets, 1);                                                          /* dropped */
     thawribbon_write_layout(structures, 1, layout->offsets, 1, space->at, sizeof space->at);                             /* dropped */
     thawribbon_structure_of(0x0023, 1, 8);                                                                               /* dropped */
+}
+
+void drop_pair(thawribbon_pair *pair, thawribbon_answer *answer, const uint8_t *bytes, uint8_t *reply)
+{
+    const thawribbon_function function = {0, 0x104, 0x00C};
+    const thawribbon_captures kept = {THAWRIBBON_FRESH, THAWRIBBON_FRESH};
+    const thawribbon_pair_served served = {12, 0, {THAWRIBBON_FRESH, THAWRIBBON_FRESH}};
+    thawribbon_pair_serve(pair, bytes, 16, answer);                                                                      /* dropped */
+    thawribbon_serve_pair(1, function, function, kept, reply, 1, bytes, 1, bytes, 1, reply, 1, bytes, 1, bytes, 1, reply, 1, bytes, 1, bytes, 1,
+                          reply, 1, bytes, 1, bytes, 1, bytes, 1, reply, 1); /* dropped */
+    thawribbon_reset_pair(kept);                                                                                         /* dropped */
+    thawribbon_pair_outcome_of(served, reply);                                                                           /* dropped */
+    thawribbon_pair_reset(pair);
+}
+
+void drop_pair_asked(thawribbon_pair *pair, thawribbon_parts parts, thawribbon_heard *heard, thawribbon_alternate *record)
+{
+    thawribbon_pair_ask(pair, parts, heard);                                                                             /* dropped */
+    thawribbon_pair_dual_bdf(pair, 0x040, record);                                                                       /* dropped */
+    thawribbon_named_text(THAWRIBBON_NAMED_ALTERNATE, record);                                                           /* dropped */
 }
