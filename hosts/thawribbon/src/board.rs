@@ -35,7 +35,8 @@ pub struct Capture {
 
 /// A space of a board with its rules and its marks, all lent.
 ///
-/// They are tested by [`Board::serve`]. Rules and marks are only read, so both spaces may have the same ones.
+/// They are tested by [`Board::serve`] and [`Pair::serve`](crate::Pair::serve). Rules and marks are only read, so any number
+/// of spaces may have the same ones.
 pub struct Space<'a> {
     /// The space, 4,096 bytes.
     pub bytes: &'a mut [u8],
@@ -58,7 +59,8 @@ impl fmt::Debug for Space<'_> {
     }
 }
 
-/// A board over lent buffers. It stays between packets, so that what one packet captures is there for the next.
+/// A board over lent buffers. It stays between packets, so that what one packet captures is there for the next. A board of two
+/// functions is a [`Pair`](crate::Pair).
 ///
 /// Every field may be read and set between packets.
 #[derive(Debug)]
@@ -229,7 +231,7 @@ fn described(description: Description) -> raw::Description {
 
 /// A capture as the linked functions take it.
 #[inline]
-fn linked(capture: Option<Capture>) -> raw::Capture {
+pub(crate) fn linked(capture: Option<Capture>) -> raw::Capture {
     match capture {
         None => raw::Capture {
             captured: 0,
@@ -246,7 +248,7 @@ fn linked(capture: Option<Capture>) -> raw::Capture {
 
 /// A capture as the linked functions give it.
 #[inline]
-fn kept(capture: raw::Capture) -> Option<Capture> {
+pub(crate) fn kept(capture: raw::Capture) -> Option<Capture> {
     (capture.captured != 0).then_some(Capture {
         bus: capture.bus,
         device: capture.device,

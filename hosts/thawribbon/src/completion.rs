@@ -166,7 +166,8 @@ impl Completion {
         self.bytes()[DATA..].try_into().ok()
     }
 
-    /// Who answers: the captured bus and device, which are 0 while none is captured, and the board's function.
+    /// Who answers: the captured bus and device, which are 0 while none is captured, and the board's function, or that of its
+    /// two which answers.
     #[must_use]
     #[inline]
     pub fn completer(&self) -> Id {

@@ -1,15 +1,17 @@
-//! A board's answers to configuration packets, the three capability lists, two records, a switch's router, the asking side,
-//! a switch's multicast, and the extended list of a new board, by the proved code of libthawribbon.a.
+//! The answers of a board, of one function or of two, to configuration packets, the three capability lists, two records, a
+//! switch's router, the asking side, a switch's multicast, and the extended list of a new board, by the proved code of
+//! libthawribbon.a.
 //!
 //! Document 01 of the project fixes what every function answers, with what document 02 corrects, and for the router, the
-//! asking side, multicast and layouts document 02; their words are used here, and the rules that hold stand in
-//! docs/RULES.md of the project.
+//! asking side, multicast, layouts and boards of two functions document 02; their words are used here, and the rules that
+//! hold stand in docs/RULES.md of the project.
 //! Any bytes, of any length, get an answer. After a [`Refusal`] no lent byte and no capture has changed.
 //!
 //! | You want to | Use |
 //! |---|---|
 //! | ask | a [`Request`], which gives the [`Packet`] to send, and reads the [`Completion`] that came for it, or says why it is [`NotAnswered`] |
 //! | have a board answer a packet | [`Board::serve`], which gives a [`Completion`] or says why it is [`NotDone`] |
+//! | have a board of two functions answer a packet | [`Pair::serve`], which gives the same; [`Pair::dual_bdf`] tells whether a record names its alternate, or why it is [`NotNamed`] |
 //! | have a switch pass a packet on | [`route`], which gives what is [`Leaving`], or says why it is [`NotRouted`] |
 //! | know by which ports a multicast packet leaves a switch | [`Groups::read`] for each port, and [`judge`], which gives what is [`Judged`] |
 //! | lay out the extended list of a new board | [`Layout::plan`], or [`Layout::check`] for one of your own, and [`Layout::write`] |
@@ -121,6 +123,59 @@
 //! board's [`Description`] says by its [`Edition`] which it goes by: [`Edition::One`] ignores the bit, as every version
 //! before 0.10.0 did, and [`Edition::Two`] refuses a packet that has it set. Packets without it are answered alike.
 //!
+//! # Two functions behind one device
+//!
+//! A board of two functions with different numbers is a [`Pair`]. A packet goes to the function that it names, and each has
+//! spaces and a capture of its own: so a trusted write lands in the alternate only when a Type 0 write has told the alternate
+//! itself its bus and device number. `?` stops at whatever was not done, and at a record that names something else.
+//!
+//! ```
+//! use std::error::Error;
+//! use thawribbon::{Edition, Function, Id, NO_MARKS, NotAnswered, Pair, Request, SPACE, Said, Side, Space};
+//!
+//! /// The board stands for the bus: a packet goes there, and the bytes of a completion come back.
+//! fn ask(pair: &mut Pair, request: Request) -> Result<Said, NotAnswered> {
+//!     let packet = request.packet()?;
+//!     let reply = pair.serve(&packet)?;
+//!     Ok(request.answered_by(reply.bytes())?.said())
+//! }
+//!
+//! fn main() -> Result<(), Box<dyn Error>> {
+//!     let (mut ordinary, mut trusted, rules) = ([[0; SPACE]; 2], [[0; SPACE]; 2], [0xFF; SPACE]);
+//!     // The primary has a Dual-BDF record at 040h: function 1, device 3.
+//!     ordinary[0][0x040..0x04C].copy_from_slice(&[0x09, 0, 0x0C, 0, 0xC0, 0x1E, 0xC0, 0, 0x02, 0, 0x02, 0x03]);
+//!     let ([ordinary_0, ordinary_1], [trusted_0, trusted_1]) = (&mut ordinary, &mut trusted);
+//!     let mut pair = Pair {
+//!         edition: Edition::One,
+//!         primary: Side::fresh(
+//!             Function { function: 0, a: 0x104, b: 0x00C },
+//!             Space { bytes: ordinary_0, rules: &rules, marks: &NO_MARKS },
+//!             Space { bytes: trusted_0, rules: &rules, marks: &NO_MARKS },
+//!         ),
+//!         alternate: Side::fresh(
+//!             Function { function: 1, a: 0x104, b: 0x00C },
+//!             Space { bytes: ordinary_1, rules: &rules, marks: &NO_MARKS },
+//!             Space { bytes: trusted_1, rules: &rules, marks: &NO_MARKS },
+//!         ),
+//!     };
+//!     let host = [0x01, 0x00];
+//!     let primary = Id { bus: 0x05, device: 3, function: 0 };
+//!     let data = [0x11, 0x22, 0x33, 0x44];
+//!
+//!     // The primary is told its bus and device, and its record says who the alternate is.
+//!     ask(&mut pair, Request::type0_write(primary, 0x010, [0; 4]).enabling(0x0).by(host, 5))?;
+//!     let record = pair.dual_bdf(0x040)?;
+//!     let alternate = Id { bus: primary.bus, device: record.device, function: record.function };
+//!
+//!     ask(&mut pair, Request::type0_write(alternate, 0x010, [0; 4]).enabling(0x0).by(host, 6))?;
+//!     ask(&mut pair, Request::trusted_write(alternate, 0x010, data).by(host, 7))?;
+//!     let landed = ask(&mut pair, Request::trusted_read(alternate, 0x010).by(host, 8))? == Said::Data(data);
+//!     assert!(landed);
+//!     assert_eq!(pair.primary.trusted.bytes[0x010..0x014], [0; 4]);
+//!     Ok(())
+//! }
+//! ```
+//!
 //! # Who gets a radar's group
 //!
 //! The Multicast capability of each port of a switch says which groups there are at which addresses, which of them leave by
@@ -216,8 +271,9 @@
 //! # What is promised, and what is not
 //!
 //! The linked functions are compiled from proved code. This crate over them is not proved; it is tried, with every length
-//! of every slice. Nothing is kept between calls but what a [`Board`] holds, nothing but [`chain`] and [`headers`]
-//! allocates, and with the archive that `./library` writes nothing panics. Boards in different threads do not meet.
+//! of every slice. Nothing is kept between calls but what a [`Board`] or a [`Pair`] holds, nothing but [`chain`] and
+//! [`headers`] allocates, and with the archive that `./library` writes nothing panics. Boards in different threads do not
+//! meet.
 //!
 //! The archive must be of this crate's version, [`VERSION`]. The build looks for it in `target/library` of the repository,
 //! or in the folder that the environment variable `THAWRIBBON_LIBRARY` names, and ends with a line that says what to do
@@ -234,8 +290,10 @@ mod lists;
 mod multicast;
 mod not_answered;
 mod not_done;
+mod not_named;
 mod not_routed;
 mod packet;
+mod pair;
 mod port_set;
 #[allow(unsafe_code)]
 pub mod raw;
@@ -257,8 +315,10 @@ pub use lists::{Header, List, chain, headers, walk};
 pub use multicast::{Judged, judge};
 pub use not_answered::NotAnswered;
 pub use not_done::NotDone;
+pub use not_named::NotNamed;
 pub use not_routed::NotRouted;
 pub use packet::Packet;
+pub use pair::{Function, Pair, Side};
 pub use port_set::{PortPlaces, PortSet};
 pub use raw::{Groups, Port, Structure};
 pub use records::{Alternate, Dvsec, dual_bdf, dvsec, dvsec_body};

@@ -1,8 +1,8 @@
 //! The library's functions as they are, one for each, with numbers in the place of enums: what thawribbon.h says of
 //! each holds here.
 //!
-//! Of these, only [`serve`] writes into a reply that is lent, and its number 0 does not say that the access was done:
-//! byte 6 of the reply does, which is [`STATUS_SUCCESSFUL`](crate::STATUS_SUCCESSFUL) or
+//! Of these, only [`serve`] and [`serve_pair`] write into a reply that is lent, and number 0 does not say that the access was
+//! done: byte 6 of the reply does, which is [`STATUS_SUCCESSFUL`](crate::STATUS_SUCCESSFUL) or
 //! [`STATUS_UNSUPPORTED`](crate::STATUS_UNSUPPORTED). Nor does number 0 of [`route`] say that the packet leaves:
 //! [`Routed::leaves`] does; nor that of [`read_completion`] that the access was done: [`Heard::said`] does; nor that of
 //! [`judge`] that the packet leaves: [`Judged::verdict`] does. A capability that [`multicast`] refuses leaves fields of
@@ -54,6 +54,44 @@ pub struct Served {
     pub number: u8,
     /// The capture as given, where refused; else `captured` is 0 or 1, and bus and device are 0 where it is 0.
     pub capture: Capture,
+}
+
+/// One of the two functions of a board: its number, and the places of its Device Correlation word in its ordinary space (`a`)
+/// and in its trusted space (`b`). The edition is the board's.
+///
+/// The default is no function: its `a` and its `b` are 0, and each is answered 1.
+#[repr(C)]
+#[derive(Clone, Copy, Debug, Default, PartialEq, Eq)]
+pub struct Function {
+    /// The function number, 0 to 7, and another than that of the other function.
+    pub function: u8,
+    /// The ordinary place: a multiple of 4 from 104h to FFCh.
+    pub a: u32,
+    /// The trusted place: a multiple of 4 from 00Ch to FFCh.
+    pub b: u32,
+}
+
+/// What each of the two functions of a board has captured, for itself.
+#[repr(C)]
+#[derive(Clone, Copy, Debug, Default, PartialEq, Eq)]
+pub struct Captures {
+    /// What the primary has captured.
+    pub primary: Capture,
+    /// What the alternate has captured.
+    pub alternate: Capture,
+}
+
+/// The answer of a board of two functions to a packet: the number, how many bytes of the reply are written, and the captures
+/// to keep for the next packet.
+#[repr(C)]
+#[derive(Clone, Copy, Debug, Default, PartialEq, Eq)]
+pub struct PairServed {
+    /// How many bytes of the reply are written: 12 or 16, or 0 where refused.
+    pub length: usize,
+    /// 0 to 6.
+    pub number: u8,
+    /// The captures as given, where refused; else `captured` of each is 0 or 1, and bus and device are 0 where it is 0.
+    pub kept: Captures,
 }
 
 /// The answer of a walk: the number, how many offsets are listed, and where the list broke.
@@ -258,8 +296,8 @@ pub struct Structure {
 
 mod linked {
     use super::{
-        Alternate, Capture, Description, Dvsec, Groups, Heard, Judged, Part, Parts, Port, Routed, Served, Structure,
-        Walked, Written,
+        Alternate, Capture, Captures, Description, Dvsec, Function, Groups, Heard, Judged, PairServed, Part, Parts,
+        Port, Routed, Served, Structure, Walked, Written,
     };
 
     unsafe extern "C" {
@@ -284,6 +322,41 @@ mod linked {
             reply_length: usize,
         ) -> Served;
         pub(super) safe fn thawribbon_reset(kept: Capture) -> Capture;
+        pub(super) fn thawribbon_serve_pair(
+            edition: u32,
+            primary: Function,
+            alternate: Function,
+            kept: Captures,
+            primary_ordinary: *mut u8,
+            primary_ordinary_length: usize,
+            primary_ordinary_rules: *const u8,
+            primary_ordinary_rules_length: usize,
+            primary_ordinary_marks: *const u8,
+            primary_ordinary_marks_length: usize,
+            primary_trusted: *mut u8,
+            primary_trusted_length: usize,
+            primary_trusted_rules: *const u8,
+            primary_trusted_rules_length: usize,
+            primary_trusted_marks: *const u8,
+            primary_trusted_marks_length: usize,
+            alternate_ordinary: *mut u8,
+            alternate_ordinary_length: usize,
+            alternate_ordinary_rules: *const u8,
+            alternate_ordinary_rules_length: usize,
+            alternate_ordinary_marks: *const u8,
+            alternate_ordinary_marks_length: usize,
+            alternate_trusted: *mut u8,
+            alternate_trusted_length: usize,
+            alternate_trusted_rules: *const u8,
+            alternate_trusted_rules_length: usize,
+            alternate_trusted_marks: *const u8,
+            alternate_trusted_marks_length: usize,
+            packet: *const u8,
+            packet_length: usize,
+            reply: *mut u8,
+            reply_length: usize,
+        ) -> PairServed;
+        pub(super) safe fn thawribbon_reset_pair(kept: Captures) -> Captures;
         pub(super) fn thawribbon_walk_compatible(
             space: *const u8,
             space_length: usize,
@@ -413,6 +486,103 @@ pub fn serve(
 #[inline]
 pub fn reset(kept: Capture) -> Capture {
     linked::thawribbon_reset(kept)
+}
+
+/// Answers a packet at a board of two functions.
+///
+/// ```
+/// use thawribbon::raw::{Capture, Captures, Function, PairServed, serve_pair};
+/// use thawribbon::{EDITION_1, NO_MARKS};
+///
+/// let [mut one, mut two, mut three, mut four, rules] = [[0; 4096]; 5];
+/// let (primary, alternate) = (Function { function: 0, a: 0x104, b: 0x00C }, Function { function: 1, a: 0x104, b: 0x00C });
+/// let (fresh, mut reply) = (Captures::default(), [0; 16]);
+///
+/// // P2's packet for function 1: the alternate captures.
+/// let packet = [0x44, 0x00, 0x00, 0x01, 0x01, 0x00, 0x07, 0x0F, 0x05, 0x19, 0x00, 0x04, 0x11, 0x22, 0x33, 0x44];
+/// let served = serve_pair(
+///     EDITION_1, primary, alternate, fresh,
+///     &mut one, &rules, &NO_MARKS, &mut two, &rules, &NO_MARKS,
+///     &mut three, &rules, &NO_MARKS, &mut four, &rules, &NO_MARKS,
+///     &packet, &mut reply,
+/// );
+/// let kept = Captures { alternate: Capture { captured: 1, bus: 0x05, device: 3 }, ..fresh };
+/// assert_eq!(served, PairServed { length: 12, number: 0, kept });
+/// ```
+#[allow(clippy::too_many_arguments)]
+#[must_use = "it says whether the packet was served, and what the functions have captured then"]
+#[inline]
+pub fn serve_pair(
+    edition: u32,
+    primary: Function,
+    alternate: Function,
+    kept: Captures,
+    primary_ordinary: &mut [u8],
+    primary_ordinary_rules: &[u8],
+    primary_ordinary_marks: &[u8],
+    primary_trusted: &mut [u8],
+    primary_trusted_rules: &[u8],
+    primary_trusted_marks: &[u8],
+    alternate_ordinary: &mut [u8],
+    alternate_ordinary_rules: &[u8],
+    alternate_ordinary_marks: &[u8],
+    alternate_trusted: &mut [u8],
+    alternate_trusted_rules: &[u8],
+    alternate_trusted_marks: &[u8],
+    packet: &[u8],
+    reply: &mut [u8],
+) -> PairServed {
+    // SAFETY: each pointer goes with its slice's length, and a slice that is written is lent only once.
+    unsafe {
+        linked::thawribbon_serve_pair(
+            edition,
+            primary,
+            alternate,
+            kept,
+            primary_ordinary.as_mut_ptr(),
+            primary_ordinary.len(),
+            primary_ordinary_rules.as_ptr(),
+            primary_ordinary_rules.len(),
+            primary_ordinary_marks.as_ptr(),
+            primary_ordinary_marks.len(),
+            primary_trusted.as_mut_ptr(),
+            primary_trusted.len(),
+            primary_trusted_rules.as_ptr(),
+            primary_trusted_rules.len(),
+            primary_trusted_marks.as_ptr(),
+            primary_trusted_marks.len(),
+            alternate_ordinary.as_mut_ptr(),
+            alternate_ordinary.len(),
+            alternate_ordinary_rules.as_ptr(),
+            alternate_ordinary_rules.len(),
+            alternate_ordinary_marks.as_ptr(),
+            alternate_ordinary_marks.len(),
+            alternate_trusted.as_mut_ptr(),
+            alternate_trusted.len(),
+            alternate_trusted_rules.as_ptr(),
+            alternate_trusted_rules.len(),
+            alternate_trusted_marks.as_ptr(),
+            alternate_trusted_marks.len(),
+            packet.as_ptr(),
+            packet.len(),
+            reply.as_mut_ptr(),
+            reply.len(),
+        )
+    }
+}
+
+/// Forgets what the two functions of a board have captured.
+///
+/// ```
+/// use thawribbon::raw::{Capture, Captures, reset_pair};
+///
+/// let capture = Capture { captured: 1, bus: 0x05, device: 3 };
+/// assert_eq!(reset_pair(Captures { primary: capture, alternate: capture }), Captures::default());
+/// ```
+#[must_use = "the captures that are given are not changed: these are the ones to keep"]
+#[inline]
+pub fn reset_pair(kept: Captures) -> Captures {
+    linked::thawribbon_reset_pair(kept)
 }
 
 /// Lists the offsets of the compatible list.
@@ -689,6 +859,9 @@ const _: () = {
     assert!(offset_of!(Description, edition) == 12);
     assert!(size_of::<Capture>() == 3 && offset_of!(Capture, bus) == 1 && offset_of!(Capture, device) == 2);
     assert!(size_of::<Served>() == 16 && offset_of!(Served, number) == 8 && offset_of!(Served, capture) == 9);
+    assert!(size_of::<Function>() == 12 && offset_of!(Function, a) == 4 && offset_of!(Function, b) == 8);
+    assert!(size_of::<Captures>() == 6 && offset_of!(Captures, alternate) == 3);
+    assert!(size_of::<PairServed>() == 16 && offset_of!(PairServed, number) == 8 && offset_of!(PairServed, kept) == 9);
     assert!(size_of::<Walked>() == 16 && offset_of!(Walked, number) == 8 && offset_of!(Walked, place) == 10);
     assert!(size_of::<Dvsec>() == 8 && offset_of!(Dvsec, vendor) == 2);
     assert!(offset_of!(Dvsec, id) == 4 && offset_of!(Dvsec, length) == 6);

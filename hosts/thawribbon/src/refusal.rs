@@ -14,7 +14,8 @@ use std::fmt;
 pub enum Refusal {
     /// A space, its rules or its marks aren't 4,096 bytes, a bit is 1 in the rules and in the marks of a space, a captured
     /// device is over 31, a function number or A or B is outside its range, the edition is neither 1 nor 2, which only
-    /// [`raw`](crate::raw) can say, or a record is asked for where none may stand.
+    /// [`raw`](crate::raw) can say, or a record is asked for where none may stand. Of a board of two functions: any of this
+    /// is so of either, or both have one number.
     /// At a router: a list has over 32 ports, a port's secondary bus is over its subordinate bus, or two ranges of buses
     /// meet. Of a request to be written: its kind is none of the six, a device is over 31, a function over 7, its offset
     /// over FFCh or not a multiple of 4, or its enables over 15. Of an address to be judged: the list has over 32 ports, the
@@ -137,7 +138,7 @@ impl Refusal {
                 "a space, rules or marks of 4,096 bytes are not lent, a bit is in both the rules and the marks of a space, \
                  a captured device is over 31, \
                  a function number or A or B is outside its range, the edition is neither 1 nor 2, \
-                 a record is asked for where none may stand, \
+                 the two functions of a board have one number, a record is asked for where none may stand, \
                  a list has over 32 ports, a secondary bus over its subordinate bus, or two ranges that meet, \
                  a packet enters by no port of the list, a port's Multicast fields are such as no reading gives, \
                  what leaves overlaps the ports or the packet, what is heard overlaps the board, \

@@ -3,7 +3,7 @@
 
 use std::collections::BTreeMap;
 use thawribbon::raw::{Groups, judge, read_completion};
-use thawribbon::{Completion, Edition, List, NotAnswered, NotRouted, Refusal};
+use thawribbon::{Alternate, Completion, Edition, List, NotAnswered, NotNamed, NotRouted, Refusal};
 
 const HEADER: &str = include_str!("../../include/thawribbon.h");
 
@@ -161,6 +161,16 @@ fn the_texts_are_those_of_the_header() {
 fn what_has_no_port_is_said_in_the_words_of_the_header() {
     let text = format!("\"{}\"", NotRouted::Unsupported);
     assert!(HEADER.contains(&text), "{text}");
+}
+
+#[test]
+fn what_a_record_does_not_name_is_said_in_the_words_of_the_header() {
+    let record = Alternate { function: 1, device: 3 };
+    for not_named in [NotNamed::Uncaptured(record), NotNamed::Other(record)] {
+        let text = not_named.to_string();
+        let (words, _) = text.split_once(" (").expect("what the record says stands behind");
+        assert!(HEADER.contains(&format!("\"{words}\"")), "{text}");
+    }
 }
 
 /// What `raw::read_completion` gives for each is what the header names.

@@ -1,11 +1,12 @@
-//! What the tests share: buffers with guards, the board of the bench sheet, a switch, the asking side, a switch's
-//! multicast, new boards, and spaces with chains.
+//! What the tests share: buffers with guards, the board of the bench sheet, one of two functions, a switch, the asking side,
+//! a switch's multicast, new boards, and spaces with chains.
 //!
 //! Every call is followed by a look at every lent element and at the guards around it.
 #![allow(dead_code)] // each test file uses a part of this
 
 pub mod asking;
 pub mod multicast;
+pub mod pair;
 pub mod switch;
 pub mod workshop;
 

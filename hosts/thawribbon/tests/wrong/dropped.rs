@@ -3,9 +3,9 @@
 //! tests/rust.sh compiles this; it is no test of the package, and is never run. It counts the crate's functions too: each
 //! that gives something stands here. What leaves a switch, is judged, is to be sent, or is to be written may not be dropped
 //! behind a `?` either.
-use thawribbon::raw::{self, Capture, Description, Parts};
-use thawribbon::{Board, Completion, Edition, Groups, Id, Kind, Layout, Leaving, List, NotAnswered, NotDone, NotRouted};
-use thawribbon::{Packet, Port, PortSet, Refusal, Request, Space, Structure, UnknownEdition};
+use thawribbon::raw::{self, Capture, Captures, Description, Parts};
+use thawribbon::{Board, Completion, Edition, Groups, Id, Kind, Layout, Leaving, List, NotAnswered, NotDone, NotNamed, NotRouted};
+use thawribbon::{Function, Packet, Pair, Port, PortSet, Refusal, Request, Side, Space, Structure, UnknownEdition};
 use thawribbon::{chain, dual_bdf, dvsec, dvsec_body, headers, judge, route, walk};
 
 fn main() {}
@@ -109,6 +109,23 @@ pub fn drop_raw_asked(parts: Parts, buffer: &mut [u8]) {
 
 pub fn drop_board(description: thawribbon::Description, ordinary: Space, trusted: Space) {
     Board::fresh(description, ordinary, trusted); // dropped
+}
+
+pub fn drop_side(function: Function, ordinary: Space, trusted: Space) {
+    Side::fresh(function, ordinary, trusted); // dropped
+}
+
+pub fn drop_pair(pair: &mut Pair, packet: &[u8], not_named: NotNamed) {
+    pair.serve(packet); // dropped
+    pair.dual_bdf(0x040); // dropped
+    not_named.record(); // dropped
+    pair.reset();
+}
+
+pub fn drop_raw_pair(kept: Captures, space: &[u8], one: [&mut [u8]; 2], two: [&mut [u8]; 2], reply: &mut [u8]) {
+    let (function, [a, b], [c, d], s) = (raw::Function::default(), one, two, space);
+    raw::serve_pair(1, function, function, kept, a, s, s, b, s, s, c, s, s, d, s, s, s, reply); // dropped
+    raw::reset_pair(kept); // dropped
 }
 
 pub fn drop_editions(edition: Edition, unknown: UnknownEdition) {
