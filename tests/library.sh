@@ -3,7 +3,7 @@
 # the archive that the kit itself writes. Where a tool is missing, what needs it is skipped, or failed where CI is set.
 . tests/common/host_tools.bash
 page=docs/LIBRARY.md
-least=188
+least=227
 here=$(uname -m)-unknown-linux-gnu
 
 # needs ARCHIVE: what the page says the archive needs of the C library
@@ -84,6 +84,7 @@ in_cpp() {
     fi
     echo "ok with thawribbon $(cat VERSION)" >"$work/expected"
     cpp_runs board.cpp hosts/c/board.cpp "$work/expected"
+    cpp_runs pair.cpp hosts/c/pair.cpp "$work/expected"
     cpp_runs switch.cpp hosts/c/switch.cpp "$work/expected"
     cpp_runs ask.cpp hosts/c/ask.cpp "$work/expected"
     cpp_runs offload.cpp hosts/c/offload.cpp "$work/expected"
@@ -125,6 +126,18 @@ mistakes_are_seen() {
         cc "${c[@]}" -I "$built" -c hosts/c/wrong/no_edition.c -o "$work/no_edition.o"
     ends "the kit's clang sees a description without an edition, where members have no names" 1 'missing-field-initializers' \
         kit_clang c "$here" "${c[@]}" -I "$built" -c hosts/c/wrong/no_edition.c -o "$work/no_edition.o"
+    ends 'cc sees a board of two functions without an edition, where members have no names' 1 'excess elements in scalar initializer' \
+        cc "${c[@]}" -I "$built" -c hosts/c/wrong/no_pair_edition.c -o "$work/no_pair_edition.o"
+    ends "the kit's clang sees a board of two functions without an edition, where members have no names" 1 'excess elements in scalar initializer' \
+        kit_clang c "$here" "${c[@]}" -I "$built" -c hosts/c/wrong/no_pair_edition.c -o "$work/no_pair_edition.o"
+    ends 'cc sees a board of two functions served as one of one' 1 'incompatible' \
+        cc "${c[@]}" -I "$built" -c hosts/c/wrong/pair_as_board.c -o "$work/pair_as_board.o"
+    ends "the kit's clang sees a board of two functions served as one of one" 1 'incompatible' \
+        kit_clang c "$here" "${c[@]}" -I "$built" -c hosts/c/wrong/pair_as_board.c -o "$work/pair_as_board.o"
+    ends 'cc sees what a record names taken for what became of a packet' 1 'enum-compare' \
+        cc "${c[@]}" -I "$built" -c hosts/c/wrong/other_named.c -o "$work/other_named.o"
+    ends "the kit's clang sees what a record names taken for what became of a packet" 1 'enum-compare' \
+        kit_clang c "$here" "${c[@]}" -I "$built" -c hosts/c/wrong/other_named.c -o "$work/other_named.o"
     ends "cc sees what is judged taken for a router's verdict" 1 'enum-compare' \
         cc "${c[@]}" -I "$built" -c hosts/c/wrong/other_verdict.c -o "$work/other_verdict.o"
     ends "the kit's clang sees what is judged taken for a router's verdict" 1 'enum-compare' \
@@ -225,6 +238,24 @@ page_notices() {
         'not laid out: a space, rules or marks of 4,096 bytes are not lent'
     other_page_c "C program 9 of $page notices that there is no space" 9 's/&space, &layout/NULL, \&layout/' \
         'not laid out: a space, rules or marks of 4,096 bytes are not lent'
+    other_page_c "C program 10 of $page notices that it was not done" 10 \
+        's/thawribbon_pair_serve(&pair, type0_write, sizeof type0_write, &answer) != THAWRIBBON_DONE/sizeof type0_write == 0/' \
+        'not done: Unsupported Request: the access was not done'
+    other_page_c "C program 10 of $page notices that it was for neither function" 10 's/\.function = 1/.function = 2/' \
+        'not done: Unsupported Request: the access was not done'
+    other_page_c "C program 10 of $page notices that it has not landed" 10 's/\[0x010\] = 0xFF/[0x010] = 0xF0/' 'done, and not landed'
+    other_page_c "C program 10 of $page notices that the board has no edition" 10 '/\.edition = THAWRIBBON_EDITION_1/d' \
+        'not done: a space, rules or marks of 4,096 bytes are not lent'
+    other_page_c "C program 10 of $page notices that both functions have one number" 10 's/\.function = 1/.function = 0/' \
+        'the two functions of a board have one number'
+    other_page_c "C program 10 of $page notices that both functions have one space" 10 's/&ordinary\[1\]/\&ordinary[0]/' \
+        'not done: a space, rules or marks of 4,096 bytes are not lent'
+    other_page_c "C program 10 of $page notices a record with another function" 10 's/0x02, 0x03}}}/0x04, 0x03}}}/' \
+        "$(sed -n 's/.*second 02h the program would print `\(landed, but [^`]*\)`.*/\1/p' $page)"
+    other_page_c "C program 10 of $page notices a record with another device" 10 's/0x02, 0x03}}}/0x02, 0x04}}}/' \
+        'landed, but the record has another function than the alternate'
+    other_page_c "C program 10 of $page notices that there is no record" 10 's/\[0x040\] = 0x09/[0x040] = 0x08/' \
+        'landed, but this is not the structure asked for'
 }
 
 # The example at the top of the header.

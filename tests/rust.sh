@@ -5,8 +5,8 @@
 page=docs/LIBRARY.md
 sources=hosts/thawribbon/src
 # The tests and examples that there are at least.
-least_tests=208
-least_examples=54
+least_tests=235
+least_examples=61
 export CARGO_TERM_COLOR=never
 
 # passed PART: how many tests, or examples, the last run of cargo test passed; it runs the examples last
@@ -100,6 +100,14 @@ page_notices() {
     other_page_rust "Rust program 10 of $page stops at a room that is too small" 10 's/\[0; List::Extended.maximum()\]/[0; 2]/' 'Error: NoRoom'
     other_page_rust "Rust program 10 of $page stops at a layout that is not accepted" 10 's/0x100, 0x200/0x100, 0x114/' \
         "$(sed -n 's/.*inside the first structure, it would end with `\(Error: [^`]*\)`.*/\1/p' $page)"
+    other_page_rust "Rust program 11 of $page stops at a device that nothing was captured of" 11 '/type0_write(primary/d' \
+        "$(sed -n 's/.*Without its first request it would end with `\(Error: [^`]*\)`.*/\1/p' $page)"
+    other_page_rust "Rust program 11 of $page stops at functions with one number" 11 's/function: 1, a/function: 0, a/' \
+        "$(sed -n 's/.*in both sides with `\(Error: [^`]*\)`.*/\1/p' $page)"
+    other_page_rust "Rust program 11 of $page stops at a record that names another function" 11 's/function: 1, a/function: 2, a/' 'Error: Other(Alternate'
+    other_page_rust "Rust program 11 of $page stops where there is no record" 11 's/0x09, 0, 0x0C/0x08, 0, 0x0C/' 'Error: Refused(OtherStructure)'
+    other_page_rust "Rust program 11 of $page stops at a write that was not done" 11 '/type0_write(alternate/d' 'Error: Unsupported(Completion { status: Unsupported'
+    other_page_rust "Rust program 11 of $page notices that it has not landed" 11 's/\[0xFF; SPACE\]/[0xF0; SPACE]/' 'done, and not landed'
 }
 
 # The page's N-th Rust program has no board: of the archive, only the asking side is linked.
@@ -132,7 +140,7 @@ answers_are_not_dropped() {
 }
 
 # What the page says of the crate besides: a match needs a last arm, a port's fields have no default, a description needs an edition, which has
-# none either, nobody makes a layout by hand, and unsafe stands in one file.
+# none either, nobody makes a layout by hand, two functions are not lent one space, and unsafe stands in one file.
 crate_is_as_told() {
     package no_last_arm <hosts/thawribbon/tests/wrong/no_last_arm.rs
     ends 'rustc wants a last arm of a match on a refusal' 101 'non-exhaustive patterns: `_` not covered' within "$work/no_last_arm" cargo check --offline
@@ -143,6 +151,8 @@ crate_is_as_told() {
     ends 'rustc has no default for an edition' 101 'the trait bound `Edition: Default` is not satisfied' within "$work/no_edition" cargo check --offline
     package own_layout <hosts/thawribbon/tests/wrong/own_layout.rs
     ends 'rustc lets nobody make a layout that is not checked' 101 'of struct `thawribbon::Layout` are private' within "$work/own_layout" cargo check --offline
+    package one_space_twice <hosts/thawribbon/tests/wrong/one_space_twice.rs
+    ends 'rustc lets nobody lend two functions one space' 101 'cannot borrow `ordinary` as mutable more than once at a time' within "$work/one_space_twice" cargo check --offline
     if [ "$(grep -lw unsafe hosts/thawribbon/build.rs $sources/*)" = $sources/raw.rs ]; then
         echo 'ok unsafe stands only in raw.rs'
     else
