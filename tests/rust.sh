@@ -147,7 +147,8 @@ crate_is_as_told() {
     package no_default <hosts/thawribbon/tests/wrong/no_default.rs
     ends 'rustc has no default for the fields of a port that was not read' 101 'the trait bound `Groups: Default` is not satisfied' within "$work/no_default" cargo check --offline
     package no_edition <hosts/thawribbon/tests/wrong/no_edition.rs
-    ends 'rustc wants an edition of every description' 101 'missing field `edition` in initializer' within "$work/no_edition" cargo check --offline
+    ends 'rustc wants an edition of every description' 101 'missing field `edition` in initializer of `thawribbon::Description`' within "$work/no_edition" cargo check --offline
+    ends 'rustc wants an edition of every board of two functions' 101 'missing field `edition` in initializer of `Pair' within "$work/no_edition" cargo check --offline
     ends 'rustc has no default for an edition' 101 'the trait bound `Edition: Default` is not satisfied' within "$work/no_edition" cargo check --offline
     package own_layout <hosts/thawribbon/tests/wrong/own_layout.rs
     ends 'rustc lets nobody make a layout that is not checked' 101 'of struct `thawribbon::Layout` are private' within "$work/own_layout" cargo check --offline

@@ -57,8 +57,8 @@ impl<'a> Side<'a> {
 /// one packet has a function capture is there for the next.
 ///
 /// Each function has spaces, rules, marks, places and a capture of its own, and both have one edition. A packet goes to the
-/// function that it names; nothing that is sent to one of them shows at the other. Every field may be read and set between
-/// packets.
+/// function that it names. While both are well described, nothing that is sent to one of them shows at the other. Every field
+/// may be read and set between packets.
 ///
 /// ```
 /// use thawribbon::{Capture, Edition, Function, Id, NO_MARKS, NotDone, Pair, SPACE, Side, Space};
