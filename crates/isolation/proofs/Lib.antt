@@ -2,11 +2,4 @@ pub mod Project
 pub mod Alone
 pub mod Isolated
 pub mod Halves
-pub mod Examples
-pub mod Bite
-pub mod Needed
-pub mod HalvesNeeded
-pub mod Wrong
-pub mod Dual
 pub mod Calls
-pub mod Faulty

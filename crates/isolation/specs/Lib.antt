@@ -1,4 +1,3 @@
 pub mod Rows
 pub mod Views
 pub mod Statements
-pub mod Servers

@@ -16,9 +16,9 @@ use Rattle.shares.specs.Kinds.{only}
 use Rattle.shares.proofs.Bite.{Apart, completed}
 use Rattle.pair.specs.Pair.{Pair, Role, Primary, Alternate, other, side, WellPaired}
 use Rattle.pair.proofs.Computing.{pairComputing}
 use Rattle.isolation.specs.Rows.{runs}
 use Rattle.isolation.specs.Views.{OwnSight, forRole, notFor, eventsThat, ownSights, neitherNumbers, neitherReplies}
-use Rattle.isolation.proofs.Examples.{mine, another, changedOther, paired, withPairEdition, oneRun, otherRun, oneRun2, otherRun2}
+use Rattle.witnesses.proofs.Examples.{mine, another, changedOther, paired, withPairEdition, oneRun, otherRun, oneRun2, otherRun2}
 
 abbrev pub one : Role → Pair
 one role = paired role mine another

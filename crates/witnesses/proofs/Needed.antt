@@ -22,11 +22,11 @@ use Rattle.pair.specs.declared.Function.{Function}
 use Rattle.pair.specs.Pair.{Side, Pair, Role, Primary, Alternate, other, side, board, WellPaired}
 use Rattle.pair.specs.Pair as pairs
 use Rattle.pair.proofs.Computing.{pairComputing}
 use Rattle.isolation.specs.Rows.{runs}
 use Rattle.isolation.specs.Views.{OwnSight, forRole, forNeither, notFor, eventsThat, ownSights, neitherNumbers, neitherReplies}
 use Rattle.isolation.proofs.Isolated.{isolated}
-use Rattle.isolation.proofs.Examples.{sideWith, paired, withPairEdition, another, to, toMine, toNeither, tooLong, read4, trusted4}
-use Rattle.isolation.proofs.Bite.{nthSight, nthReply}
+use Rattle.witnesses.proofs.Examples.{sideWith, paired, withPairEdition, another, to, toMine, toNeither, tooLong, read4, trusted4}
+use Rattle.witnesses.proofs.Bite.{nthSight, nthReply}
 
 -- ---- the statements
 

@@ -22,11 +22,11 @@ use Rattle.shares.proofs.Needed.{whole, nothing, butA, butCapture, butBytes, bu
 use Rattle.shares.proofs.Bite.{Apart, completed}
 use Rattle.pair.specs.Pair.{Pair, Role, Primary, Alternate, other, side, board, WellPaired}
 use Rattle.pair.proofs.Computing.{pairComputing}
 use Rattle.isolation.specs.Rows.{runs}
 use Rattle.isolation.specs.Views.{forNeither, ordinaryOrReset, trustedFor, eventsThat, valuesAt, ordinarySightsFor, trustedSightsFor, registersFor, capturesFor}
 use Rattle.isolation.proofs.Halves.{pair-first-half, pair-second-half}
-use Rattle.isolation.proofs.Examples.{sideWith, paired, writable, another, changedOther, to, toMine, toAnother, toChanged, toNeither, secret, read4, trusted4}
-use Rattle.isolation.proofs.Needed.{EachWell, NumbersDiffer, numbered, zero, full, shut, fixed, status, usualWith, usual, unknown, twice, atIt, atA, stored, stored8, trustedIt, kept, kept8}
+use Rattle.witnesses.proofs.Examples.{sideWith, paired, writable, another, changedOther, to, toMine, toAnother, toChanged, toNeither, secret, read4, trusted4}
+use Rattle.witnesses.proofs.Needed.{EachWell, NumbersDiffer, numbered, zero, full, shut, fixed, status, usualWith, usual, unknown, twice, atIt, atA, stored, stored8, trustedIt, kept, kept8}
 
 -- ---- runs that meet the premises
 

@@ -22,10 +22,10 @@ use Rattle.pair.specs.Pair as pairs
 use Rattle.pair.specs.Serving.{servedBy, servePair}
 use Rattle.pair.proofs.Laws.{for-target, own-answers}
 use Rattle.pair.proofs.Computing.{pairComputing}
 use Rattle.isolation.specs.Rows.{runs, end}
 use Rattle.isolation.specs.Views.{ownSights}
-use Rattle.isolation.proofs.Examples.{sideWith, paired, another, to, trusted4}
-use Rattle.isolation.proofs.Bite.{nthSight}
+use Rattle.witnesses.proofs.Examples.{sideWith, paired, another, to, trusted4}
+use Rattle.witnesses.proofs.Bite.{nthSight}
 
 -- the record at an offset of the primary's ordinary space reads without refusal, and names the alternate's number
 pub record NamesAlternate (pair : Pair) (at : ℕ) : Type 0 where

@@ -14,9 +14,9 @@ use Rattle.runs.specs.Bench.{p2}
 use Rattle.pair.specs.Pair.{Side, Pair, Role, Primary, Alternate}
 use Rattle.pair.specs.Promise.{PairSeen}
 use Rattle.pair.proofs.Computing.{pairComputing}
-use Rattle.isolation.specs.Servers.{PairServer, PairRightAt, pairCompletion, SharesCapture, LooksUpOther, WritesOther, NamesTheNamed, RoutesFirst, RoutesType1, AnswersAsAlternate, ServesEqual, LooksAtOne}
-use Rattle.isolation.proofs.Examples.{mine, another, paired, to, type1, tooLong, secret, read4, trusted4, sideWith}
-use Rattle.isolation.proofs.Needed.{usual, zero, full, twice}
+use Rattle.witnesses.specs.Servers.{PairServer, PairRightAt, pairCompletion, SharesCapture, LooksUpOther, WritesOther, NamesTheNamed, RoutesFirst, RoutesType1, AnswersAsAlternate, ServesEqual, LooksAtOne}
+use Rattle.witnesses.proofs.Examples.{mine, another, paired, to, type1, tooLong, secret, read4, trusted4, sideWith}
+use Rattle.witnesses.proofs.Needed.{usual, zero, full, twice}
 
 -- ---- the witnesses
 

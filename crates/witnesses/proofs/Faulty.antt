@@ -23,7 +23,7 @@ use Rattle.pair.specs.Pair as pairs
 use Rattle.pair.specs.Serving.{servePair}
 use Rattle.pair.specs.Promise.{PairSeen, pairShows}
 use Rattle.pair.proofs.Laws.{well-each}
-use Rattle.isolation.specs.Servers.{PairServer, SharesCapture, LooksUpOther, WritesOther, NamesTheNamed, RoutesFirst, RoutesType1, AnswersAsAlternate, ServesEqual, LooksAtOne}
+use Rattle.witnesses.specs.Servers.{PairServer, SharesCapture, LooksUpOther, WritesOther, NamesTheNamed, RoutesFirst, RoutesType1, AnswersAsAlternate, ServesEqual, LooksAtOne}
 
 -- what the promise wants seen
 abbrev promised : PairServer
