@@ -21,6 +21,7 @@ use crate::spaces::LONG;
 use crate::spaces::Store;
 use crate::structures;
 use crate::structures::Structures;
+use crate::taking;
 use crate::tokens;
 use crate::tokens::Tokens;
 use crate::verdicts;
@@ -56,6 +57,7 @@ pub fn perform(
             spaces::put_behind(store, tokens, 0, tokens::count(tokens));
             done();
         }
+        vocabulary::TAKE => take(desk, tokens, store),
         vocabulary::CHAIN => put_chain(desk, tokens, store),
         vocabulary::PORTS => put_ports(desk, tokens, store),
         vocabulary::RECORDS => begin_records(desk, tokens, records),
@@ -92,7 +94,7 @@ fn begin_board(desk: &mut Desk, store: &mut Store, word: usize) {
     done();
 }
 
-// No bit of a new board is marked.
+// No bit of a new board is marked. The alternate that it may be given has the same bytes.
 fn fill(store: &mut Store, ordinary: u8, trusted: u8, rule: u8) {
     put_all(store, spaces::ORDINARY, ordinary);
     put_all(store, spaces::ORDINARY_RULES, rule);
@@ -100,10 +102,24 @@ fn fill(store: &mut Store, ordinary: u8, trusted: u8, rule: u8) {
     put_all(store, spaces::TRUSTED, trusted);
     put_all(store, spaces::TRUSTED_RULES, rule);
     put_all(store, spaces::TRUSTED_MARKS, 0);
+    spaces::copy_beside(store);
 }
 
 fn put_all(store: &mut Store, base: usize, byte: u8) {
     spaces::put_back(store, base, &[byte; LONG]);
+}
+
+fn take(desk: &mut Desk, tokens: &Tokens, store: &mut Store) {
+    taking::take(desk, store, role_of(tokens::word(tokens, 1)));
+    done();
+}
+
+fn role_of(name: usize) -> usize {
+    if name == vocabulary::ALTERNATE {
+        slots::ALTERNATE
+    } else {
+        slots::PRIMARY
+    }
 }
 
 fn put_chain(desk: &mut Desk, tokens: &Tokens, store: &mut Store) {
@@ -183,7 +199,8 @@ fn ask_of_layout(
     slots::lend_all(desk);
 }
 
-// A question is lent what was said before it, and the next one everything again. What is to be kept wants a place first.
+// A question is lent what was said before it, and the next one everything again; and the function is at hand again that was. What is to be kept wants a
+// place first.
 fn ask(desk: &mut Desk, tokens: &Tokens, store: &mut Store, records: &mut Records) {
     if tokens::word(tokens, 0) == vocabulary::KEEP {
         if !keeping::is_listed(desk, tokens::at(tokens, 3)) {
@@ -191,6 +208,7 @@ fn ask(desk: &mut Desk, tokens: &Tokens, store: &mut Store, records: &mut Record
             return;
         }
     }
+    let role = slots::at(desk, slots::ROLE);
     let right = match tokens::word(tokens, 0) {
         vocabulary::PACKET => packets::ask(desk, tokens, store),
         vocabulary::RESET => packets::reset(desk, tokens),
@@ -207,6 +225,7 @@ fn ask(desk: &mut Desk, tokens: &Tokens, store: &mut Store, records: &mut Record
         vocabulary::JUDGE => verdicts::ask(desk, tokens, records),
         _ => ask_of_space(desk, tokens, store),
     };
+    taking::take(desk, store, role);
     judging::count(desk, tokens, right);
     slots::lend_all(desk);
 }

@@ -1,6 +1,7 @@
 // What an answer means, in words: the number, what was asked, what the completion says, what is captured.
 use crate::marking;
 use crate::packets;
+use crate::packets::Outcome;
 use crate::pieces;
 use crate::saying::put;
 use crate::slots;
@@ -16,7 +17,6 @@ use crate::wording::say_one;
 use crate::wording::say_three;
 use crate::wording::say_two;
 use answers::Refusal;
-use board::Served;
 use packet::Decoded;
 use packet::Request;
 use packet::Target;
@@ -40,20 +40,23 @@ const ASKING: usize = 6;
 // And 1 where a packet is served: a list or a record has not all of its causes.
 const BAD_BOARD: usize = 13;
 
+// The same of a board of two functions.
+const BAD_PAIR: usize = 14;
+
 // And a 4 of a board for bit 7 alone.
-const BIT_7: usize = 14;
+const BIT_7: usize = 15;
 
 // And 1 where an address is judged.
-pub const BAD_RECORDS: usize = 15;
+pub const BAD_RECORDS: usize = 16;
 
 // And 0 of each question about a new board, in their order, and then 1 and 2.
-pub const PROPOSED: usize = 16;
+pub const PROPOSED: usize = 17;
 
-pub const BAD_STRUCTURES: usize = 19;
+pub const BAD_STRUCTURES: usize = 20;
 
-pub const FEW_ENTRIES: usize = 20;
+pub const FEW_ENTRIES: usize = 21;
 
-const BOARD: usize = 21;
+const BOARD: usize = 22;
 
 // An answer number and what it means.
 pub fn put_number(number: u8) {
@@ -94,6 +97,7 @@ the first byte is neither 4A nor 0A
 the completion's length does not fit its first byte: 16 bytes after 4A, 12 after 0A
 a byte that no reply with this first byte has at its place
 badly described: a buffer of another size than 1000, a number or an offset out of range, an edition other than 1 and 2, or a bit that is writable and marked
+badly described: two equal numbers, a buffer of another size than 1000, a number or an offset out of range, an edition other than 1 and 2, or a bit that is writable and marked
 bit 7 of byte 0 is set: under edition 2 it belongs to the format field, and none of the six has it
 badly described: too many records, no such port, or a record that no capability gives
 a proposal, which is kept
@@ -126,24 +130,33 @@ the proposal is not accepted
 }
 
 // A packet that was served: the number, what it asked for as the board read it, what the completion says of it, what is captured.
-pub fn packet(desk: &Desk, served: Served, store: &Store) {
-    let answer = served.answer;
-    let state = served.capture;
-    put_answer(desk, answer.number(), store);
-    request(desk, packets::sent(desk, store), served.length, store);
-    captured(packets::capture_number(state));
+pub fn packet(desk: &Desk, outcome: Outcome, store: &Store) {
+    put_answer(desk, outcome.number, store);
+    request(desk, packets::sent(desk, store), outcome.length, store);
+    captured(desk, outcome);
 }
 
-// The number; of a badly described board an edition that is none, and the bits that are marked twice.
+// The number; of a badly described board equal numbers, an edition that is none, and the bits that are marked twice.
 fn put_answer(desk: &Desk, number: u8, store: &Store) {
     match number {
         1 => {
-            put_number_as(number, BAD_BOARD);
+            put_bad(desk, number);
             tell_edition(desk);
             marking::tell(desk, store);
         }
         4 => put_number_as(number, unknown_type(packets::sent(desk, store))),
         _ => put_number(number),
+    }
+}
+
+fn put_bad(desk: &Desk, number: u8) {
+    if slots::at(desk, slots::ROLE) == slots::ALONE {
+        put_number_as(number, BAD_BOARD);
+        return;
+    }
+    put_number_as(number, BAD_PAIR);
+    if slots::at(desk, slots::FUNCTION) == slots::at(desk, slots::BESIDE_FUNCTION) {
+        say_one(wording::SAME_NUMBER, slots::at(desk, slots::FUNCTION));
     }
 }
 
@@ -185,7 +198,7 @@ fn request(desk: &Desk, packet: &[u8], replied: usize, store: &Store) {
 fn cause_of(desk: &Desk, asked: Request) -> Cause {
     reasons::why(
         packets::description_of(desk),
-        packets::capture_of(desk),
+        packets::capture_of(desk, slots::CAPTURED),
         asked,
     )
 }
@@ -308,14 +321,29 @@ fn status_number(status: u8, cause: Cause) -> usize {
 }
 
 // What is captured now.
-pub fn captured(number: usize) {
-    put_capture(wording::CAPTURED, number);
+pub fn captured(desk: &Desk, outcome: Outcome) {
+    put_captures(desk, wording::CAPTURED, outcome.captured, outcome.beside);
     say(wording::END);
 }
 
-// A text, and a capture behind it.
-pub fn put_capture(text: usize, number: usize) {
+// A text, and behind it what the function at hand has captured; where there is one beside it, what each of the two has, the primary first.
+pub fn put_captures(desk: &Desk, text: usize, captured: usize, beside: usize) {
     say(text);
+    match slots::at(desk, slots::ROLE) {
+        slots::ALONE => put_capture(captured),
+        slots::PRIMARY => put_both(captured, beside),
+        _ => put_both(beside, captured),
+    }
+}
+
+fn put_both(primary: usize, alternate: usize) {
+    say(wording::BY_PRIMARY);
+    put_capture(primary);
+    say(wording::BY_ALTERNATE);
+    put_capture(alternate);
+}
+
+fn put_capture(number: usize) {
     if number == slots::NOTHING {
         say(wording::NOTHING);
     } else {

@@ -111,7 +111,7 @@ fn put_reason(what: usize) {
 is no word of the desk, and no number of one to sixteen hexadecimal digits
 is not a statement; help lists them
 stands where a word is wanted
-stands where the name of a list or a space is wanted
+stands where the name of a list, a space or a function is wanted
 stands where a number, a comma or the line's end is wanted
 is a number too many
 stands where a number is still wanted

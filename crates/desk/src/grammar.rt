@@ -22,9 +22,9 @@ const NAME: usize = 34;
 
 const NAMES: usize = 36;
 
-const QUESTIONS: usize = 40;
+const QUESTIONS: usize = 41;
 
-const ROW: usize = 56;
+const ROW: usize = 57;
 
 // What a limit reads as that is none.
 const ANY: usize = 0xfffff;
@@ -43,84 +43,86 @@ const OLD_MERGE: usize = 13;
 const UNMARKED: usize = 16;
 
 // What follows each word, in the order of their numbers: how many numbers at least and at most; how large the first and the others may be;
-// which kind of name comes before them, of a list (0), a buffer (1) or a space (2); of which of these kinds it is a name itself; and of
+// which kind of name comes before them, of a list (0), a buffer (1), a space (2) or a function (3); of which of these kinds it is a name itself; and of
 // which questions it may be expected: packet, reset, merge, walk, dvsec, dual, route, ask, completion, multicast, keep, judge, plan,
 // accept, write. A token that is no word has no row, and reads as 0.
 fn column(word: usize, from: usize, size: usize) -> usize {
     let row = std::num::wrapping_sub_usize(word, HELP) % 128;
     tokens::number_of(pieces::part(
-        b"help            00 00 00000 00000 - --- ---------------
-echo            00 00 00000 00000 - --- ---------------
-sheet           00 00 00000 00000 - --- ---------------
-end             00 00 00000 00000 - --- ---------------
-fresh           00 00 00000 00000 - --- ---------------
-open            00 00 00000 00000 - --- ---------------
-blank           00 00 00000 00000 - --- ---------------
-function        01 01 000FF 000FF - --- ---------------
-A               01 01 FFFFF FFFFF - --- ---------------
-B               01 01 FFFFF FFFFF - --- ---------------
-edition         01 01 FFFFF FFFFF - --- ---------------
-captured        02 02 000FF 000FF - --- 11-----1-------
-forgotten       00 00 00000 00000 - --- 11-----1-------
-ordinary        02 41 00FFF 000FF - -11 1------1-------
-trusted         02 41 00FFF 000FF - 111 1------1-------
-ordinary-rules  02 41 00FFF 000FF - -1- ---------------
-trusted-rules   02 41 00FFF 000FF - -1- ---------------
-ordinary-marks  02 41 00FFF 000FF - -1- ---------------
-trusted-marks   02 41 00FFF 000FF - -1- ---------------
-chain           04 04 0FFFF 0FFFF 0 --- ---------------
-ports           00 7E 000FF 000FF - --- ---------------
-records         01 01 00021 00021 - --- ---------------
-record          08 08 00020 FFFFF - --- ---------------
-structures      00 7E 0FFFF 0FFFF - --- ---------------
-more            04 04 003C1 0FFFF - --- ---------------
-proposal        00 7F 0FFFF 0FFFF - --- ---------------
-move            02 02 003C0 0FFFF - --- ---------------
-sizes           06 06 01001 01001 - --- ---------------
-room            01 01 FFFFF FFFFF - --- ---------------
-show            02 02 01000 01000 1 --- ---------------
-packet          00 40 000FF 000FF - --- ---------------
-reset           00 00 00000 00000 - --- ---------------
-merge           11 11 000FF 000FF - --- ---------------
-walk            00 00 00000 00000 0 --- ---------------
-dvsec           01 01 FFFFF FFFFF 2 --- ---------------
-dual            01 01 FFFFF FFFFF 2 --- ---------------
-route           00 40 000FF 000FF - --- ---------------
-ask             09 0D 000FF 000FF - --- ---------------
-completion      00 40 000FF 000FF - --- ---------------
-multicast       01 01 FFFFF FFFFF 2 --- ---------------
-keep            02 02 FFFFF 00020 2 --- ---------------
-judge           02 02 FFFFF FFFFF - --- ---------------
-plan            00 00 00000 00000 - --- ---------------
-accept          00 00 00000 00000 - --- ---------------
-write           00 00 00000 00000 2 --- ---------------
-number          01 01 00018 00018 - --- 1--111111111111
-reply           01 14 000FF 000FF - --- 1------1-------
-bytes           04 04 000FF 000FF - --- --1------------
-offsets         01 40 0FFFF 0FFFF - --- ---1--------1--
-steps           03 03 003FE 0FFFF - --- ---1--------1--
-place           01 01 00FFF 00FFF - --- ---1-----------
-header          04 04 0FFFF 0FFFF - --- ----1----------
-body            02 02 01000 01000 - --- ----1----------
-alternate       02 02 000FF 000FF - --- -----1---------
-port            01 01 000FF 000FF - --- ------1--------
-leaves          01 14 000FF 000FF - --- ------1--------
-writes          01 14 000FF 000FF - --- -------1-------
-completer       02 02 000FF 000FF - --- --------1------
-requester       02 02 000FF 000FF - --- --------1------
-tag             01 01 000FF 000FF - --- --------1------
-shown           04 04 000FF 000FF - --- --------1------
-done            00 00 00000 00000 - --- --------1------
-unsupported     00 00 00000 00000 - --- --------1------
-fields          07 07 FFFFF FFFFF - --- ---------11----
-group           01 01 0003F 0003F - --- -----------1---
-leaves-by       00 20 0001F 0001F - --- -----------1---
-dropped         00 00 00000 00000 - --- -----------1---
-no-hit          00 00 00000 00000 - --- -----------1---
-headers         03 78 0FFFF 0FFFF - --- --------------1
-alike           05 05 003C1 0FFFF - --- --------------1
-compatible      00 00 00000 00000 - 1-- ---------------
-extended        00 00 00000 00000 - 1-- ---------------
+        b"help            00 00 00000 00000 - ---- ---------------
+echo            00 00 00000 00000 - ---- ---------------
+sheet           00 00 00000 00000 - ---- ---------------
+end             00 00 00000 00000 - ---- ---------------
+fresh           00 00 00000 00000 - ---- ---------------
+open            00 00 00000 00000 - ---- ---------------
+blank           00 00 00000 00000 - ---- ---------------
+take            00 00 00000 00000 3 ---- ---------------
+function        01 01 000FF 000FF - ---- ---------------
+A               01 01 FFFFF FFFFF - ---- ---------------
+B               01 01 FFFFF FFFFF - ---- ---------------
+edition         01 01 FFFFF FFFFF - ---- ---------------
+captured        02 02 000FF 000FF - ---- 11-----1-------
+forgotten       00 00 00000 00000 - ---- 11-----1-------
+ordinary        02 41 00FFF 000FF - -11- 1------1-------
+trusted         02 41 00FFF 000FF - 111- 1------1-------
+ordinary-rules  02 41 00FFF 000FF - -1-- ---------------
+trusted-rules   02 41 00FFF 000FF - -1-- ---------------
+ordinary-marks  02 41 00FFF 000FF - -1-- ---------------
+trusted-marks   02 41 00FFF 000FF - -1-- ---------------
+chain           04 04 0FFFF 0FFFF 0 ---- ---------------
+ports           00 7E 000FF 000FF - ---- ---------------
+records         01 01 00021 00021 - ---- ---------------
+record          08 08 00020 FFFFF - ---- ---------------
+structures      00 7E 0FFFF 0FFFF - ---- ---------------
+more            04 04 003C1 0FFFF - ---- ---------------
+proposal        00 7F 0FFFF 0FFFF - ---- ---------------
+move            02 02 003C0 0FFFF - ---- ---------------
+sizes           06 06 01001 01001 - ---- ---------------
+room            01 01 FFFFF FFFFF - ---- ---------------
+show            02 02 01000 01000 1 ---- ---------------
+packet          00 40 000FF 000FF - ---- ---------------
+reset           00 00 00000 00000 - ---- ---------------
+merge           11 11 000FF 000FF - ---- ---------------
+walk            00 00 00000 00000 0 ---- ---------------
+dvsec           01 01 FFFFF FFFFF 2 ---- ---------------
+dual            01 01 FFFFF FFFFF 2 ---- ---------------
+route           00 40 000FF 000FF - ---- ---------------
+ask             09 0D 000FF 000FF - ---- ---------------
+completion      00 40 000FF 000FF - ---- ---------------
+multicast       01 01 FFFFF FFFFF 2 ---- ---------------
+keep            02 02 FFFFF 00020 2 ---- ---------------
+judge           02 02 FFFFF FFFFF - ---- ---------------
+plan            00 00 00000 00000 - ---- ---------------
+accept          00 00 00000 00000 - ---- ---------------
+write           00 00 00000 00000 2 ---- ---------------
+number          01 01 00018 00018 - ---- 1--111111111111
+reply           01 14 000FF 000FF - ---- 1------1-------
+bytes           04 04 000FF 000FF - ---- --1------------
+offsets         01 40 0FFFF 0FFFF - ---- ---1--------1--
+steps           03 03 003FE 0FFFF - ---- ---1--------1--
+place           01 01 00FFF 00FFF - ---- ---1-----------
+header          04 04 0FFFF 0FFFF - ---- ----1----------
+body            02 02 01000 01000 - ---- ----1----------
+alternate       02 02 000FF 000FF - ---1 -----1---------
+port            01 01 000FF 000FF - ---- ------1--------
+leaves          01 14 000FF 000FF - ---- ------1--------
+writes          01 14 000FF 000FF - ---- -------1-------
+completer       02 02 000FF 000FF - ---- --------1------
+requester       02 02 000FF 000FF - ---- --------1------
+tag             01 01 000FF 000FF - ---- --------1------
+shown           04 04 000FF 000FF - ---- --------1------
+done            00 00 00000 00000 - ---- --------1------
+unsupported     00 00 00000 00000 - ---- --------1------
+fields          07 07 FFFFF FFFFF - ---- ---------11----
+group           01 01 0003F 0003F - ---- -----------1---
+leaves-by       00 20 0001F 0001F - ---- -----------1---
+dropped         00 00 00000 00000 - ---- -----------1---
+no-hit          00 00 00000 00000 - ---- -----------1---
+headers         03 78 0FFFF 0FFFF - ---- --------------1
+alike           05 05 003C1 0FFFF - ---- --------------1
+compatible      00 00 00000 00000 - 1--- ---------------
+extended        00 00 00000 00000 - 1--- ---------------
+primary         00 00 00000 00000 - ---1 ---------------
 ",
         std::num::wrapping_add_usize(ROW * row, from),
         size,

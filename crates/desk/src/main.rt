@@ -26,6 +26,7 @@ mod session;
 mod slots;
 mod spaces;
 mod structures;
+mod taking;
 mod texts;
 mod tokens;
 mod unlaid;

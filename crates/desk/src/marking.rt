@@ -10,23 +10,20 @@ use crate::wording::say;
 use crate::wording::say_three;
 
 pub fn tell(desk: &Desk, store: &Store) {
-    tell_space(
-        spaces::ORDINARY,
-        spaces::lent(desk, store, spaces::ORDINARY_RULES),
-        spaces::lent(desk, store, spaces::ORDINARY_MARKS),
-    );
-    tell_space(
-        spaces::TRUSTED,
-        spaces::lent(desk, store, spaces::TRUSTED_RULES),
-        spaces::lent(desk, store, spaces::TRUSTED_MARKS),
-    );
+    tell_space(desk, store, spaces::ORDINARY);
+    tell_space(desk, store, spaces::TRUSTED);
+    tell_space(desk, store, spaces::BESIDE);
+    tell_space(desk, store, spaces::BESIDE_TRUSTED);
 }
 
-fn tell_space(space: usize, rules: &[u8], marks: &[u8]) {
+// A space, by where it begins: its rules and its marks are behind it.
+fn tell_space(desk: &Desk, store: &Store, space: usize) {
+    let rules = spaces::lent(desk, store, std::num::wrapping_add_usize(space, LONG));
+    let marks = spaces::lent(desk, store, std::num::wrapping_add_usize(space, 2 * LONG));
     let at = first_twice(rules, marks);
     if at < rules.len() {
         say(wording::INDENT);
-        spaces::put_buffer(space / LONG);
+        spaces::put_buffer(desk, space);
         say_three(
             wording::TWICE,
             at,

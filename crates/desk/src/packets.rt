@@ -1,5 +1,6 @@
 // A packet is served by the board at the desk. Everything afterwards is told, or held against what is expected: the number, the reply
-// with the rest of its buffer, the capture, and every byte of both spaces. Resets and merges are asked for in the same way.
+// with the rest of its buffer, the capture, and every byte of both spaces; and of a board of two functions, that the one that the packet does not name is as
+// it was. Resets and merges are asked for in the same way.
 use crate::explaining;
 use crate::judging;
 use crate::pieces;
@@ -7,14 +8,16 @@ use crate::slots;
 use crate::slots::Desk;
 use crate::spaces;
 use crate::spaces::Store;
+use crate::taking;
 use crate::tokens;
 use crate::tokens::Tokens;
 use crate::vocabulary;
 use crate::wording;
 use crate::wording::say;
 use board::Description;
-use board::Served;
 use capture::Capture;
+use pair::Captures;
+use pair::Function;
 
 // The bytes of the reply's buffer, and the byte that fills it before a packet is served.
 const REPLY: usize = 20;
@@ -23,15 +26,34 @@ const UNTOUCHED: u8 = 0xee;
 
 type Reply = [u8; REPLY];
 
+// What became of a packet: the answer number, how many bytes of the reply are written, and what is captured then, by the function at hand and by the one
+// beside it.
+pub struct Outcome {
+    pub number: u8,
+    pub length: usize,
+    pub captured: usize,
+    pub beside: usize,
+}
+
 // Says, as every question here, whether it is a check that was right.
 pub fn ask(desk: &mut Desk, tokens: &Tokens, store: &mut Store) -> bool {
     take_bytes(desk, tokens, store);
+    let number = named_in(sent(desk, store));
+    taking::take_named(desk, store, number);
     clear_reply(store);
     let before = *store;
-    let served = send(desk, store);
-    let right = answer(desk, tokens, served, &before, store);
-    keep_capture(desk, served);
+    let outcome = send(desk, store);
+    let right = answer(desk, tokens, outcome, &before, store);
+    keep_captures(desk, outcome);
     right
+}
+
+// The function that byte 9 of a packet names; one that is too short names none.
+fn named_in(packet: &[u8]) -> usize {
+    if packet.len() < 12 {
+        return slots::NOTHING;
+    }
+    pieces::value_of(packet, 9) % 8
 }
 
 // The bytes behind a question's word are put into the store: a packet, or a completion.
@@ -49,13 +71,25 @@ pub fn clear_reply(store: &mut Store) {
     words::put(store, spaces::REPLY, &[UNTOUCHED; REPLY]);
 }
 
-pub fn keep_capture(desk: &mut Desk, served: Served) {
-    let state = served.capture;
-    slots::set(desk, slots::CAPTURED, capture_number(state));
+pub fn keep_captures(desk: &mut Desk, outcome: Outcome) {
+    slots::set(desk, slots::CAPTURED, outcome.captured);
+    slots::set(desk, slots::BESIDE_CAPTURED, outcome.beside);
+}
+
+// A board of two functions is served with its primary at hand.
+pub fn send(desk: &mut Desk, store: &mut Store) -> Outcome {
+    let role = slots::at(desk, slots::ROLE);
+    if role == slots::ALONE {
+        return send_to_one(desk, store);
+    }
+    taking::take(desk, store, slots::PRIMARY);
+    let served = send_to_two(desk, store);
+    taking::take(desk, store, role);
+    outcome_of(served, role)
 }
 
 // The board is lent its buffers out of the store, each as far as the desk says, and what it leaves in the spaces and the reply is put back.
-pub fn send(desk: &Desk, store: &mut Store) -> Served {
+fn send_to_one(desk: &Desk, store: &mut Store) -> Outcome {
     let mut ordinary = spaces::copy_of(store, spaces::ORDINARY);
     let mut trusted = spaces::copy_of(store, spaces::TRUSTED);
     let mut reply = [UNTOUCHED; REPLY];
@@ -65,7 +99,7 @@ pub fn send(desk: &Desk, store: &mut Store) -> Served {
     let lent = &*store;
     let served = board::serve(
         description_of(desk),
-        capture_of(desk),
+        capture_of(desk, slots::CAPTURED),
         &mut ordinary[..first],
         spaces::lent(desk, lent, spaces::ORDINARY_RULES),
         spaces::lent(desk, lent, spaces::ORDINARY_MARKS),
@@ -78,7 +112,87 @@ pub fn send(desk: &Desk, store: &mut Store) -> Served {
     spaces::put_back(store, spaces::ORDINARY, &ordinary);
     spaces::put_back(store, spaces::TRUSTED, &trusted);
     keep_reply(store, &reply);
+    outcome_alone(served)
+}
+
+// Nothing stands beside a function that is alone.
+fn outcome_alone(served: board::Served) -> Outcome {
+    let answer = served.answer;
+    let state = served.capture;
+    Outcome {
+        number: answer.number(),
+        length: served.length,
+        captured: capture_number(state),
+        beside: slots::NOTHING,
+    }
+}
+
+// The same of two functions.
+fn send_to_two(desk: &Desk, store: &mut Store) -> pair::Served {
+    let mut ordinary = spaces::copy_of(store, spaces::ORDINARY);
+    let first = spaces::within(desk, slots::ORDINARY_SIZE, &ordinary);
+    let primary_ordinary = &mut ordinary[..first];
+    let mut trusted = spaces::copy_of(store, spaces::TRUSTED);
+    let second = spaces::within(desk, slots::TRUSTED_SIZE, &trusted);
+    let primary_trusted = &mut trusted[..second];
+    let mut beside_ordinary = spaces::copy_of(store, spaces::BESIDE);
+    let third = spaces::within(desk, slots::BESIDE_ORDINARY_SIZE, &beside_ordinary);
+    let alternate_ordinary = &mut beside_ordinary[..third];
+    let mut beside_trusted = spaces::copy_of(store, spaces::BESIDE_TRUSTED);
+    let fourth = spaces::within(desk, slots::BESIDE_TRUSTED_SIZE, &beside_trusted);
+    let alternate_trusted = &mut beside_trusted[..fourth];
+    let mut reply = [UNTOUCHED; REPLY];
+    let room = spaces::within(desk, slots::ROOM, &reply);
+    let written = &mut reply[..room];
+    let lent = &*store;
+    let served = pair::serve(
+        edition_of(desk),
+        function_of(desk, slots::FUNCTION),
+        function_of(desk, slots::BESIDE_FUNCTION),
+        captures_of(desk),
+        primary_ordinary,
+        spaces::lent(desk, lent, spaces::ORDINARY_RULES),
+        spaces::lent(desk, lent, spaces::ORDINARY_MARKS),
+        primary_trusted,
+        spaces::lent(desk, lent, spaces::TRUSTED_RULES),
+        spaces::lent(desk, lent, spaces::TRUSTED_MARKS),
+        alternate_ordinary,
+        spaces::lent(desk, lent, spaces::BESIDE_ORDINARY_RULES),
+        spaces::lent(desk, lent, spaces::BESIDE_ORDINARY_MARKS),
+        alternate_trusted,
+        spaces::lent(desk, lent, spaces::BESIDE_TRUSTED_RULES),
+        spaces::lent(desk, lent, spaces::BESIDE_TRUSTED_MARKS),
+        sent(desk, lent),
+        written,
+    );
+    spaces::put_back(store, spaces::ORDINARY, &ordinary);
+    spaces::put_back(store, spaces::TRUSTED, &trusted);
+    spaces::put_back(store, spaces::BESIDE, &beside_ordinary);
+    spaces::put_back(store, spaces::BESIDE_TRUSTED, &beside_trusted);
+    keep_reply(store, &reply);
     served
+}
+
+// With this function at hand.
+fn outcome_of(served: pair::Served, role: usize) -> Outcome {
+    let answer = served.answer;
+    let kept = served.kept;
+    let primary = kept.primary;
+    let alternate = kept.alternate;
+    if role == slots::ALTERNATE {
+        return Outcome {
+            number: answer.number(),
+            length: served.length,
+            captured: capture_number(alternate),
+            beside: capture_number(primary),
+        };
+    }
+    Outcome {
+        number: answer.number(),
+        length: served.length,
+        captured: capture_number(primary),
+        beside: capture_number(alternate),
+    }
 }
 
 fn keep_reply(store: &mut Store, reply: &Reply) {
@@ -94,6 +208,23 @@ pub fn description_of(desk: &Desk) -> Description {
     }
 }
 
+// A function's number, A and B, which stand at a slot and behind it.
+fn function_of(desk: &Desk, slot: usize) -> Function {
+    Function {
+        number: (slots::at(desk, slot) % 256) as u8,
+        a: slots::at(desk, std::num::wrapping_add_usize(slot, 1)),
+        b: slots::at(desk, std::num::wrapping_add_usize(slot, 2)),
+    }
+}
+
+// What the function at hand has captured, and the one beside it, as a primary and its alternate.
+fn captures_of(desk: &Desk) -> Captures {
+    Captures {
+        primary: capture_of(desk, slots::CAPTURED),
+        alternate: capture_of(desk, slots::BESIDE_CAPTURED),
+    }
+}
+
 // A board's edition has 32 bits. A number over them is no edition, and the highest, which is none either, stands for it: nothing is cut off.
 pub fn edition_of(desk: &Desk) -> u32 {
     let number = slots::at(desk, slots::EDITION);
@@ -103,8 +234,9 @@ pub fn edition_of(desk: &Desk) -> u32 {
     number as u32
 }
 
-pub fn capture_of(desk: &Desk) -> Capture {
-    let number = slots::at(desk, slots::CAPTURED);
+// The capture that stands at a slot.
+pub fn capture_of(desk: &Desk, slot: usize) -> Capture {
+    let number = slots::at(desk, slot);
     if number == slots::NOTHING {
         return Capture::Nothing;
     }
@@ -115,26 +247,26 @@ pub fn capture_of(desk: &Desk) -> Capture {
 }
 
 // Bus and device in one number, and NOTHING for none.
-pub fn capture_number(capture: Capture) -> usize {
+fn capture_number(capture: Capture) -> usize {
     match capture {
         Capture::Nothing => slots::NOTHING,
         Capture::Number { bus, device } => slots::capture(bus as usize, device as usize),
     }
 }
 
-fn answer(desk: &Desk, tokens: &Tokens, served: Served, before: &Store, after: &Store) -> bool {
+fn answer(desk: &Desk, tokens: &Tokens, outcome: Outcome, before: &Store, after: &Store) -> bool {
     if tokens::is_check(tokens) {
-        if judge(desk, tokens, served, &wanted_of(tokens, before), after) {
+        if judge(desk, tokens, outcome, &wanted_of(tokens, before), after) {
             return true;
         }
     }
-    tell(desk, served, before, after);
+    tell(desk, outcome, before, after);
     false
 }
 
 // What became of the packet, and every byte that is another.
-pub fn tell(desk: &Desk, served: Served, before: &Store, after: &Store) {
-    explaining::packet(desk, served, after);
+pub fn tell(desk: &Desk, outcome: Outcome, before: &Store, after: &Store) {
+    explaining::packet(desk, outcome, after);
     spaces::tell_changes(desk, before, after);
 }
 
@@ -151,8 +283,14 @@ pub fn wanted_of(tokens: &Tokens, before: &Store) -> Store {
 }
 
 // The answer, and every byte.
-pub fn judge(desk: &Desk, tokens: &Tokens, served: Served, wanted: &Store, after: &Store) -> bool {
-    let answered = judge_answer(desk, tokens, served, after, wanted);
+pub fn judge(
+    desk: &Desk,
+    tokens: &Tokens,
+    outcome: Outcome,
+    wanted: &Store,
+    after: &Store,
+) -> bool {
+    let answered = judge_answer(desk, tokens, outcome, after, wanted);
     let differences = spaces::tell_differences(desk, true, after, wanted);
     answered & (differences == 0)
 }
@@ -160,15 +298,14 @@ pub fn judge(desk: &Desk, tokens: &Tokens, served: Served, wanted: &Store, after
 fn judge_answer(
     desk: &Desk,
     tokens: &Tokens,
-    served: Served,
+    outcome: Outcome,
     after: &Store,
     wanted: &Store,
 ) -> bool {
-    let answer = served.answer;
-    let state = served.capture;
-    let number = judging::number(desk, tokens, answer.number());
-    let reply = judge_reply(desk, tokens, served.length, after, wanted);
-    number & reply & judge_capture(desk, tokens, capture_number(state))
+    let number = judging::number(desk, tokens, outcome.number);
+    let reply = judge_reply(desk, tokens, outcome.length, after, wanted);
+    let beside = slots::at(desk, slots::BESIDE_CAPTURED);
+    number & reply & judge_captures(desk, tokens, outcome, beside)
 }
 
 // The reply's bytes at the front of its buffer, and the rest untouched.
@@ -184,15 +321,22 @@ fn reply_of(store: &Store) -> &[u8] {
     pieces::part(store, spaces::REPLY, REPLY)
 }
 
-// The capture that is expected: the one that is told, or the one from before.
-fn judge_capture(desk: &Desk, tokens: &Tokens, found: usize) -> bool {
+// The capture that is expected: the one that is told, or the one from before; and that of the function beside.
+fn judge_captures(desk: &Desk, tokens: &Tokens, outcome: Outcome, beside: usize) -> bool {
     let wanted = wanted_capture(desk, tokens);
-    if found == wanted {
-        return true;
+    if outcome.captured == wanted {
+        if outcome.beside == beside {
+            return true;
+        }
     }
     judging::begin_difference(desk);
-    explaining::put_capture(wording::WRONG_CAPTURE, found);
-    explaining::put_capture(wording::EXPECTED_CAPTURE, wanted);
+    explaining::put_captures(
+        desk,
+        wording::WRONG_CAPTURE,
+        outcome.captured,
+        outcome.beside,
+    );
+    explaining::put_captures(desk, wording::EXPECTED_CAPTURE, wanted, beside);
     say(wording::END);
     false
 }
@@ -211,21 +355,32 @@ fn wanted_capture(desk: &Desk, tokens: &Tokens) -> usize {
     slots::at(desk, slots::CAPTURED)
 }
 
-// A reset is asked for.
+// A reset is asked for. What is expected of one function is expected of both.
 pub fn reset(desk: &mut Desk, tokens: &Tokens) -> bool {
-    let found = capture_number(board::reset(capture_of(desk)));
-    let right = answer_reset(desk, tokens, found);
-    slots::set(desk, slots::CAPTURED, found);
+    let outcome = outcome_of_reset(pair::reset(captures_of(desk)));
+    let right = answer_reset(desk, tokens, outcome);
+    keep_captures(desk, outcome);
     right
 }
 
-fn answer_reset(desk: &Desk, tokens: &Tokens, found: usize) -> bool {
+fn outcome_of_reset(kept: Captures) -> Outcome {
+    let captured = kept.primary;
+    let beside = kept.alternate;
+    Outcome {
+        number: 0,
+        length: 0,
+        captured: capture_number(captured),
+        beside: capture_number(beside),
+    }
+}
+
+fn answer_reset(desk: &Desk, tokens: &Tokens, outcome: Outcome) -> bool {
     if tokens::is_check(tokens) {
-        if judge_capture(desk, tokens, found) {
+        if judge_captures(desk, tokens, outcome, wanted_capture(desk, tokens)) {
             return true;
         }
     }
-    explaining::captured(found);
+    explaining::captured(desk, outcome);
     false
 }
 

@@ -4,21 +4,21 @@ use crate::completions;
 use crate::explaining;
 use crate::judging;
 use crate::packets;
+use crate::packets::Outcome;
 use crate::pieces;
 use crate::slots;
 use crate::slots::Desk;
 use crate::spaces;
 use crate::spaces::Store;
+use crate::taking;
 use crate::tokens;
 use crate::tokens::Tokens;
 use crate::vocabulary;
 use crate::wording;
 use crate::wording::say;
-use answers::Answer;
 use answers::Refusal;
 use asking::Parts;
 use asking::Written;
-use board::Served;
 use packet::Id;
 
 // The bytes of the buffer for a request, more than any has, and the byte that fills it before one is written.
@@ -28,22 +28,25 @@ const UNTOUCHED: u8 = 0xee;
 
 type Request = [u8; REQUEST];
 
-// Where the data stands in a line that has some.
+// Where the function stands in a line, and the data where it has some.
+const FUNCTION: usize = 7;
+
 const DATA: usize = 10;
 
 // The request is written to where the packet stands in the store. Says whether this is a check that was right.
 pub fn ask(desk: &mut Desk, tokens: &Tokens, store: &mut Store) -> bool {
+    taking::take_named(desk, store, tokens::at(tokens, FUNCTION));
     keep_request(store, &[UNTOUCHED; REQUEST]);
     packets::clear_reply(store);
     let before = *store;
-    let served = serve(desk, tokens, store);
-    let right = answer(desk, tokens, served, &before, store);
-    packets::keep_capture(desk, served);
+    let outcome = serve(desk, tokens, store);
+    let right = answer(desk, tokens, outcome, &before, store);
+    packets::keep_captures(desk, outcome);
     right
 }
 
 // What is written is sent. What is refused is not, and it has no bytes.
-fn serve(desk: &mut Desk, tokens: &Tokens, store: &mut Store) -> Served {
+fn serve(desk: &mut Desk, tokens: &Tokens, store: &mut Store) -> Outcome {
     match write(desk, tokens, store) {
         Written::Bytes(length) => {
             slots::set(desk, slots::SENT, length);
@@ -80,7 +83,7 @@ fn parts_of(tokens: &Tokens) -> Parts {
         tag: tokens::byte(tokens, 4),
         bus: tokens::byte(tokens, 5),
         device: tokens::byte(tokens, 6),
-        function: tokens::byte(tokens, 7),
+        function: tokens::byte(tokens, FUNCTION),
         offset: tokens::at(tokens, 8),
         enables: tokens::byte(tokens, 9),
     }
@@ -94,33 +97,34 @@ fn data_of(tokens: &Tokens) -> [u8; 4] {
     packets::four_at(tokens, DATA)
 }
 
-fn unsent(desk: &Desk, refusal: Refusal) -> Served {
-    Served {
-        answer: Answer::Refused(refusal),
+fn unsent(desk: &Desk, refusal: Refusal) -> Outcome {
+    Outcome {
+        number: refusal.number(),
         length: 0,
-        capture: packets::capture_of(desk),
+        captured: slots::at(desk, slots::CAPTURED),
+        beside: slots::at(desk, slots::BESIDE_CAPTURED),
     }
 }
 
-fn answer(desk: &Desk, tokens: &Tokens, served: Served, before: &Store, after: &Store) -> bool {
+fn answer(desk: &Desk, tokens: &Tokens, outcome: Outcome, before: &Store, after: &Store) -> bool {
     if tokens::is_check(tokens) {
         if judge(
             desk,
             tokens,
-            served,
+            outcome,
             &packets::wanted_of(tokens, before),
             after,
         ) {
             return true;
         }
     }
-    tell(desk, served, before, after);
+    tell(desk, outcome, before, after);
     false
 }
 
-fn judge(desk: &Desk, tokens: &Tokens, served: Served, wanted: &Store, after: &Store) -> bool {
+fn judge(desk: &Desk, tokens: &Tokens, outcome: Outcome, wanted: &Store, after: &Store) -> bool {
     let written = judge_written(desk, tokens, request_of(after), request_of(wanted));
-    written & packets::judge(desk, tokens, served, wanted, after)
+    written & packets::judge(desk, tokens, outcome, wanted, after)
 }
 
 // The request's bytes at the front of its buffer, and the rest untouched.
@@ -138,15 +142,14 @@ fn request_of(store: &Store) -> &[u8] {
 }
 
 // What was written, what became of it, and what is read back; or why nothing was written.
-fn tell(desk: &Desk, served: Served, before: &Store, after: &Store) {
-    let answer = served.answer;
+fn tell(desk: &Desk, outcome: Outcome, before: &Store, after: &Store) {
     let request = packets::sent(desk, after);
     if request.len() == 0 {
-        explaining::put_asking_number(answer.number());
+        explaining::put_asking_number(outcome.number);
         return;
     }
     spaces::tell_part(wording::WRITES, request, 0, request.len());
     say(wording::END);
-    packets::tell(desk, served, before, after);
-    completions::tell_reply(pieces::part(after, spaces::REPLY, served.length));
+    packets::tell(desk, outcome, before, after);
+    completions::tell_reply(pieces::part(after, spaces::REPLY, outcome.length));
 }

@@ -1,5 +1,5 @@
 // What the desk keeps in numbers from line to line, each at a place of its own.
-pub const SLOTS: usize = 27;
+pub const SLOTS: usize = 38;
 
 // The line's number; how many statements had an expectation, and how many of them were right; how many lines were not understood.
 pub const LINE: usize = 0;
@@ -15,58 +15,88 @@ pub const SHEET: usize = 4;
 
 pub const ECHO: usize = 5;
 
-// The board: its function number, A and B, its edition, as large as it was typed, and the capture, bus and device in one number.
-pub const FUNCTION: usize = 6;
+// The board's edition, as large as it was typed, and which of its functions is at hand.
+pub const EDITION: usize = 6;
 
-pub const A: usize = 7;
+pub const ROLE: usize = 7;
 
-pub const B: usize = 8;
+// The function at hand: its number, A and B, and the capture, bus and device in one number; and the same of the one beside it.
+pub const FUNCTION: usize = 8;
 
-pub const EDITION: usize = 9;
+pub const A: usize = 9;
 
-pub const CAPTURED: usize = 10;
+pub const B: usize = 10;
 
-// What is lent to the next question: so much of each of the six buffers, in their order in the store, and of the reply, what leaves, what is
+pub const CAPTURED: usize = 11;
+
+pub const BESIDE_FUNCTION: usize = 12;
+
+pub const BESIDE_A: usize = 13;
+
+pub const BESIDE_B: usize = 14;
+
+pub const BESIDE_CAPTURED: usize = 15;
+
+// What is lent to the next question: so much of each of the twelve buffers, in their order in the store, and of the reply, what leaves, what is
 // written or the list room.
-pub const ORDINARY_SIZE: usize = 11;
+pub const ORDINARY_SIZE: usize = 16;
 
-pub const ORDINARY_RULES_SIZE: usize = 12;
+pub const ORDINARY_RULES_SIZE: usize = 17;
 
-pub const ORDINARY_MARKS_SIZE: usize = 13;
+pub const ORDINARY_MARKS_SIZE: usize = 18;
 
-pub const TRUSTED_SIZE: usize = 14;
+pub const TRUSTED_SIZE: usize = 19;
 
-pub const TRUSTED_RULES_SIZE: usize = 15;
+pub const TRUSTED_RULES_SIZE: usize = 20;
 
-pub const TRUSTED_MARKS_SIZE: usize = 16;
+pub const TRUSTED_MARKS_SIZE: usize = 21;
 
-pub const ROOM: usize = 17;
+pub const BESIDE_ORDINARY_SIZE: usize = 22;
+
+pub const BESIDE_ORDINARY_RULES_SIZE: usize = 23;
+
+pub const BESIDE_ORDINARY_MARKS_SIZE: usize = 24;
+
+pub const BESIDE_TRUSTED_SIZE: usize = 25;
+
+pub const BESIDE_TRUSTED_RULES_SIZE: usize = 26;
+
+pub const BESIDE_TRUSTED_MARKS_SIZE: usize = 27;
+
+pub const ROOM: usize = 28;
 
 // The rest of a line that is too long is being read past.
-pub const SKIPPING: usize = 18;
+pub const SKIPPING: usize = 29;
 
 // The input could not be read to its end.
-pub const UNREAD: usize = 19;
+pub const UNREAD: usize = 30;
 
 // Somebody types, and is asked for each line.
-pub const PROMPT: usize = 20;
+pub const PROMPT: usize = 31;
 
 // How many bytes of a line that is not whole yet the piece begins with.
-pub const REST: usize = 21;
+pub const REST: usize = 32;
 
 // How many ports the switch has.
-pub const PORTS: usize = 22;
+pub const PORTS: usize = 33;
 
 // How many bytes the packet has that stands in the store, or the completion.
-pub const SENT: usize = 23;
+pub const SENT: usize = 34;
 
 // How many of the switch's ports have a record.
-pub const RECORDS: usize = 24;
+pub const RECORDS: usize = 35;
 
 // How many structures a new board is to have, and how many offsets are proposed for them.
-pub const STRUCTURES: usize = 25;
+pub const STRUCTURES: usize = 36;
 
-pub const PROPOSED: usize = 26;
+pub const PROPOSED: usize = 37;
+
+// Which function is at hand: the only one, or one of two.
+pub const ALONE: usize = 0;
+
+pub const PRIMARY: usize = 1;
+
+pub const ALTERNATE: usize = 2;
 
 // The capture while there is none: over every bus and device.
 pub const NOTHING: usize = 0x10000;
@@ -95,14 +125,44 @@ pub fn set(desk: &mut Desk, slot: usize, number: usize) {
     }
 }
 
-// The bench sheet's board, with nothing captured.
+// The bench sheet's board, with nothing captured, and the alternate that it may be given, alike but for its number.
 pub fn begin(desk: &mut Desk) {
+    desk[EDITION] = 1;
+    desk[ROLE] = ALONE;
     desk[FUNCTION] = 0;
     desk[A] = 0x104;
     desk[B] = 0x00c;
-    desk[EDITION] = 1;
     desk[CAPTURED] = NOTHING;
+    desk[BESIDE_FUNCTION] = 1;
+    desk[BESIDE_A] = 0x104;
+    desk[BESIDE_B] = 0x00c;
+    desk[BESIDE_CAPTURED] = NOTHING;
     lend_all(desk);
+}
+
+// The function beside the one at hand is at hand, and the other way round.
+pub fn turn(desk: &mut Desk) {
+    let old = *desk;
+    desk[FUNCTION] = old[BESIDE_FUNCTION];
+    desk[BESIDE_FUNCTION] = old[FUNCTION];
+    desk[A] = old[BESIDE_A];
+    desk[BESIDE_A] = old[A];
+    desk[B] = old[BESIDE_B];
+    desk[BESIDE_B] = old[B];
+    desk[CAPTURED] = old[BESIDE_CAPTURED];
+    desk[BESIDE_CAPTURED] = old[CAPTURED];
+    desk[ORDINARY_SIZE] = old[BESIDE_ORDINARY_SIZE];
+    desk[BESIDE_ORDINARY_SIZE] = old[ORDINARY_SIZE];
+    desk[ORDINARY_RULES_SIZE] = old[BESIDE_ORDINARY_RULES_SIZE];
+    desk[BESIDE_ORDINARY_RULES_SIZE] = old[ORDINARY_RULES_SIZE];
+    desk[ORDINARY_MARKS_SIZE] = old[BESIDE_ORDINARY_MARKS_SIZE];
+    desk[BESIDE_ORDINARY_MARKS_SIZE] = old[ORDINARY_MARKS_SIZE];
+    desk[TRUSTED_SIZE] = old[BESIDE_TRUSTED_SIZE];
+    desk[BESIDE_TRUSTED_SIZE] = old[TRUSTED_SIZE];
+    desk[TRUSTED_RULES_SIZE] = old[BESIDE_TRUSTED_RULES_SIZE];
+    desk[BESIDE_TRUSTED_RULES_SIZE] = old[TRUSTED_RULES_SIZE];
+    desk[TRUSTED_MARKS_SIZE] = old[BESIDE_TRUSTED_MARKS_SIZE];
+    desk[BESIDE_TRUSTED_MARKS_SIZE] = old[TRUSTED_MARKS_SIZE];
 }
 
 // Bus and device in one number.
@@ -110,10 +170,10 @@ pub fn capture(bus: usize, device: usize) -> usize {
     bus << 8 | device
 }
 
-// So much of each of the six buffers, in their order.
+// So much of each of a function's six buffers, in their order.
 pub type Sizes = [usize; 6];
 
-// The next question is lent so much of each buffer.
+// The next question is lent so much of each buffer of the function at hand.
 pub fn lend(desk: &mut Desk, sizes: Sizes) {
     desk[ORDINARY_SIZE] = sizes[0];
     desk[ORDINARY_RULES_SIZE] = sizes[1];
@@ -126,6 +186,12 @@ pub fn lend(desk: &mut Desk, sizes: Sizes) {
 // The next question is lent whole buffers.
 pub fn lend_all(desk: &mut Desk) {
     lend(desk, [words::SPACE; 6]);
+    desk[BESIDE_ORDINARY_SIZE] = words::SPACE;
+    desk[BESIDE_ORDINARY_RULES_SIZE] = words::SPACE;
+    desk[BESIDE_ORDINARY_MARKS_SIZE] = words::SPACE;
+    desk[BESIDE_TRUSTED_SIZE] = words::SPACE;
+    desk[BESIDE_TRUSTED_RULES_SIZE] = words::SPACE;
+    desk[BESIDE_TRUSTED_MARKS_SIZE] = words::SPACE;
     lend_room(desk);
 }
 

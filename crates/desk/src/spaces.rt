@@ -1,11 +1,12 @@
-// The store: the board's six buffers at the desk one behind the other, then the packet that it is sent, or a completion, and the reply, and of the
-// switch what leaves it and its ports. They are filled, put and shown by hand, and held against what they should be.
+// The store: the six buffers of the board's function at hand one behind the other, then those of the one beside it, the packet that the board is sent, or a
+// completion, and the reply, and of the switch what leaves it and its ports. They are filled, put and shown by hand, and held against what they should be.
 use crate::judging;
 use crate::pieces;
 use crate::saying::put;
 use crate::saying::put_bytes;
 use crate::slots;
 use crate::slots::Desk;
+use crate::taking;
 use crate::texts;
 use crate::tokens;
 use crate::tokens::Tokens;
@@ -15,7 +16,7 @@ use crate::wording::say;
 use crate::wording::say_one;
 ghost use Rattle.io.specs.Counts.{Counts};
 
-// The bytes of each of the six: a few more than a space has, so that one of another size can be lent.
+// The bytes of each buffer: a few more than a space has, so that one of another size can be lent.
 pub const LONG: usize = 4100;
 
 pub type Buffer = [u8; LONG];
@@ -32,20 +33,33 @@ pub const TRUSTED_RULES: usize = 16400;
 
 pub const TRUSTED_MARKS: usize = 20500;
 
-// Where the six end: here the packet begins, of up to 64 bytes, and behind it the reply's buffer, that of what leaves, and the ports, three
+// Where the six end: here those of the function beside it begin.
+pub const BESIDE: usize = 24600;
+
+pub const BESIDE_ORDINARY_RULES: usize = 28700;
+
+pub const BESIDE_ORDINARY_MARKS: usize = 32800;
+
+pub const BESIDE_TRUSTED: usize = 36900;
+
+pub const BESIDE_TRUSTED_RULES: usize = 41000;
+
+pub const BESIDE_TRUSTED_MARKS: usize = 45100;
+
+// Where the twelve end: here the packet begins, of up to 64 bytes, and behind it the reply's buffer, that of what leaves, and the ports, three
 // bytes each.
-const BOARD_END: usize = 24600;
+const BOARD_END: usize = 49200;
 
-pub const PACKET: usize = 24600;
+pub const PACKET: usize = 49200;
 
-pub const REPLY: usize = 24664;
+pub const REPLY: usize = 49264;
 
-pub const LEAVING: usize = 24684;
+pub const LEAVING: usize = 49284;
 
-pub const PORTS: usize = 24708;
+pub const PORTS: usize = 49308;
 
 // Past the ports, of which a line has up to 42, are a few bytes more, so that no byte of them ends where the store does.
-pub const STORE: usize = 24840;
+pub const STORE: usize = 49440;
 
 pub type Store = [u8; STORE];
 
@@ -101,6 +115,19 @@ pub fn copy_of(store: &Store, base: usize) -> Buffer {
 
 pub fn put_back(store: &mut Store, base: usize, buffer: &Buffer) {
     words::put(store, base, buffer);
+}
+
+// The buffers of the function beside the one at hand change places with those of that one.
+pub fn turn(store: &mut Store) {
+    let old = *store;
+    words::put(store, 0, pieces::part(&old, BESIDE, BESIDE));
+    words::put(store, BESIDE, pieces::part(&old, 0, BESIDE));
+}
+
+// Those of the function beside the one at hand become the same.
+pub fn copy_beside(store: &mut Store) {
+    let old = *store;
+    words::put(store, BESIDE, pieces::part(&old, 0, BESIDE));
 }
 
 // Puts the bytes that stand behind the words of buffers, from a place of the tokens to another: an offset and the bytes there, or the bytes
@@ -163,15 +190,16 @@ fn tell_place(desk: &Desk, judging: bool, word: usize) {
     } else {
         say(wording::INDENT);
     }
-    put_buffer(word / LONG);
+    put_buffer(desk, word);
     say_one(wording::SHOWN, word % LONG);
 }
 
-// The name of a buffer.
-pub fn put_buffer(number: usize) {
+// The name of the buffer that has a place of the store.
+pub fn put_buffer(desk: &Desk, place: usize) {
+    taking::put_role(desk, place);
     put(texts::entry(
         b"ordinary \nordinary-rules \nordinary-marks \ntrusted \ntrusted-rules \ntrusted-marks \n",
-        number,
+        place % BESIDE / LONG,
     ));
 }
 

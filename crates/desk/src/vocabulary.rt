@@ -23,143 +23,148 @@ pub const OPEN: usize = 7;
 
 pub const BLANK: usize = 8;
 
-pub const FUNCTION: usize = 9;
+pub const TAKE: usize = 9;
 
-pub const A: usize = 10;
+pub const FUNCTION: usize = 10;
 
-pub const B: usize = 11;
+pub const A: usize = 11;
 
-pub const EDITION: usize = 12;
+pub const B: usize = 12;
 
-pub const CAPTURED: usize = 13;
+pub const EDITION: usize = 13;
 
-pub const FORGOTTEN: usize = 14;
+pub const CAPTURED: usize = 14;
 
-pub const ORDINARY: usize = 15;
+pub const FORGOTTEN: usize = 15;
 
-pub const TRUSTED: usize = 16;
+pub const ORDINARY: usize = 16;
 
-pub const ORDINARY_RULES: usize = 17;
+pub const TRUSTED: usize = 17;
 
-pub const TRUSTED_RULES: usize = 18;
+pub const ORDINARY_RULES: usize = 18;
 
-pub const ORDINARY_MARKS: usize = 19;
+pub const TRUSTED_RULES: usize = 19;
 
-pub const TRUSTED_MARKS: usize = 20;
+pub const ORDINARY_MARKS: usize = 20;
 
-pub const CHAIN: usize = 21;
+pub const TRUSTED_MARKS: usize = 21;
 
-pub const PORTS: usize = 22;
+pub const CHAIN: usize = 22;
 
-pub const RECORDS: usize = 23;
+pub const PORTS: usize = 23;
 
-pub const RECORD: usize = 24;
+pub const RECORDS: usize = 24;
 
-pub const STRUCTURES: usize = 25;
+pub const RECORD: usize = 25;
 
-pub const MORE: usize = 26;
+pub const STRUCTURES: usize = 26;
 
-pub const PROPOSAL: usize = 27;
+pub const MORE: usize = 27;
 
-pub const MOVE: usize = 28;
+pub const PROPOSAL: usize = 28;
 
-pub const SIZES: usize = 29;
+pub const MOVE: usize = 29;
 
-pub const ROOM: usize = 30;
+pub const SIZES: usize = 30;
+
+pub const ROOM: usize = 31;
 
 // To look, and the questions.
-pub const SHOW: usize = 31;
+pub const SHOW: usize = 32;
 
-pub const PACKET: usize = 32;
+pub const PACKET: usize = 33;
 
-pub const RESET: usize = 33;
+pub const RESET: usize = 34;
 
-pub const MERGE: usize = 34;
+pub const MERGE: usize = 35;
 
-pub const WALK: usize = 35;
+pub const WALK: usize = 36;
 
-pub const DVSEC: usize = 36;
+pub const DVSEC: usize = 37;
 
-pub const DUAL: usize = 37;
+pub const DUAL: usize = 38;
 
-pub const ROUTE: usize = 38;
+pub const ROUTE: usize = 39;
 
-pub const ASK: usize = 39;
+pub const ASK: usize = 40;
 
-pub const COMPLETION: usize = 40;
+pub const COMPLETION: usize = 41;
 
-pub const MULTICAST: usize = 41;
+pub const MULTICAST: usize = 42;
 
-pub const KEEP: usize = 42;
+pub const KEEP: usize = 43;
 
-pub const JUDGE: usize = 43;
+pub const JUDGE: usize = 44;
 
-pub const PLAN: usize = 44;
+pub const PLAN: usize = 45;
 
-pub const ACCEPT: usize = 45;
+pub const ACCEPT: usize = 46;
 
-pub const WRITE: usize = 46;
+pub const WRITE: usize = 47;
 
 // What is only expected.
-pub const NUMBER: usize = 47;
+pub const NUMBER: usize = 48;
 
-pub const REPLY: usize = 48;
+pub const REPLY: usize = 49;
 
-pub const BYTES: usize = 49;
+pub const BYTES: usize = 50;
 
-pub const OFFSETS: usize = 50;
+pub const OFFSETS: usize = 51;
 
-pub const STEPS: usize = 51;
+pub const STEPS: usize = 52;
 
-pub const PLACE: usize = 52;
+pub const PLACE: usize = 53;
 
-pub const HEADER: usize = 53;
+pub const HEADER: usize = 54;
 
-pub const BODY: usize = 54;
+pub const BODY: usize = 55;
 
-pub const ALTERNATE: usize = 55;
+pub const ALTERNATE: usize = 56;
 
-pub const PORT: usize = 56;
+pub const PORT: usize = 57;
 
-pub const LEAVES: usize = 57;
+pub const LEAVES: usize = 58;
 
-pub const WRITES: usize = 58;
+pub const WRITES: usize = 59;
 
-pub const COMPLETER: usize = 59;
+pub const COMPLETER: usize = 60;
 
-pub const REQUESTER: usize = 60;
+pub const REQUESTER: usize = 61;
 
-pub const TAG: usize = 61;
+pub const TAG: usize = 62;
 
-pub const SHOWN: usize = 62;
+pub const SHOWN: usize = 63;
 
-pub const DONE: usize = 63;
+pub const DONE: usize = 64;
 
-pub const UNSUPPORTED: usize = 64;
+pub const UNSUPPORTED: usize = 65;
 
-pub const FIELDS: usize = 65;
+pub const FIELDS: usize = 66;
 
-pub const GROUP: usize = 66;
+pub const GROUP: usize = 67;
 
-pub const LEAVES_BY: usize = 67;
+pub const LEAVES_BY: usize = 68;
 
-pub const DROPPED: usize = 68;
+pub const DROPPED: usize = 69;
 
-pub const NO_HIT: usize = 69;
+pub const NO_HIT: usize = 70;
 
-pub const HEADERS: usize = 70;
+pub const HEADERS: usize = 71;
 
-pub const ALIKE: usize = 71;
+pub const ALIKE: usize = 72;
 
 // The lists, beside the trusted one.
-pub const COMPATIBLE: usize = 72;
+pub const COMPATIBLE: usize = 73;
 
-pub const EXTENDED: usize = 73;
+pub const EXTENDED: usize = 74;
+
+// A function of a board, beside the alternate.
+pub const PRIMARY: usize = 75;
 
 // The marks of an expectation.
-pub const ARROW: usize = 74;
+pub const ARROW: usize = 76;
 
-pub const COMMA: usize = 75;
+pub const COMMA: usize = 77;
 
 // The table has the words in the order of their numbers, from HELP on.
 pub fn word_of(text: &[u8]) -> usize {
@@ -172,6 +177,7 @@ end
 fresh
 open
 blank
+take
 function
 A
 B
@@ -237,6 +243,7 @@ headers
 alike
 compatible
 extended
+primary
 ->
 ,
 ",

@@ -39,190 +39,196 @@ pub const ADDRESS: usize = 14;
 
 pub const NOTHING: usize = 15;
 
+pub const BY_PRIMARY: usize = 16;
+
+pub const BY_ALTERNATE: usize = 17;
+
 // Bytes of the board.
-pub const UNCHANGED: usize = 16;
+pub const UNCHANGED: usize = 18;
 
-pub const INDENT: usize = 17;
+pub const INDENT: usize = 19;
 
-pub const BECOMES: usize = 18;
+pub const BECOMES: usize = 20;
 
-pub const EXPECTED: usize = 19;
+pub const EXPECTED: usize = 21;
 
-pub const MERGED: usize = 20;
+pub const MERGED: usize = 22;
 
-pub const SHOWN: usize = 21;
+pub const SHOWN: usize = 23;
 
-pub const TWICE: usize = 22;
+pub const TWICE: usize = 24;
 
-// An edition that no board has.
-pub const OTHER_EDITION: usize = 23;
+// An edition that no board has, and a number that both functions have.
+pub const OTHER_EDITION: usize = 25;
+
+pub const SAME_NUMBER: usize = 26;
 
 // Lists and records.
-pub const LISTED: usize = 24;
+pub const LISTED: usize = 27;
 
-pub const SHORT_HEADER: usize = 25;
+pub const SHORT_HEADER: usize = 28;
 
-pub const LONG_HEADER: usize = 26;
+pub const LONG_HEADER: usize = 29;
 
-pub const HOLDER: usize = 27;
+pub const HOLDER: usize = 30;
 
-pub const NO_HOLDER: usize = 28;
+pub const NO_HOLDER: usize = 31;
 
-pub const ALTERNATE: usize = 29;
+pub const ALTERNATE: usize = 32;
 
-pub const HEADER: usize = 30;
+pub const HEADER: usize = 33;
 
-pub const BODY: usize = 31;
+pub const BODY: usize = 34;
 
 // A Multicast capability.
-pub const GROUPS: usize = 32;
+pub const GROUPS: usize = 35;
 
-pub const WINDOWS: usize = 33;
+pub const WINDOWS: usize = 36;
 
-pub const RECEIVE: usize = 34;
+pub const RECEIVE: usize = 37;
 
-pub const BLOCK_ALL: usize = 35;
+pub const BLOCK_ALL: usize = 38;
 
-pub const CLASH: usize = 36;
+pub const CLASH: usize = 39;
 
-pub const KEPT: usize = 37;
+pub const KEPT: usize = 40;
 
 // What leaves the switch.
-pub const LEAVES: usize = 38;
+pub const LEAVES: usize = 41;
 
-pub const TURNED: usize = 39;
+pub const TURNED: usize = 42;
 
 // An address that is judged at the switch.
-pub const NOT_ENABLED: usize = 40;
+pub const NOT_ENABLED: usize = 43;
 
-pub const BELOW_BASE: usize = 41;
+pub const BELOW_BASE: usize = 44;
 
-pub const PAST_LAST: usize = 42;
+pub const PAST_LAST: usize = 45;
 
-pub const DROPPED: usize = 43;
+pub const DROPPED: usize = 46;
 
-pub const LEAVES_BY: usize = 44;
+pub const LEAVES_BY: usize = 47;
 
-pub const LEAVES_NOWHERE: usize = 45;
+pub const LEAVES_NOWHERE: usize = 48;
 
-pub const TOO_MANY_RECORDS: usize = 46;
+pub const TOO_MANY_RECORDS: usize = 49;
 
-pub const NO_SUCH_PORT: usize = 47;
+pub const NO_SUCH_PORT: usize = 50;
 
-pub const NO_RECORD: usize = 48;
+pub const NO_RECORD: usize = 51;
 
 // A new board: what is proposed for its structures, what is written, and why not.
-pub const PLACED: usize = 49;
+pub const PLACED: usize = 52;
 
-pub const LISTING: usize = 50;
+pub const LISTING: usize = 53;
 
-pub const LISTED_HEADER: usize = 51;
+pub const LISTED_HEADER: usize = 54;
 
-pub const NO_STRUCTURE: usize = 52;
+pub const NO_STRUCTURE: usize = 55;
 
-pub const TOO_MANY_STRUCTURES: usize = 53;
+pub const TOO_MANY_STRUCTURES: usize = 56;
 
-pub const BAD_STRUCTURE: usize = 54;
+pub const BAD_STRUCTURE: usize = 57;
 
-pub const FEW_ENTRIES: usize = 55;
+pub const FEW_ENTRIES: usize = 58;
 
-pub const NEEDED: usize = 56;
+pub const NEEDED: usize = 59;
 
-pub const OTHER_COUNT: usize = 57;
+pub const OTHER_COUNT: usize = 60;
 
 // The rules behind one offset a structure, in the order of the request.
-pub const NOT_FIRST: usize = 58;
+pub const NOT_FIRST: usize = 61;
 
-pub const UNALIGNED: usize = 59;
+pub const UNALIGNED: usize = 62;
 
-pub const NOT_RISING: usize = 60;
+pub const NOT_RISING: usize = 63;
 
-pub const OVERLAPS: usize = 61;
+pub const OVERLAPS: usize = 64;
 
-pub const PAST_END: usize = 62;
+pub const PAST_END: usize = 65;
 
-pub const OTHER_SIZE: usize = 63;
+pub const OTHER_SIZE: usize = 66;
 
 // What the asking side writes, and what it reads.
-pub const WRITES: usize = 64;
+pub const WRITES: usize = 67;
 
-pub const READS: usize = 65;
+pub const READS: usize = 68;
 
-pub const READS_DATA: usize = 66;
+pub const READS_DATA: usize = 69;
 
-pub const READS_DONE: usize = 67;
+pub const READS_DONE: usize = 70;
 
-pub const READS_UR: usize = 68;
+pub const READS_UR: usize = 71;
 
 // What is not as expected.
-pub const DIFFERENCE: usize = 69;
+pub const DIFFERENCE: usize = 72;
 
-pub const WRONG_NUMBER: usize = 70;
+pub const WRONG_NUMBER: usize = 73;
 
-pub const WRONG_LENGTH: usize = 71;
+pub const WRONG_LENGTH: usize = 74;
 
-pub const WRONG_BYTE: usize = 72;
+pub const WRONG_BYTE: usize = 75;
 
-pub const WRONG_CAPTURE: usize = 73;
+pub const WRONG_CAPTURE: usize = 76;
 
-pub const EXPECTED_CAPTURE: usize = 74;
+pub const EXPECTED_CAPTURE: usize = 77;
 
-pub const WRONG_BYTES: usize = 75;
+pub const WRONG_BYTES: usize = 78;
 
-pub const WRONG_COUNT: usize = 76;
+pub const WRONG_COUNT: usize = 79;
 
-pub const WRONG_PLACE: usize = 77;
+pub const WRONG_PLACE: usize = 80;
 
-pub const WRONG_ENTRY: usize = 78;
+pub const WRONG_ENTRY: usize = 81;
 
-pub const WRONG_FIELDS: usize = 79;
+pub const WRONG_FIELDS: usize = 82;
 
-pub const WRONG_FIELD: usize = 80;
+pub const WRONG_FIELD: usize = 83;
 
-pub const WRONG_BODY: usize = 81;
+pub const WRONG_BODY: usize = 84;
 
-pub const WRONG_BODY_PLACE: usize = 82;
+pub const WRONG_BODY_PLACE: usize = 85;
 
-pub const WRONG_PORT: usize = 83;
+pub const WRONG_PORT: usize = 86;
 
-pub const WRONG_LEAVING: usize = 84;
+pub const WRONG_LEAVING: usize = 87;
 
-pub const WRONG_LEAVING_BYTE: usize = 85;
+pub const WRONG_LEAVING_BYTE: usize = 88;
 
-pub const WRONG_WRITTEN: usize = 86;
+pub const WRONG_WRITTEN: usize = 89;
 
-pub const WRONG_WRITTEN_BYTE: usize = 87;
+pub const WRONG_WRITTEN_BYTE: usize = 90;
 
-pub const WRONG_SAID: usize = 88;
+pub const WRONG_SAID: usize = 91;
 
-pub const WRONG_COMPLETER: usize = 89;
+pub const WRONG_COMPLETER: usize = 92;
 
-pub const WRONG_REQUESTER: usize = 90;
+pub const WRONG_REQUESTER: usize = 93;
 
-pub const WRONG_TAG: usize = 91;
+pub const WRONG_TAG: usize = 94;
 
-pub const WRONG_SHOWN: usize = 92;
+pub const WRONG_SHOWN: usize = 95;
 
-pub const WRONG_GROUP: usize = 93;
+pub const WRONG_GROUP: usize = 96;
 
-pub const WRONG_PORTS: usize = 94;
+pub const WRONG_PORTS: usize = 97;
 
-pub const NONE: usize = 95;
+pub const NONE: usize = 98;
 
-pub const ONE: usize = 96;
+pub const ONE: usize = 99;
 
 // The session.
-pub const LINE: usize = 97;
+pub const LINE: usize = 100;
 
-pub const PROMPT: usize = 98;
+pub const PROMPT: usize = 101;
 
-pub const QUOTE: usize = 99;
+pub const QUOTE: usize = 102;
 
-pub const UNQUOTE: usize = 100;
+pub const UNQUOTE: usize = 103;
 
-pub const LINE_END: usize = 101;
+pub const LINE_END: usize = 104;
 
-pub const TALLY: usize = 102;
+pub const TALLY: usize = 105;
 
 // A text with its numbers, as many as it has places for.
 pub fn say_all(
@@ -250,6 +256,8 @@ number %d:%_
   captured:%_
 bus %2 device %2
 nothing
+primary%_
+, alternate%_
   no byte changed%n
  %_
  ->
@@ -258,6 +266,7 @@ nothing
 %3:
 %3: rule %2 and mark %2 have a bit in common%n
   edition %v is neither 1 nor 2%n
+  both functions have the number %v%n
   listed: %v%n
   %3: ID %2%n
   %3: ID %4 version %1%n

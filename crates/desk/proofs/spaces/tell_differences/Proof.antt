@@ -8,7 +8,7 @@ abbrev Inv-loop : tie.InvT-loop
 Inv-loop desk judging one other word₀ told₀ word told = Unit {0}
 
 abbrev μ-loop : tie.MeasureT-loop
-μ-loop desk judging one other word₀ told₀ word told = 24600 - word
+μ-loop desk judging one other word₀ told₀ word told = 49200 - word
 
 loop-holds : tie.Need-loop-holds Inv-loop μ-loop
 loop-holds c = search needs
