@@ -9,6 +9,7 @@ use crate::keeping;
 use crate::keeping::Records;
 use crate::laying;
 use crate::packets;
+use crate::pieces;
 use crate::planning;
 use crate::reading;
 use crate::requests;
@@ -47,7 +48,9 @@ pub fn perform(
 ) {
     let word = tokens::word(tokens, 0);
     match word {
-        vocabulary::FRESH | vocabulary::OPEN | vocabulary::BLANK => begin_board(desk, store, word),
+        vocabulary::FRESH | vocabulary::OPEN | vocabulary::BLANK | vocabulary::TAKE => {
+            begin(desk, tokens, store);
+        }
         vocabulary::ORDINARY
         | vocabulary::TRUSTED
         | vocabulary::ORDINARY_RULES
@@ -57,7 +60,6 @@ pub fn perform(
             spaces::put_behind(store, tokens, 0, tokens::count(tokens));
             done();
         }
-        vocabulary::TAKE => take(desk, tokens, store),
         vocabulary::CHAIN => put_chain(desk, tokens, store),
         vocabulary::PORTS => put_ports(desk, tokens, store),
         vocabulary::RECORDS => begin_records(desk, tokens, records),
@@ -84,33 +86,14 @@ pub fn perform(
     }
 }
 
-fn begin_board(desk: &mut Desk, store: &mut Store, word: usize) {
-    slots::begin(desk);
-    match word {
-        vocabulary::FRESH => fill(store, ORDINARY, TRUSTED, 0),
-        vocabulary::OPEN => fill(store, ORDINARY, TRUSTED, 0xff),
-        _ => fill(store, 0, 0, 0),
+// A new board, or another function of the one that is there.
+fn begin(desk: &mut Desk, tokens: &Tokens, store: &mut Store) {
+    match tokens::word(tokens, 0) {
+        vocabulary::FRESH => begin_board(desk, store, ORDINARY, TRUSTED, 0),
+        vocabulary::OPEN => begin_board(desk, store, ORDINARY, TRUSTED, 0xff),
+        vocabulary::BLANK => begin_board(desk, store, 0, 0, 0),
+        _ => taking::take(desk, store, role_of(tokens::word(tokens, 1))),
     }
-    done();
-}
-
-// No bit of a new board is marked. The alternate that it may be given has the same bytes.
-fn fill(store: &mut Store, ordinary: u8, trusted: u8, rule: u8) {
-    put_all(store, spaces::ORDINARY, ordinary);
-    put_all(store, spaces::ORDINARY_RULES, rule);
-    put_all(store, spaces::ORDINARY_MARKS, 0);
-    put_all(store, spaces::TRUSTED, trusted);
-    put_all(store, spaces::TRUSTED_RULES, rule);
-    put_all(store, spaces::TRUSTED_MARKS, 0);
-    spaces::copy_beside(store);
-}
-
-fn put_all(store: &mut Store, base: usize, byte: u8) {
-    spaces::put_back(store, base, &[byte; LONG]);
-}
-
-fn take(desk: &mut Desk, tokens: &Tokens, store: &mut Store) {
-    taking::take(desk, store, role_of(tokens::word(tokens, 1)));
     done();
 }
 
@@ -120,6 +103,27 @@ fn role_of(name: usize) -> usize {
     } else {
         slots::PRIMARY
     }
+}
+
+// No bit of a new board is marked. The alternate that it may be given has the same bytes.
+fn begin_board(desk: &mut Desk, store: &mut Store, ordinary: u8, trusted: u8, rule: u8) {
+    slots::begin(desk);
+    put_all(store, spaces::ORDINARY, ordinary);
+    put_all(store, spaces::ORDINARY_RULES, rule);
+    put_all(store, spaces::ORDINARY_MARKS, 0);
+    put_all(store, spaces::TRUSTED, trusted);
+    put_all(store, spaces::TRUSTED_RULES, rule);
+    put_all(store, spaces::TRUSTED_MARKS, 0);
+    let made = *store;
+    words::put(
+        store,
+        spaces::BESIDE,
+        pieces::part(&made, 0, spaces::BESIDE),
+    );
+}
+
+fn put_all(store: &mut Store, base: usize, byte: u8) {
+    spaces::put_back(store, base, &[byte; LONG]);
 }
 
 fn put_chain(desk: &mut Desk, tokens: &Tokens, store: &mut Store) {
@@ -199,16 +203,22 @@ fn ask_of_layout(
     slots::lend_all(desk);
 }
 
-// A question is lent what was said before it, and the next one everything again; and the function is at hand again that was. What is to be kept wants a
-// place first.
+// While a question is asked, the function that it names is at hand.
 fn ask(desk: &mut Desk, tokens: &Tokens, store: &mut Store, records: &mut Records) {
+    let role = slots::at(desk, slots::ROLE);
+    taking::take_named(desk, tokens, store);
+    put_question(desk, tokens, store, records);
+    taking::take(desk, store, role);
+}
+
+// A question is lent what was said before it, and the next one everything again. What is to be kept wants a place first.
+fn put_question(desk: &mut Desk, tokens: &Tokens, store: &mut Store, records: &mut Records) {
     if tokens::word(tokens, 0) == vocabulary::KEEP {
         if !keeping::is_listed(desk, tokens::at(tokens, 3)) {
             faults::tell_whole(desk, faults::NO_RECORD);
             return;
         }
     }
-    let role = slots::at(desk, slots::ROLE);
     let right = match tokens::word(tokens, 0) {
         vocabulary::PACKET => packets::ask(desk, tokens, store),
         vocabulary::RESET => packets::reset(desk, tokens),
@@ -225,7 +235,6 @@ fn ask(desk: &mut Desk, tokens: &Tokens, store: &mut Store, records: &mut Record
         vocabulary::JUDGE => verdicts::ask(desk, tokens, records),
         _ => ask_of_space(desk, tokens, store),
     };
-    taking::take(desk, store, role);
     judging::count(desk, tokens, right);
     slots::lend_all(desk);
 }

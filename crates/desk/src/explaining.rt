@@ -337,9 +337,10 @@ pub fn put_captures(desk: &Desk, text: usize, captured: usize, beside: usize) {
 }
 
 fn put_both(primary: usize, alternate: usize) {
-    say(wording::BY_PRIMARY);
+    say(wording::PRIMARY);
     put_capture(primary);
-    say(wording::BY_ALTERNATE);
+    say(wording::AND);
+    say(wording::ALTERNATE);
     put_capture(alternate);
 }
 

@@ -14,10 +14,12 @@ use crate::tokens::Tokens;
 use crate::vocabulary;
 use crate::wording;
 use crate::wording::say;
+use answers::Answer;
 use board::Description;
 use capture::Capture;
 use pair::Captures;
 use pair::Function;
+use pair::Served;
 
 // The bytes of the reply's buffer, and the byte that fills it before a packet is served.
 const REPLY: usize = 20;
@@ -38,22 +40,12 @@ pub struct Outcome {
 // Says, as every question here, whether it is a check that was right.
 pub fn ask(desk: &mut Desk, tokens: &Tokens, store: &mut Store) -> bool {
     take_bytes(desk, tokens, store);
-    let number = named_in(sent(desk, store));
-    taking::take_named(desk, store, number);
     clear_reply(store);
     let before = *store;
     let outcome = send(desk, store);
     let right = answer(desk, tokens, outcome, &before, store);
     keep_captures(desk, outcome);
     right
-}
-
-// The function that byte 9 of a packet names; one that is too short names none.
-fn named_in(packet: &[u8]) -> usize {
-    if packet.len() < 12 {
-        return slots::NOTHING;
-    }
-    pieces::value_of(packet, 9) % 8
 }
 
 // The bytes behind a question's word are put into the store: a packet, or a completion.
@@ -76,123 +68,135 @@ pub fn keep_captures(desk: &mut Desk, outcome: Outcome) {
     slots::set(desk, slots::BESIDE_CAPTURED, outcome.beside);
 }
 
-// A board of two functions is served with its primary at hand.
+// The board is served with its primary at hand.
 pub fn send(desk: &mut Desk, store: &mut Store) -> Outcome {
     let role = slots::at(desk, slots::ROLE);
-    if role == slots::ALONE {
-        return send_to_one(desk, store);
-    }
     taking::take(desk, store, slots::PRIMARY);
-    let served = send_to_two(desk, store);
+    let outcome = lend(desk, store);
     taking::take(desk, store, role);
-    outcome_of(served, role)
+    if role == slots::ALTERNATE {
+        return Outcome {
+            number: outcome.number,
+            length: outcome.length,
+            captured: outcome.beside,
+            beside: outcome.captured,
+        };
+    }
+    outcome
 }
 
 // The board is lent its buffers out of the store, each as far as the desk says, and what it leaves in the spaces and the reply is put back.
-fn send_to_one(desk: &Desk, store: &mut Store) -> Outcome {
+fn lend(desk: &Desk, store: &mut Store) -> Outcome {
     let mut ordinary = spaces::copy_of(store, spaces::ORDINARY);
     let mut trusted = spaces::copy_of(store, spaces::TRUSTED);
     let mut reply = [UNTOUCHED; REPLY];
     let first = spaces::within(desk, slots::ORDINARY_SIZE, &ordinary);
     let second = spaces::within(desk, slots::TRUSTED_SIZE, &trusted);
     let room = spaces::within(desk, slots::ROOM, &reply);
-    let lent = &*store;
-    let served = board::serve(
-        description_of(desk),
-        capture_of(desk, slots::CAPTURED),
+    let outcome = serve(
+        desk,
+        store,
         &mut ordinary[..first],
-        spaces::lent(desk, lent, spaces::ORDINARY_RULES),
-        spaces::lent(desk, lent, spaces::ORDINARY_MARKS),
         &mut trusted[..second],
-        spaces::lent(desk, lent, spaces::TRUSTED_RULES),
-        spaces::lent(desk, lent, spaces::TRUSTED_MARKS),
-        sent(desk, lent),
         &mut reply[..room],
     );
     spaces::put_back(store, spaces::ORDINARY, &ordinary);
     spaces::put_back(store, spaces::TRUSTED, &trusted);
     keep_reply(store, &reply);
-    outcome_alone(served)
+    outcome
 }
 
-// Nothing stands beside a function that is alone.
-fn outcome_alone(served: board::Served) -> Outcome {
-    let answer = served.answer;
-    let state = served.capture;
-    Outcome {
-        number: answer.number(),
-        length: served.length,
-        captured: capture_number(state),
-        beside: slots::NOTHING,
+// Of a board of one function these are all that it writes.
+fn serve(
+    desk: &Desk,
+    store: &mut Store,
+    ordinary: &mut [u8],
+    trusted: &mut [u8],
+    reply: &mut [u8],
+) -> Outcome {
+    if slots::at(desk, slots::ROLE) != slots::ALONE {
+        return outcome_of(serve_two(desk, store, ordinary, trusted, reply));
     }
+    let lent = &*store;
+    outcome_alone(board::serve(
+        description_of(desk),
+        capture_of(desk, slots::CAPTURED),
+        ordinary,
+        spaces::lent(desk, lent, spaces::ORDINARY_RULES),
+        spaces::lent(desk, lent, spaces::ORDINARY_MARKS),
+        trusted,
+        spaces::lent(desk, lent, spaces::TRUSTED_RULES),
+        spaces::lent(desk, lent, spaces::TRUSTED_MARKS),
+        sent(desk, lent),
+        reply,
+    ))
 }
 
-// The same of two functions.
-fn send_to_two(desk: &Desk, store: &mut Store) -> pair::Served {
-    let mut ordinary = spaces::copy_of(store, spaces::ORDINARY);
-    let first = spaces::within(desk, slots::ORDINARY_SIZE, &ordinary);
-    let primary_ordinary = &mut ordinary[..first];
-    let mut trusted = spaces::copy_of(store, spaces::TRUSTED);
-    let second = spaces::within(desk, slots::TRUSTED_SIZE, &trusted);
-    let primary_trusted = &mut trusted[..second];
-    let mut beside_ordinary = spaces::copy_of(store, spaces::BESIDE);
-    let third = spaces::within(desk, slots::BESIDE_ORDINARY_SIZE, &beside_ordinary);
-    let alternate_ordinary = &mut beside_ordinary[..third];
-    let mut beside_trusted = spaces::copy_of(store, spaces::BESIDE_TRUSTED);
-    let fourth = spaces::within(desk, slots::BESIDE_TRUSTED_SIZE, &beside_trusted);
-    let alternate_trusted = &mut beside_trusted[..fourth];
-    let mut reply = [UNTOUCHED; REPLY];
-    let room = spaces::within(desk, slots::ROOM, &reply);
-    let written = &mut reply[..room];
+// Of a board of two, the alternate's spaces are lent and put back in the same way.
+fn serve_two(
+    desk: &Desk,
+    store: &mut Store,
+    ordinary: &mut [u8],
+    trusted: &mut [u8],
+    reply: &mut [u8],
+) -> Served {
+    let mut alternate_ordinary = spaces::copy_of(store, spaces::BESIDE);
+    let mut alternate_trusted = spaces::copy_of(store, spaces::BESIDE_TRUSTED);
+    let first = spaces::within(desk, slots::BESIDE_ORDINARY_SIZE, &alternate_ordinary);
+    let second = spaces::within(desk, slots::BESIDE_TRUSTED_SIZE, &alternate_trusted);
+    let lent_ordinary = &mut alternate_ordinary[..first];
+    let lent_trusted = &mut alternate_trusted[..second];
     let lent = &*store;
     let served = pair::serve(
         edition_of(desk),
         function_of(desk, slots::FUNCTION),
         function_of(desk, slots::BESIDE_FUNCTION),
         captures_of(desk),
-        primary_ordinary,
+        ordinary,
         spaces::lent(desk, lent, spaces::ORDINARY_RULES),
         spaces::lent(desk, lent, spaces::ORDINARY_MARKS),
-        primary_trusted,
+        trusted,
         spaces::lent(desk, lent, spaces::TRUSTED_RULES),
         spaces::lent(desk, lent, spaces::TRUSTED_MARKS),
-        alternate_ordinary,
+        lent_ordinary,
         spaces::lent(desk, lent, spaces::BESIDE_ORDINARY_RULES),
         spaces::lent(desk, lent, spaces::BESIDE_ORDINARY_MARKS),
-        alternate_trusted,
+        lent_trusted,
         spaces::lent(desk, lent, spaces::BESIDE_TRUSTED_RULES),
         spaces::lent(desk, lent, spaces::BESIDE_TRUSTED_MARKS),
         sent(desk, lent),
-        written,
+        reply,
     );
-    spaces::put_back(store, spaces::ORDINARY, &ordinary);
-    spaces::put_back(store, spaces::TRUSTED, &trusted);
-    spaces::put_back(store, spaces::BESIDE, &beside_ordinary);
-    spaces::put_back(store, spaces::BESIDE_TRUSTED, &beside_trusted);
-    keep_reply(store, &reply);
+    spaces::put_back(store, spaces::BESIDE, &alternate_ordinary);
+    spaces::put_back(store, spaces::BESIDE_TRUSTED, &alternate_trusted);
     served
 }
 
-// With this function at hand.
-fn outcome_of(served: pair::Served, role: usize) -> Outcome {
+fn outcome_of(served: Served) -> Outcome {
     let answer = served.answer;
     let kept = served.kept;
     let primary = kept.primary;
     let alternate = kept.alternate;
-    if role == slots::ALTERNATE {
-        return Outcome {
-            number: answer.number(),
-            length: served.length,
-            captured: capture_number(alternate),
-            beside: capture_number(primary),
-        };
-    }
     Outcome {
         number: answer.number(),
         length: served.length,
         captured: capture_number(primary),
         beside: capture_number(alternate),
     }
+}
+
+// Beside a function that is alone nothing is captured.
+fn outcome_alone(served: board::Served) -> Outcome {
+    let answer = served.answer;
+    let primary = served.capture;
+    outcome_of(Served {
+        answer,
+        length: served.length,
+        kept: Captures {
+            primary,
+            alternate: Capture::Nothing,
+        },
+    })
 }
 
 fn keep_reply(store: &mut Store, reply: &Reply) {
@@ -357,21 +361,14 @@ fn wanted_capture(desk: &Desk, tokens: &Tokens) -> usize {
 
 // A reset is asked for. What is expected of one function is expected of both.
 pub fn reset(desk: &mut Desk, tokens: &Tokens) -> bool {
-    let outcome = outcome_of_reset(pair::reset(captures_of(desk)));
+    let outcome = outcome_of(Served {
+        answer: Answer::Done,
+        length: 0,
+        kept: pair::reset(captures_of(desk)),
+    });
     let right = answer_reset(desk, tokens, outcome);
     keep_captures(desk, outcome);
     right
-}
-
-fn outcome_of_reset(kept: Captures) -> Outcome {
-    let captured = kept.primary;
-    let beside = kept.alternate;
-    Outcome {
-        number: 0,
-        length: 0,
-        captured: capture_number(captured),
-        beside: capture_number(beside),
-    }
 }
 
 fn answer_reset(desk: &Desk, tokens: &Tokens, outcome: Outcome) -> bool {

@@ -87,7 +87,7 @@ fn tell(fields: &[usize], body: &[u8]) {
     match fields.len() {
         0 => {}
         2 => say_two(
-            wording::ALTERNATE,
+            wording::FOUND,
             pieces::number_at(fields, 0),
             pieces::number_at(fields, 1),
         ),

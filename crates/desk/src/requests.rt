@@ -10,7 +10,6 @@ use crate::slots;
 use crate::slots::Desk;
 use crate::spaces;
 use crate::spaces::Store;
-use crate::taking;
 use crate::tokens;
 use crate::tokens::Tokens;
 use crate::vocabulary;
@@ -28,14 +27,11 @@ const UNTOUCHED: u8 = 0xee;
 
 type Request = [u8; REQUEST];
 
-// Where the function stands in a line, and the data where it has some.
-const FUNCTION: usize = 7;
-
+// Where the data stands in a line that has some.
 const DATA: usize = 10;
 
 // The request is written to where the packet stands in the store. Says whether this is a check that was right.
 pub fn ask(desk: &mut Desk, tokens: &Tokens, store: &mut Store) -> bool {
-    taking::take_named(desk, store, tokens::at(tokens, FUNCTION));
     keep_request(store, &[UNTOUCHED; REQUEST]);
     packets::clear_reply(store);
     let before = *store;
@@ -83,7 +79,7 @@ fn parts_of(tokens: &Tokens) -> Parts {
         tag: tokens::byte(tokens, 4),
         bus: tokens::byte(tokens, 5),
         device: tokens::byte(tokens, 6),
-        function: tokens::byte(tokens, FUNCTION),
+        function: tokens::byte(tokens, 7),
         offset: tokens::at(tokens, 8),
         enables: tokens::byte(tokens, 9),
     }

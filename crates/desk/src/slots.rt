@@ -20,7 +20,8 @@ pub const EDITION: usize = 6;
 
 pub const ROLE: usize = 7;
 
-// The function at hand: its number, A and B, and the capture, bus and device in one number; and the same of the one beside it.
+// The function at hand: its number, A and B, and the capture, bus and device in one number; and how much of each of its six buffers is lent to the next
+// question, in their order in the store.
 pub const FUNCTION: usize = 8;
 
 pub const A: usize = 9;
@@ -29,27 +30,28 @@ pub const B: usize = 10;
 
 pub const CAPTURED: usize = 11;
 
-pub const BESIDE_FUNCTION: usize = 12;
+pub const ORDINARY_SIZE: usize = 12;
 
-pub const BESIDE_A: usize = 13;
+pub const ORDINARY_RULES_SIZE: usize = 13;
 
-pub const BESIDE_B: usize = 14;
+pub const ORDINARY_MARKS_SIZE: usize = 14;
 
-pub const BESIDE_CAPTURED: usize = 15;
+pub const TRUSTED_SIZE: usize = 15;
 
-// What is lent to the next question: so much of each of the twelve buffers, in their order in the store, and of the reply, what leaves, what is
-// written or the list room.
-pub const ORDINARY_SIZE: usize = 16;
+pub const TRUSTED_RULES_SIZE: usize = 16;
 
-pub const ORDINARY_RULES_SIZE: usize = 17;
+pub const TRUSTED_MARKS_SIZE: usize = 17;
 
-pub const ORDINARY_MARKS_SIZE: usize = 18;
+// The same of the function beside it, so many slots further.
+pub const SIDE: usize = 10;
 
-pub const TRUSTED_SIZE: usize = 19;
+pub const BESIDE_FUNCTION: usize = 18;
 
-pub const TRUSTED_RULES_SIZE: usize = 20;
+pub const BESIDE_A: usize = 19;
 
-pub const TRUSTED_MARKS_SIZE: usize = 21;
+pub const BESIDE_B: usize = 20;
+
+pub const BESIDE_CAPTURED: usize = 21;
 
 pub const BESIDE_ORDINARY_SIZE: usize = 22;
 
@@ -63,6 +65,7 @@ pub const BESIDE_TRUSTED_RULES_SIZE: usize = 26;
 
 pub const BESIDE_TRUSTED_MARKS_SIZE: usize = 27;
 
+// And so much of the reply, of what leaves, of what is written or of the list room.
 pub const ROOM: usize = 28;
 
 // The rest of a line that is too long is being read past.
@@ -143,26 +146,10 @@ pub fn begin(desk: &mut Desk) {
 // The function beside the one at hand is at hand, and the other way round.
 pub fn turn(desk: &mut Desk) {
     let old = *desk;
-    desk[FUNCTION] = old[BESIDE_FUNCTION];
-    desk[BESIDE_FUNCTION] = old[FUNCTION];
-    desk[A] = old[BESIDE_A];
-    desk[BESIDE_A] = old[A];
-    desk[B] = old[BESIDE_B];
-    desk[BESIDE_B] = old[B];
-    desk[CAPTURED] = old[BESIDE_CAPTURED];
-    desk[BESIDE_CAPTURED] = old[CAPTURED];
-    desk[ORDINARY_SIZE] = old[BESIDE_ORDINARY_SIZE];
-    desk[BESIDE_ORDINARY_SIZE] = old[ORDINARY_SIZE];
-    desk[ORDINARY_RULES_SIZE] = old[BESIDE_ORDINARY_RULES_SIZE];
-    desk[BESIDE_ORDINARY_RULES_SIZE] = old[ORDINARY_RULES_SIZE];
-    desk[ORDINARY_MARKS_SIZE] = old[BESIDE_ORDINARY_MARKS_SIZE];
-    desk[BESIDE_ORDINARY_MARKS_SIZE] = old[ORDINARY_MARKS_SIZE];
-    desk[TRUSTED_SIZE] = old[BESIDE_TRUSTED_SIZE];
-    desk[BESIDE_TRUSTED_SIZE] = old[TRUSTED_SIZE];
-    desk[TRUSTED_RULES_SIZE] = old[BESIDE_TRUSTED_RULES_SIZE];
-    desk[BESIDE_TRUSTED_RULES_SIZE] = old[TRUSTED_RULES_SIZE];
-    desk[TRUSTED_MARKS_SIZE] = old[BESIDE_TRUSTED_MARKS_SIZE];
-    desk[BESIDE_TRUSTED_MARKS_SIZE] = old[TRUSTED_MARKS_SIZE];
+    for slot in FUNCTION..BESIDE_FUNCTION {
+        desk[slot] = old[slot + SIDE];
+        desk[slot + SIDE] = old[slot];
+    }
 }
 
 // Bus and device in one number.

@@ -100,10 +100,17 @@ pub fn within(desk: &Desk, slot: usize, bytes: &[u8]) -> usize
     }
 }
 
-// A buffer of the board, as far as the desk lends it: its slot is as far behind the first as it lies in the store.
+// A buffer of the board, as far as the desk lends it: the slots of a function's buffers are in their order in the store.
 pub fn lent<'a>(desk: &Desk, store: &'a [u8], base: usize) -> &'a [u8] {
-    let slot = std::num::wrapping_add_usize(slots::ORDINARY_SIZE, base / LONG);
-    pieces::part(store, base, slots::at(desk, slot))
+    let slot = base / BESIDE * slots::SIDE + base % BESIDE / LONG;
+    pieces::part(
+        store,
+        base,
+        slots::at(
+            desk,
+            std::num::wrapping_add_usize(slots::ORDINARY_SIZE, slot),
+        ),
+    )
 }
 
 // A buffer of the store, and back.
@@ -121,12 +128,6 @@ pub fn put_back(store: &mut Store, base: usize, buffer: &Buffer) {
 pub fn turn(store: &mut Store) {
     let old = *store;
     words::put(store, 0, pieces::part(&old, BESIDE, BESIDE));
-    words::put(store, BESIDE, pieces::part(&old, 0, BESIDE));
-}
-
-// Those of the function beside the one at hand become the same.
-pub fn copy_beside(store: &mut Store) {
-    let old = *store;
     words::put(store, BESIDE, pieces::part(&old, 0, BESIDE));
 }
 

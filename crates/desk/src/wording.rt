@@ -39,196 +39,199 @@ pub const ADDRESS: usize = 14;
 
 pub const NOTHING: usize = 15;
 
-pub const BY_PRIMARY: usize = 16;
+// The names of functions, and what parts two of them.
+pub const PRIMARY: usize = 16;
 
-pub const BY_ALTERNATE: usize = 17;
+pub const ALTERNATE: usize = 17;
+
+pub const AND: usize = 18;
 
 // Bytes of the board.
-pub const UNCHANGED: usize = 18;
+pub const UNCHANGED: usize = 19;
 
-pub const INDENT: usize = 19;
+pub const INDENT: usize = 20;
 
-pub const BECOMES: usize = 20;
+pub const BECOMES: usize = 21;
 
-pub const EXPECTED: usize = 21;
+pub const EXPECTED: usize = 22;
 
-pub const MERGED: usize = 22;
+pub const MERGED: usize = 23;
 
-pub const SHOWN: usize = 23;
+pub const SHOWN: usize = 24;
 
-pub const TWICE: usize = 24;
+pub const TWICE: usize = 25;
 
 // An edition that no board has, and a number that both functions have.
-pub const OTHER_EDITION: usize = 25;
+pub const OTHER_EDITION: usize = 26;
 
-pub const SAME_NUMBER: usize = 26;
+pub const SAME_NUMBER: usize = 27;
 
 // Lists and records.
-pub const LISTED: usize = 27;
+pub const LISTED: usize = 28;
 
-pub const SHORT_HEADER: usize = 28;
+pub const SHORT_HEADER: usize = 29;
 
-pub const LONG_HEADER: usize = 29;
+pub const LONG_HEADER: usize = 30;
 
-pub const HOLDER: usize = 30;
+pub const HOLDER: usize = 31;
 
-pub const NO_HOLDER: usize = 31;
+pub const NO_HOLDER: usize = 32;
 
-pub const ALTERNATE: usize = 32;
+pub const FOUND: usize = 33;
 
-pub const HEADER: usize = 33;
+pub const HEADER: usize = 34;
 
-pub const BODY: usize = 34;
+pub const BODY: usize = 35;
 
 // A Multicast capability.
-pub const GROUPS: usize = 35;
+pub const GROUPS: usize = 36;
 
-pub const WINDOWS: usize = 36;
+pub const WINDOWS: usize = 37;
 
-pub const RECEIVE: usize = 37;
+pub const RECEIVE: usize = 38;
 
-pub const BLOCK_ALL: usize = 38;
+pub const BLOCK_ALL: usize = 39;
 
-pub const CLASH: usize = 39;
+pub const CLASH: usize = 40;
 
-pub const KEPT: usize = 40;
+pub const KEPT: usize = 41;
 
 // What leaves the switch.
-pub const LEAVES: usize = 41;
+pub const LEAVES: usize = 42;
 
-pub const TURNED: usize = 42;
+pub const TURNED: usize = 43;
 
 // An address that is judged at the switch.
-pub const NOT_ENABLED: usize = 43;
+pub const NOT_ENABLED: usize = 44;
 
-pub const BELOW_BASE: usize = 44;
+pub const BELOW_BASE: usize = 45;
 
-pub const PAST_LAST: usize = 45;
+pub const PAST_LAST: usize = 46;
 
-pub const DROPPED: usize = 46;
+pub const DROPPED: usize = 47;
 
-pub const LEAVES_BY: usize = 47;
+pub const LEAVES_BY: usize = 48;
 
-pub const LEAVES_NOWHERE: usize = 48;
+pub const LEAVES_NOWHERE: usize = 49;
 
-pub const TOO_MANY_RECORDS: usize = 49;
+pub const TOO_MANY_RECORDS: usize = 50;
 
-pub const NO_SUCH_PORT: usize = 50;
+pub const NO_SUCH_PORT: usize = 51;
 
-pub const NO_RECORD: usize = 51;
+pub const NO_RECORD: usize = 52;
 
 // A new board: what is proposed for its structures, what is written, and why not.
-pub const PLACED: usize = 52;
+pub const PLACED: usize = 53;
 
-pub const LISTING: usize = 53;
+pub const LISTING: usize = 54;
 
-pub const LISTED_HEADER: usize = 54;
+pub const LISTED_HEADER: usize = 55;
 
-pub const NO_STRUCTURE: usize = 55;
+pub const NO_STRUCTURE: usize = 56;
 
-pub const TOO_MANY_STRUCTURES: usize = 56;
+pub const TOO_MANY_STRUCTURES: usize = 57;
 
-pub const BAD_STRUCTURE: usize = 57;
+pub const BAD_STRUCTURE: usize = 58;
 
-pub const FEW_ENTRIES: usize = 58;
+pub const FEW_ENTRIES: usize = 59;
 
-pub const NEEDED: usize = 59;
+pub const NEEDED: usize = 60;
 
-pub const OTHER_COUNT: usize = 60;
+pub const OTHER_COUNT: usize = 61;
 
 // The rules behind one offset a structure, in the order of the request.
-pub const NOT_FIRST: usize = 61;
+pub const NOT_FIRST: usize = 62;
 
-pub const UNALIGNED: usize = 62;
+pub const UNALIGNED: usize = 63;
 
-pub const NOT_RISING: usize = 63;
+pub const NOT_RISING: usize = 64;
 
-pub const OVERLAPS: usize = 64;
+pub const OVERLAPS: usize = 65;
 
-pub const PAST_END: usize = 65;
+pub const PAST_END: usize = 66;
 
-pub const OTHER_SIZE: usize = 66;
+pub const OTHER_SIZE: usize = 67;
 
 // What the asking side writes, and what it reads.
-pub const WRITES: usize = 67;
+pub const WRITES: usize = 68;
 
-pub const READS: usize = 68;
+pub const READS: usize = 69;
 
-pub const READS_DATA: usize = 69;
+pub const READS_DATA: usize = 70;
 
-pub const READS_DONE: usize = 70;
+pub const READS_DONE: usize = 71;
 
-pub const READS_UR: usize = 71;
+pub const READS_UR: usize = 72;
 
 // What is not as expected.
-pub const DIFFERENCE: usize = 72;
+pub const DIFFERENCE: usize = 73;
 
-pub const WRONG_NUMBER: usize = 73;
+pub const WRONG_NUMBER: usize = 74;
 
-pub const WRONG_LENGTH: usize = 74;
+pub const WRONG_LENGTH: usize = 75;
 
-pub const WRONG_BYTE: usize = 75;
+pub const WRONG_BYTE: usize = 76;
 
-pub const WRONG_CAPTURE: usize = 76;
+pub const WRONG_CAPTURE: usize = 77;
 
-pub const EXPECTED_CAPTURE: usize = 77;
+pub const EXPECTED_CAPTURE: usize = 78;
 
-pub const WRONG_BYTES: usize = 78;
+pub const WRONG_BYTES: usize = 79;
 
-pub const WRONG_COUNT: usize = 79;
+pub const WRONG_COUNT: usize = 80;
 
-pub const WRONG_PLACE: usize = 80;
+pub const WRONG_PLACE: usize = 81;
 
-pub const WRONG_ENTRY: usize = 81;
+pub const WRONG_ENTRY: usize = 82;
 
-pub const WRONG_FIELDS: usize = 82;
+pub const WRONG_FIELDS: usize = 83;
 
-pub const WRONG_FIELD: usize = 83;
+pub const WRONG_FIELD: usize = 84;
 
-pub const WRONG_BODY: usize = 84;
+pub const WRONG_BODY: usize = 85;
 
-pub const WRONG_BODY_PLACE: usize = 85;
+pub const WRONG_BODY_PLACE: usize = 86;
 
-pub const WRONG_PORT: usize = 86;
+pub const WRONG_PORT: usize = 87;
 
-pub const WRONG_LEAVING: usize = 87;
+pub const WRONG_LEAVING: usize = 88;
 
-pub const WRONG_LEAVING_BYTE: usize = 88;
+pub const WRONG_LEAVING_BYTE: usize = 89;
 
-pub const WRONG_WRITTEN: usize = 89;
+pub const WRONG_WRITTEN: usize = 90;
 
-pub const WRONG_WRITTEN_BYTE: usize = 90;
+pub const WRONG_WRITTEN_BYTE: usize = 91;
 
-pub const WRONG_SAID: usize = 91;
+pub const WRONG_SAID: usize = 92;
 
-pub const WRONG_COMPLETER: usize = 92;
+pub const WRONG_COMPLETER: usize = 93;
 
-pub const WRONG_REQUESTER: usize = 93;
+pub const WRONG_REQUESTER: usize = 94;
 
-pub const WRONG_TAG: usize = 94;
+pub const WRONG_TAG: usize = 95;
 
-pub const WRONG_SHOWN: usize = 95;
+pub const WRONG_SHOWN: usize = 96;
 
-pub const WRONG_GROUP: usize = 96;
+pub const WRONG_GROUP: usize = 97;
 
-pub const WRONG_PORTS: usize = 97;
+pub const WRONG_PORTS: usize = 98;
 
-pub const NONE: usize = 98;
+pub const NONE: usize = 99;
 
-pub const ONE: usize = 99;
+pub const ONE: usize = 100;
 
 // The session.
-pub const LINE: usize = 100;
+pub const LINE: usize = 101;
 
-pub const PROMPT: usize = 101;
+pub const PROMPT: usize = 102;
 
-pub const QUOTE: usize = 102;
+pub const QUOTE: usize = 103;
 
-pub const UNQUOTE: usize = 103;
+pub const UNQUOTE: usize = 104;
 
-pub const LINE_END: usize = 104;
+pub const LINE_END: usize = 105;
 
-pub const TALLY: usize = 105;
+pub const TALLY: usize = 106;
 
 // A text with its numbers, as many as it has places for.
 pub fn say_all(
@@ -257,7 +260,8 @@ number %d:%_
 bus %2 device %2
 nothing
 primary%_
-, alternate%_
+alternate%_
+,%_
   no byte changed%n
  %_
  ->
