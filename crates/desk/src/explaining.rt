@@ -97,7 +97,7 @@ the first byte is neither 4A nor 0A
 the completion's length does not fit its first byte: 16 bytes after 4A, 12 after 0A
 a byte that no reply with this first byte has at its place
 badly described: a buffer of another size than 1000, a number or an offset out of range, an edition other than 1 and 2, or a bit that is writable and marked
-badly described: two equal numbers, a buffer of another size than 1000, a number or an offset out of range, an edition other than 1 and 2, or a bit that is writable and marked
+badly described: functions with the same number, a buffer of another size than 1000, a number or an offset out of range, an edition other than 1 and 2, or a bit that is writable and marked
 bit 7 of byte 0 is set: under edition 2 it belongs to the format field, and none of the six has it
 badly described: too many records, no such port, or a record that no capability gives
 a proposal, which is kept

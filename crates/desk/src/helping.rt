@@ -9,6 +9,8 @@ The board:
   open               the same with every rule FF
   blank              every byte and every rule 00
                      (each with every mark 00, function 0, A 104, B 00C, edition 1, nothing captured; a session begins with the last)
+  take FUNCTION      primary or alternate: what is said, shown and asked of a function is of that one from now on. A new board has one function,
+                     the primary; the first take alternate gives it the other, which is as new, with function 1
   function F   A N   B N
   edition N          of byte 0: 1 ignores its bit 7, 2 gives 4 when that is set; with any other the board answers 1
   captured BUS DEVICE   forgotten
@@ -54,6 +56,7 @@ Questions:
   write SPACE        the headers of the proposal are written into a space, and its extended list is shown as the listing shows it
   merge b b ..       four old bytes, four rules, four marks, four data bytes, the enables
 A question with an expectation is a check, and everything that is not said is expected to stay.
+Of two functions, what a check says of the capture and of bytes is of the one that the packet names in byte 9, or else of the primary.
 A refusal has no reply, no port, no offsets and no fields; that of a broken list, 11 or 12, has the place of the fault, 0 for the start.
 A request that cannot be written has no bytes and is not sent.
 Only the answer numbers, 0 to 14 and 18, are decimal:
@@ -61,7 +64,7 @@ Only the answer numbers, 0 to 14 and 18, are decimal:
   route .. -> number N, port P, leaves b b ..      UR is number 0 without a port
   ask .. -> number N, writes b b .., and behind it as for packet
   completion .. -> number N, completer b b, requester b b, tag b, shown b b b b      or, for shown: done, unsupported
-  reset -> forgotten
+  reset -> forgotten      of two functions both
   walk LIST -> number N, offsets N N ..      or: steps C F S, C offsets from F on by S
   walk LIST -> number N, place P
   dvsec SPACE N -> number N, header VENDOR REVISION ID LENGTH, body N C

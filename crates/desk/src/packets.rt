@@ -68,7 +68,7 @@ pub fn keep_captures(desk: &mut Desk, outcome: Outcome) {
     slots::set(desk, slots::BESIDE_CAPTURED, outcome.beside);
 }
 
-// The board is served with its primary at hand.
+// A packet is served with the primary at hand, whichever function it names.
 pub fn send(desk: &mut Desk, store: &mut Store) -> Outcome {
     let role = slots::at(desk, slots::ROLE);
     taking::take(desk, store, slots::PRIMARY);
@@ -106,7 +106,7 @@ fn lend(desk: &Desk, store: &mut Store) -> Outcome {
     outcome
 }
 
-// Of a board of one function these are all that it writes.
+// A board of one function writes to these three alone.
 fn serve(
     desk: &Desk,
     store: &mut Store,
@@ -132,7 +132,7 @@ fn serve(
     ))
 }
 
-// Of a board of two, the alternate's spaces are lent and put back in the same way.
+// Of two functions the primary is at hand, and the alternate's spaces are lent and put back in the same way.
 fn serve_two(
     desk: &Desk,
     store: &mut Store,
