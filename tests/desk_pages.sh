@@ -48,9 +48,9 @@ page() {
         echo "ok the blocks of $page are what the desk answers"
     fi
 }
-page LEARN 1 119 39 # LEARN shows a mistake, and what the desk says of it
+page LEARN 1 175 67 # LEARN shows a mistake, and what the desk says of it
 page GROUPS 0 56 23
-page ANSWERS 0 239 114
+page ANSWERS 0 289 144
 page SHARED 0 107 39
 
 # noticed WORDS TEXT: of the page on standard input, in which every line is to be understood, this is told
@@ -76,6 +76,7 @@ as_answered 'walrus extended' | noticed 'a mistake, as the desk tells it,' 'the 
 # What SHARED says of pairs of runs. A board begins with its name in a comment of its own; questions are what comes, all else is how it begins.
 # What a question expects is what is answered: that is tried above.
 shared=docs/SHARED.md
+name=SHARED
 of_board() { typed "$shared" | awk -v name="$1" '/^# [A-Z][a-z]*$/ { on = $2 == name; next } on'; }
 questions() { of_board "$1" | grep -E '^(packet|reset)( |$)'; }
 beginning() { of_board "$1" | grep -v -E '^(packet|reset)( |$)'; }
@@ -100,7 +101,7 @@ disagree() { # X Y WORDS
     differ_only "$1" "$2" "$3" && same "$(asked "$1")" "$(asked "$2")" && [ "$(questions "$1")" != "$(questions "$2")" ]
 }
 held() { # WORDS COMMAND..
-    if "${@:2}"; then echo "ok SHARED: $1"; else echo "FAILED SHARED: not so: $1"; fi
+    if "${@:2}"; then echo "ok $name: $1"; else echo "FAILED $name: not so: $1"; fi
 }
 every_question_is_a_check() { [ "$(typed "$shared" | grep -c -E '^(packet|reset)( |$)')" -eq "$(checks "$shared")" ]; }
 held 'every packet and every reset is a check' every_question_is_a_check
@@ -117,7 +118,7 @@ held 'Weir and Crag differ in the edition, ask the same and disagree' disagree W
 refused() { # WORDS COMMAND..: with the page on standard input
     cat >"$work/shared.md"
     shared=$work/shared.md
-    if "${@:2}"; then echo "FAILED SHARED: $1 would go unnoticed"; else echo "ok SHARED: $1 would be noticed"; fi
+    if "${@:2}"; then echo "FAILED $name: $1 would go unnoticed"; else echo "ok $name: $1 would be noticed"; fi
 }
 sed 's/ -> forgotten$//' docs/SHARED.md | refused 'a reset without an expectation' every_question_is_a_check
 awk '/^> # Ridge/ { on = 1 } on { sub(/11 22 33 44 ->/, "11 22 33 45 ->") } { print }' docs/SHARED.md | refused 'another ordinary packet' agree Harbour Ridge "$harbours"
@@ -128,4 +129,28 @@ awk '/^> # Glen/ { on = 1 } on && /^> packet DB/ { getline; next } { print }' do
 awk '/^> # Glen/ { on = 1 } on { sub(/^> edition 2/, "> edition 1") } { print }' docs/SHARED.md | refused 'another edition' agree Fell Glen "$harbours"
 sed 's/^> edition 2/> edition 1/' docs/SHARED.md | refused 'edition 1 where such a packet is trusted' with_bit_7 Fell Glen
 awk '/^> # Weir/ { on = 1 } on { sub(/^> edition 2/, "> edition 1") } { print }' docs/SHARED.md | refused 'the same edition twice' disagree Weir Crag edition
+
+# What LEARN says of pairs of runs of two functions, in the same way: whom a packet is for is in byte 9, and no Type 1 request is for either.
+shared=docs/LEARN.md
+name=LEARN
+primary='[08]'
+alternate='[19]'
+for_function() { questions "$1" | grep -E "^packet [0-9A-F][^5] ([0-9A-F]{2} ){8}[0-9A-F]$2 "; }
+for_others() { questions "$1" | grep -v -E "^packet [0-9A-F][^5] ([0-9A-F]{2} ){8}[0-9A-F]$2 "; }
+for_neither() { for_others "$1" "$primary" | grep -v -E "^packet [0-9A-F][^5] ([0-9A-F]{2} ){8}[0-9A-F]$alternate "; }
+begin_alike() { same "$(beginning "$1")" "$(beginning "$2")"; }
+# differ_for X Y FUNCTION: the runs begin alike, and packets for this function differ
+differ_for() { begin_alike "$1" "$2" && [ "$(for_function "$1" "$3")" != "$(for_function "$2" "$3")" ]; }
+apart() { differ_for "$1" "$2" "$3" && same "$(for_others "$1" "$3")" "$(for_others "$2" "$3")"; }
+seen_for_neither() { # X Y
+    differ_for "$1" "$2" "$primary" && same "$(for_function "$1" "$alternate")" "$(for_function "$2" "$alternate")" &&
+        same "$(for_neither "$1" | sed 's/ -> .*//')" "$(for_neither "$2" | sed 's/ -> .*//')" && [ "$(for_neither "$1")" != "$(for_neither "$2")" ]
+}
+held 'Kite and Rook differ in packets for the alternate, and agree in all others' apart Kite Rook "$alternate"
+held 'Teal and Ibis differ in packets for the primary, agree in those for the alternate, and disagree in one for neither' seen_for_neither Teal Ibis
+awk '/^> # Rook/ { on = 1 } on { sub(/05 18 01 04 ->/, "05 18 01 08 ->") } { print }' docs/LEARN.md | refused 'another packet for the primary' apart Kite Rook "$alternate"
+awk '/^> # Rook/ { on = 1 } on { sub(/05 1A 00 04 -> number 0, reply 0A 00 00 00 05 18/, "05 1A 00 04 -> number 0, reply 0A 00 00 00 00 00") } { print }' docs/LEARN.md |
+    refused 'another answer to a request for neither' apart Kite Rook "$alternate"
+awk '/^> # Rook/ { on = 1 } on { sub(/^> reset.*/, "> packet -> number 3") } { print }' docs/LEARN.md | refused 'a reset in one run alone' apart Kite Rook "$alternate"
+awk '/^> # Ibis/ { on = 1 } on { sub(/reply 0A 00 00 00 00 00/, "reply 0A 00 00 00 05 18") } { print }' docs/LEARN.md | refused 'the same answers to a request for neither' seen_for_neither Teal Ibis
 exit 0
