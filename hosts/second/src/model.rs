@@ -1,6 +1,6 @@
 //! Document 01's rules, one module for each of its sections: packets, lists and records, as the requests 2/13, 3/13,
-//! 6/13, 7/13 and 9/13 change them. And the requests 1/13, the router, 5/13, the asking side, 8/13, Multicast, and 10/13,
-//! the planner.
+//! 6/13, 7/13 and 9/13 change them. And the requests 1/13, the router, 5/13, the asking side, 8/13, Multicast, 10/13, the
+//! planner, and 11/13, a board of two functions.
 //!
 //! Every function answers every input. A number other than 0 leaves all that was lent as it was.
 
@@ -12,6 +12,7 @@ mod description;
 mod dual_bdf;
 mod dvsec;
 mod edition;
+mod functions;
 mod headers;
 mod hear;
 mod judge;
@@ -52,6 +53,8 @@ mod shapes;
 #[cfg(test)]
 mod status_bits;
 #[cfg(test)]
+mod two_functions;
+#[cfg(test)]
 mod whole_words;
 
 pub use accept::check_layout;
@@ -60,6 +63,7 @@ pub use description::Description;
 pub use dual_bdf::{Alternate, dual_bdf};
 pub use dvsec::{Dvsec, dvsec, dvsec_body};
 pub use edition::counts_as_trusted;
+pub use functions::{Function, ServedByTwo, is_for, serve_pair};
 pub use headers::write_layout;
 pub use hear::{Heard, Said, read_completion};
 pub use judge::{Judged, Verdict, judge};

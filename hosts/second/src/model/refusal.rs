@@ -1,6 +1,6 @@
 //! The answer numbers 1 to 14 and 18, each with the documents' cause: document 01's 1 to 10, with the causes that the
-//! requests 1/13, 5/13, 6/13, 8/13, 9/13 and 10/13 add, the 11 and 12 into which request 3/13 splits 7, the 13 of request
-//! 8/13, and the 14 and 18 of request 10/13. Number 0 is the absence of a refusal, and "7 is no longer given".
+//! requests 1/13, 5/13, 6/13, 8/13, 9/13, 10/13 and 11/13 add, the 11 and 12 into which request 3/13 splits 7, the 13 of
+//! request 8/13, and the 14 and 18 of request 10/13. Number 0 is the absence of a refusal, and "7 is no longer given".
 
 /// Why a call is refused. The lowest number that applies is given.
 #[derive(Clone, Copy, Debug, PartialEq, Eq)]
@@ -12,7 +12,7 @@ pub(super) enum Refusal {
     /// subordinate, or if two ranges, ends included, meet"; for one who asks, "a kind outside the six, a device over 31,
     /// a function over 7, an offset over FFCh or not a multiple of 4, or enables over 15"; for the records of ports, "a
     /// longer list, no such port, or a record the reading can't give"; of structures, "Bad counts, versions or lengths",
-    /// and "ID 0000h"
+    /// and "ID 0000h"; of two functions, "Equal numbers"
     Outside = 1,
     /// "the reply is under 16 bytes, or the list room is under the list's maximum"; for the router, "What leaves is
     /// written into a lent buffer; under 20 bytes it is 2"; for one who asks, "a buffer shorter than those bytes"; for the

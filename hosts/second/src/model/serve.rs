@@ -43,19 +43,19 @@ pub fn serve(
 }
 
 /// A board whose description, capture and spaces are all within their bounds.
-struct Board<'lent> {
-    function: u8,
+pub(super) struct Board<'lent> {
+    pub function: u8,
     a: usize,
     b: usize,
-    bit_7: Bit7,
-    capture: Option<(u8, u8)>,
+    pub bit_7: Bit7,
+    pub capture: Option<(u8, u8)>,
     ordinary: RuledSpace<'lent>,
     trusted: RuledSpace<'lent>,
 }
 
 impl<'lent> Board<'lent> {
     /// Refused with 1 where a part is outside its bounds.
-    fn new(
+    pub(super) fn new(
         description: Description,
         kept: Option<(u8, u8)>,
         ordinary: Result<RuledSpace<'lent>, Refusal>,
@@ -77,16 +77,27 @@ impl<'lent> Board<'lent> {
     fn serve(mut self, packet: &[u8], reply: &mut [u8]) -> Result<Served, Refusal> {
         let reply = reply.first_chunk_mut::<LONGEST_COMPLETION>().ok_or(Refusal::Room)?;
         let request = Request::read(packet, self.bit_7)?;
-        let kept = self.capture;
-        let outcome = self.access(&request);
-        debug_assert_eq!(self.capture, captured(&request, outcome).or(kept));
-        let length = completion::write(reply, &request, self.capture, self.function, outcome);
-        debug_assert!(length == SHORT_COMPLETION || self.has_each_byte(&request, &reply[SHORT_COMPLETION..]));
+        let length = self.answer(&request, reply);
         Ok(Served {
             number: 0,
             length,
             capture: self.capture,
         })
+    }
+
+    /// Does the access that a request asks for, and writes the completion. Answers its length.
+    pub(super) fn answer(&mut self, request: &Request, reply: &mut [u8; LONGEST_COMPLETION]) -> usize {
+        let kept = self.capture;
+        let outcome = self.access(request);
+        debug_assert_eq!(self.capture, captured(request, outcome).or(kept));
+        let length = completion::write(reply, request, self.capture, self.function, outcome);
+        debug_assert!(length == SHORT_COMPLETION || self.has_each_byte(request, &reply[SHORT_COMPLETION..]));
+        length
+    }
+
+    /// Does nothing, and writes the completion of Unsupported Request with the board's own ID. Answers its length.
+    pub(super) fn decline(&self, request: &Request, reply: &mut [u8; LONGEST_COMPLETION]) -> usize {
+        completion::write(reply, request, self.capture, self.function, Outcome::Unsupported)
     }
 
     /// Does what the request asks, or nothing where Unsupported Request is given.
