@@ -5,6 +5,8 @@
 mod access;
 mod alone;
 mod answers;
+mod apart;
+mod apart_names;
 mod ask;
 mod ask_names;
 mod causes;
@@ -14,6 +16,10 @@ mod departure;
 mod doubled;
 mod draft;
 mod dual_bdf;
+mod duo;
+mod duo_access;
+mod duo_causes;
+mod duo_names;
 mod dvsec;
 mod edition;
 mod edition_names;
@@ -63,11 +69,16 @@ mod whole;
 mod whole_names;
 mod written;
 
+pub use apart::{
+    ApartMet, ApartView, OwnView, count_own as count_apart_own, count_shared as count_apart_shared,
+    look_at_both as look_at_apart,
+};
 pub use ask::{AskView, count as count_ask};
 pub use chain::Pointers;
 pub use circle::count as count_circle;
 pub use draft::{DraftView, Lists, count as count_draft};
 pub use dual_bdf::count_dual;
+pub use duo::{DuoHistory, DuoView, SideView, count as count_duo, count_reset as count_duo_reset};
 pub use dvsec::{Question, count_dvsec};
 pub use group::Group;
 pub use half::{HalfView, Met, count_own, count_shared, look_at_both};

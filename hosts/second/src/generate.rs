@@ -4,6 +4,7 @@
 //! What a call is counted as is decided afterwards, from its inputs and the model's answer.
 
 mod aim;
+mod apart;
 mod ask;
 mod board;
 mod board_fault;
@@ -11,6 +12,8 @@ mod case;
 mod completion;
 mod cursor;
 mod dual_bdf;
+mod duo;
+mod duo_case;
 mod dvsec;
 mod edition;
 mod fault;
@@ -49,12 +52,16 @@ mod scene;
 mod shape;
 mod structures;
 
+pub use apart::{Apart, Shared};
 pub use ask::{AskCase, AskMaker, LONGEST_BUFFER};
 pub use board::{Board, SPACE_BYTES};
 pub use board_fault::BoardFault;
 pub use case::{LONGEST_REPLY, ServeCase};
 pub use completion::CompletionMaker;
+pub use cursor::Cursor;
 pub use dual_bdf::DualMaker;
+pub use duo::{Duo, DuoPacketMaker};
+pub use duo_case::{DuoCase, DuoFaultMaker};
 pub use dvsec::DvsecMaker;
 pub use edition::WRONG_EDITIONS;
 pub use fault::FaultMaker;

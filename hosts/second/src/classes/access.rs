@@ -8,6 +8,7 @@ use super::names::{Captures, Correlation};
 use super::serve::{History, ServeView};
 use super::tally::Tally;
 use super::whole::count_whole;
+use crate::generate::ServeCase;
 use crate::twin::word;
 
 /// The enabled bytes' bits.
@@ -78,7 +79,7 @@ pub fn count_accepted(view: &ServeView<'_>, history: &mut History, tally: &mut T
         type_form(view.case.description.edition, code, parts.form),
     );
     count_forms(view, tally);
-    let causes = unsupported_causes(view, &parts);
+    let causes = unsupported_causes(view.case, &parts);
     let unsupported = causes.contains(&true);
     assert_eq!(
         unsupported,
@@ -110,11 +111,11 @@ const fn type_form(edition: u32, code: usize, form: usize) -> usize {
 }
 
 /// The causes of Unsupported Request that a request has, in the order of the group's names.
-pub fn unsupported_causes(view: &ServeView<'_>, parts: &Parts) -> [bool; 7] {
-    let kept = view.case.kept;
+pub fn unsupported_causes(case: &ServeCase, parts: &Parts) -> [bool; 7] {
+    let kept = case.kept;
     let type1 = parts.code & 0x3F == 0x05;
     let captured = kept.captured != 0;
-    let other_function = parts.function != view.case.description.function;
+    let other_function = parts.function != case.description.function;
     let compared = parts.trusted && captured;
     [
         type1,

@@ -24,7 +24,7 @@ const CAUSES: u32 = 26;
 
 /// One bit for each cause of the numbers 1 to 6, in the order of the group's names. Whether a space has doubly marked
 /// bits was looked for before.
-fn causes(case: &ServeCase, doubled: [bool; 2]) -> u32 {
+pub fn causes(case: &ServeCase, doubled: [bool; 2]) -> u32 {
     let (a, b) = (case.description.a, case.description.b);
     let board = [
         case.lengths[0] != 4096,
@@ -68,7 +68,7 @@ const fn number_of(cause: u32) -> u8 {
 }
 
 /// Pairs of numbers whose causes can meet in one call, in the order of the group's names.
-const PAIRS: [[u8; 2]; 12] = [
+pub const PAIRS: [[u8; 2]; 12] = [
     [1, 2],
     [1, 3],
     [1, 4],

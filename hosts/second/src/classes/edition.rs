@@ -111,7 +111,7 @@ pub fn count_bit_7(view: &ServeView<'_>, tally: &mut Tally) {
     let form = usize::from(bytes[2] >> 6);
     tally.add(Group::Bit7Forms, 4 * code_place(bytes[0]) + form);
     let parts = Parts::of(bytes);
-    let causes = unsupported_causes(view, &parts);
+    let causes = unsupported_causes(view.case, &parts);
     match only(&causes) {
         Some(cause) => {
             let second = if cause == 6 { parts.trusted } else { parts.writes };

@@ -300,4 +300,6 @@ pub const NOISE: &[&str] = &[
     "plan_layout",
     "check_layout",
     "write_layout",
+    "serve_pair",
+    "reset_pair",
 ];

@@ -19,7 +19,7 @@ pub struct Boards<'call> {
 }
 
 impl Boards<'_> {
-    fn are_alike(&self) -> bool {
+    pub fn are_alike(&self) -> bool {
         let [ordinary, trusted] = [self.ordinary, self.trusted].map(|[first, second]| first == second);
         ordinary && trusted && self.captures[0] == self.captures[1]
     }

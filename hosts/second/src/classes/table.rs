@@ -1,8 +1,10 @@
 //! The classes of calls that a run must reach, in groups, each with its least count for a million calls.
 
+use super::apart_names::DIFFERING as APART_DIFFERING;
 use super::ask_names::{
     CIRCLE_UNSUPPORTED, CIRCLES, EFFECTS, HEAR_ANSWERS, HEAR_CAUSES, HEAR_TOGETHER, WRITE_ANSWERS, WRITE_CAUSES,
 };
+use super::duo_names::{DUO_CAUSES, DUO_COMPLETERS, DUO_EVENTS, DUO_KEPT, DUO_RESETS, DUO_TOGETHER};
 use super::edition::ANSWERS;
 use super::edition_names::INSTEAD;
 use super::fault_names::{ELSEWHERE, END_PLACES, LOOP_PLACES, WALK_TOGETHER};
@@ -26,7 +28,7 @@ use super::pair_names::PAIR_EVENTS;
 use super::route_names::{LIST_SHAPES, MEETINGS, MET_BUSES, ROUTE_ANSWERS, ROUTE_CAUSES, ROUTE_ROOMS, ROUTE_TOGETHER};
 use super::turn::TURN_NAMES;
 use super::whole_names::NEIGHBOURS;
-use crate::generate::WRONG_EDITIONS;
+use crate::generate::{MARKS_LENGTHS, NAMED_LENGTHS, WRONG_EDITIONS};
 
 const fn numbered(group: Group, title: &'static str, count: usize, per_million: u64) -> Line {
     Line {
@@ -47,7 +49,7 @@ const fn named(group: Group, title: &'static str, names: &'static [&'static str]
 }
 
 /// All groups. "Alone" means that the call has no other cause for a refusal, or for Unsupported Request.
-pub const TABLE: [Line; 225] = [
+pub const TABLE: [Line; 255] = [
     numbered(Group::ServeAnswers, "serve: answers 0 to 6", 7, 1000),
     named(
         Group::ServeCauses,
@@ -1117,6 +1119,146 @@ pub const TABLE: [Line; 225] = [
     ),
     numbered(Group::DraftLists, "draft: both lists before, written or not", 40, 2),
     named(Group::DraftAgain, "draft: over a list that was there", DRAFT_AGAIN, 10),
+    numbered(Group::DuoAnswers, "serve_pair: answers 0 to 6", 7, 150),
+    named(
+        Group::DuoCauses,
+        "serve_pair: each cause of 1 to 6 alone",
+        DUO_CAUSES,
+        20,
+    ),
+    numbered(
+        Group::DuoNamed,
+        "serve_pair: each cause alone, whom the packet names",
+        126,
+        2,
+    ),
+    numbered(
+        Group::DuoEqual,
+        "serve_pair: equal numbers, type codes, each number",
+        20,
+        4,
+    ),
+    numbered(
+        Group::DuoFaults,
+        "serve_pair: 3 to 6 alone, editions, whom it names",
+        24,
+        3,
+    ),
+    numbered(
+        Group::DuoFaultWays,
+        "serve_pair: bit 7, 5, 6 alone, three ways, whom it names",
+        27,
+        1,
+    ),
+    named(
+        Group::DuoTogether,
+        "serve_pair: two numbers, two causes together",
+        DUO_TOGETHER,
+        1,
+    ),
+    numbered(
+        Group::DuoDoubledPages,
+        "serve_pair: one bit marked doubly, pages of four spaces",
+        64,
+        7,
+    ),
+    numbered(
+        Group::DuoDoubledBits,
+        "serve_pair: one bit marked doubly, each of 32, spaces",
+        128,
+        2,
+    ),
+    numbered(
+        Group::DuoDoubledKinds,
+        "serve_pair: one bit marked doubly, type codes, whom",
+        72,
+        1,
+    ),
+    numbered(
+        Group::DuoLengths,
+        "serve_pair: lengths of the twelve buffers",
+        2 * (4 * NAMED_LENGTHS + 2 * MARKS_LENGTHS),
+        2,
+    ),
+    numbered(
+        Group::DuoReplies,
+        "serve_pair: replies of 0 to 20 bytes, and more",
+        22,
+        15,
+    ),
+    numbered(Group::DuoPacketLengths, "serve_pair: packets of 0 to 24 bytes", 25, 40),
+    named(Group::DuoKept, "serve_pair: forms of both captures", DUO_KEPT, 800),
+    numbered(
+        Group::DuoServed,
+        "serve_pair: editions, bit 7, whom, type codes, UR",
+        72,
+        20,
+    ),
+    numbered(
+        Group::DuoUnsupported,
+        "serve_pair: causes of UR alone, editions, functions",
+        32,
+        8,
+    ),
+    numbered(
+        Group::DuoOthers,
+        "serve_pair: trusted, what the other has captured",
+        20,
+        1,
+    ),
+    named(
+        Group::DuoCompleters,
+        "serve_pair: for neither, what both have captured",
+        DUO_COMPLETERS,
+        15,
+    ),
+    numbered(
+        Group::DuoNeither,
+        "serve_pair: for neither, each number, three ways",
+        24,
+        70,
+    ),
+    named(Group::DuoEvents, "serve_pair: what a success came to", DUO_EVENTS, 4),
+    numbered(
+        Group::DuoEnables,
+        "serve_pair: the sixteen enables of eight accesses",
+        128,
+        7,
+    ),
+    numbered(
+        Group::DuoNumbers,
+        "serve_pair: each two numbers, both functions",
+        112,
+        10,
+    ),
+    numbered(
+        Group::DuoPages,
+        "serve_pair: pages of four spaces, read and changed",
+        128,
+        5,
+    ),
+    numbered(
+        Group::DuoTurns,
+        "serve_pair: whom the packet is for, and the one before",
+        9,
+        800,
+    ),
+    numbered(Group::DuoAfterRefusal, "serve_pair: 0 after 1 to 6", 6, 70),
+    named(Group::DuoResets, "reset_pair: what both have captured", DUO_RESETS, 25),
+    numbered(
+        Group::ApartShared,
+        "apart: packets of both runs, editions, answers",
+        102,
+        2,
+    ),
+    numbered(
+        Group::ApartNeither,
+        "apart: packets for neither of both runs, answers",
+        40,
+        2,
+    ),
+    numbered(Group::ApartOwn, "apart: packets of one run, whom, answers", 76, 1),
+    named(Group::ApartDiffering, "apart: how two runs differ", APART_DIFFERING, 8),
     named(Group::Noise, "all: plain noise (as the generator meant it)", NOISE, 100),
 ];
 

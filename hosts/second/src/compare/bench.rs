@@ -201,7 +201,7 @@ pub fn reset(kept: Capture, subject: &mut impl Subject) -> Result<Capture, Box<D
 }
 
 /// Adds a space, its rules and its marks: the words at some places, the first of their words, and what differs.
-fn with_space(difference: Difference, name: &str, buffers: [&Twin<u8>; 3], places: &[usize]) -> Difference {
+pub fn with_space(difference: Difference, name: &str, buffers: [&Twin<u8>; 3], places: &[usize]) -> Difference {
     let [space, rules, marks] = buffers;
     let [rules_name, marks_name] = ["rules", "marks"].map(|part| format!("{name} {part}"));
     difference

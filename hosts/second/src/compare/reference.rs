@@ -13,12 +13,14 @@
 //! ports with 3 only.
 //!
 //! Of a layout only the number is answered: the proposal is in the room, and the headers are in the space.
+//!
+//! Of two functions, each capture is handed back as that of one is: also that of the function that a packet is not for.
 
 use thawribbon::raw::{
     Alternate, Capture, Dvsec, Groups, Heard, Judged, Part, Parts, Port, Routed, Served, Structure, Walked, Written,
 };
 
-use super::subject::{ServeCall, Subject};
+use super::subject::{DuoCall, DuoServed, ServeCall, SideCall, Subject};
 use crate::model::{self, List, Said, Verdict};
 
 /// The model as a subject.
@@ -79,6 +81,21 @@ fn model_structures(structures: &[Structure]) -> Vec<model::Structure> {
         length: structure.length,
     };
     structures.iter().map(model_structure).collect()
+}
+
+fn model_function(side: SideCall<'_>) -> model::Function<'_> {
+    model::Function {
+        number: side.function,
+        a: side.a,
+        b: side.b,
+        kept: meaning(side.kept),
+        ordinary: side.ordinary,
+        ordinary_rules: side.ordinary_rules,
+        ordinary_marks: side.ordinary_marks,
+        trusted: side.trusted,
+        trusted_rules: side.trusted_rules,
+        trusted_marks: side.trusted_marks,
+    }
 }
 
 fn walk(list: List, space: &[u8], room: &mut [u16]) -> Walked {
@@ -251,5 +268,24 @@ impl Subject for Reference {
 
     fn write_layout(&mut self, structures: &[Structure], offsets: &[u16], space: &mut [u8]) -> u8 {
         model::write_layout(&model_structures(structures), offsets, space)
+    }
+
+    fn serve_pair(&mut self, call: DuoCall<'_>) -> DuoServed {
+        let kept = call.sides.each_ref().map(|side| side.kept);
+        let functions = call.sides.map(model_function);
+        let served = model::serve_pair(call.edition, functions, call.packet, call.reply);
+        DuoServed {
+            length: served.length,
+            number: served.number,
+            kept: if served.number == 0 {
+                served.captures.map(plain)
+            } else {
+                kept
+            },
+        }
+    }
+
+    fn reset_pair(&mut self, _: [Capture; 2]) -> [Capture; 2] {
+        [plain(None); 2]
     }
 }

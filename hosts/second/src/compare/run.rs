@@ -2,10 +2,12 @@
 
 use std::fmt;
 
+use super::aparts::Aparts;
 use super::asks::Asks;
 use super::circles::Circles;
 use super::difference::Difference;
 use super::drafts::Drafts;
+use super::duos::Duos;
 use super::halves::Halves;
 use super::judges::Judges;
 use super::layouts::Layouts;
@@ -23,8 +25,22 @@ use crate::generate::{Random, SHAPES};
 /// How often each entry is called: serve, reset, the three walks, dvsec, dvsec_body, dual_bdf, route, write_request,
 /// read_completion. Then how often a circle is gone through. Then multicast and judge. Then how often a pair and a half of
 /// demand 3 go a step on, and a packet goes through a router to a board. Then plan_layout, check_layout and write_layout,
-/// and how often a layout goes through all of them.
-const WEIGHTS: [usize; 21] = [100, 3, 8, 12, 12, 6, 3, 5, 30, 11, 13, 6, 10, 23, 7, 9, 4, 8, 10, 9, 3];
+/// and how often a layout goes through all of them. Then serve_pair and reset_pair, and how often two runs of a board of
+/// two functions go a step on.
+const WEIGHTS: [usize; 24] = [
+    100, 3, 8, 12, 12, 6, 3, 5, 30, 11, 13, 6, 10, 23, 7, 9, 4, 8, 10, 9, 3, 10, 1, 4,
+];
+
+/// The same of a run in which a board of two functions is called and nothing else.
+const OF_TWO_FUNCTIONS: [usize; 24] = {
+    let mut weights = WEIGHTS;
+    let mut place = 0;
+    while place < 21 {
+        weights[place] = 0;
+        place += 1;
+    }
+    weights
+};
 
 /// Where a run met a difference.
 #[derive(Debug)]
@@ -44,6 +60,15 @@ impl fmt::Display for Failure {
 
 /// Makes so many calls to the model and to a subject, and counts them. Stops at the first difference.
 pub fn run(subject: &mut impl Subject, seed: u64, cases: u64) -> Result<Tally, Failure> {
+    run_by(&WEIGHTS, subject, seed, cases)
+}
+
+/// As [`run`], with calls of a board of two functions only.
+pub fn run_two_functions(subject: &mut impl Subject, seed: u64, cases: u64) -> Result<Tally, Failure> {
+    run_by(&OF_TWO_FUNCTIONS, subject, seed, cases)
+}
+
+fn run_by(weights: &[usize; 24], subject: &mut impl Subject, seed: u64, cases: u64) -> Result<Tally, Failure> {
     let mut random = Random::new(seed);
     let mut packets = Packets::new();
     let mut walks = SHAPES.map(Walks::new);
@@ -58,10 +83,12 @@ pub fn run(subject: &mut impl Subject, seed: u64, cases: u64) -> Result<Tally, F
     let mut onwards = Onwards::new();
     let mut layouts = Layouts::new();
     let mut drafts = Drafts::new();
+    let mut duos = Duos::new();
+    let mut aparts = Aparts::new();
     let mut tally = Tally::new();
     for case in 0..cases {
         tally.call();
-        let compared = match random.weighted(&WEIGHTS) {
+        let compared = match random.weighted(weights) {
             0 => packets.serve(subject, &mut random, &mut tally),
             1 => packets.reset(subject, &mut random, &mut tally),
             list @ 2..=4 => walks[list - 2].walk(subject, &mut random, &mut tally),
@@ -80,7 +107,10 @@ pub fn run(subject: &mut impl Subject, seed: u64, cases: u64) -> Result<Tally, F
             17 => layouts.plan(subject, &mut random, &mut tally),
             18 => layouts.check(subject, &mut random, &mut tally),
             19 => layouts.write(subject, &mut random, &mut tally),
-            _ => drafts.draft(subject, &mut random, &mut tally),
+            20 => drafts.draft(subject, &mut random, &mut tally),
+            21 => duos.serve(subject, &mut random, &mut tally),
+            22 => duos.reset(subject, &mut random, &mut tally),
+            _ => aparts.step(subject, &mut random, &mut tally),
         };
         compared.map_err(|difference| Failure { seed, case, difference })?;
     }

@@ -1,8 +1,8 @@
 //! What is compared with the model: anything with the library's entries, and the linked library itself.
 
 use thawribbon::raw::{
-    self, Alternate, Capture, Description, Dvsec, Groups, Heard, Judged, Part, Parts, Port, Routed, Served, Structure,
-    Walked, Written,
+    self, Alternate, Capture, Captures, Description, Dvsec, Function, Groups, Heard, Judged, Part, Parts, Port, Routed,
+    Served, Structure, Walked, Written,
 };
 
 /// All that a call of `serve` is given.
@@ -17,6 +17,36 @@ pub struct ServeCall<'lent> {
     pub trusted_marks: &'lent [u8],
     pub packet: &'lent [u8],
     pub reply: &'lent mut [u8],
+}
+
+/// All that a call of `serve_pair` is given of one function.
+pub struct SideCall<'lent> {
+    pub function: u8,
+    pub a: u32,
+    pub b: u32,
+    pub kept: Capture,
+    pub ordinary: &'lent mut [u8],
+    pub ordinary_rules: &'lent [u8],
+    pub ordinary_marks: &'lent [u8],
+    pub trusted: &'lent mut [u8],
+    pub trusted_rules: &'lent [u8],
+    pub trusted_marks: &'lent [u8],
+}
+
+/// All that a call of `serve_pair` is given: of the primary, of the alternate, and of both.
+pub struct DuoCall<'lent> {
+    pub edition: u32,
+    pub sides: [SideCall<'lent>; 2],
+    pub packet: &'lent [u8],
+    pub reply: &'lent mut [u8],
+}
+
+/// The answer of `serve_pair`, with the captures of the primary and of the alternate.
+#[derive(Clone, Copy, Debug, Default, PartialEq, Eq)]
+pub struct DuoServed {
+    pub length: usize,
+    pub number: u8,
+    pub kept: [Capture; 2],
 }
 
 /// The entries that are compared. None has a standing answer here, so that no entry of a subject is left out unseen.
@@ -37,6 +67,8 @@ pub trait Subject {
     fn plan_layout(&mut self, structures: &[Structure], room: &mut [u16]) -> u8;
     fn check_layout(&mut self, structures: &[Structure], offsets: &[u16]) -> u8;
     fn write_layout(&mut self, structures: &[Structure], offsets: &[u16], space: &mut [u8]) -> u8;
+    fn serve_pair(&mut self, call: DuoCall<'_>) -> DuoServed;
+    fn reset_pair(&mut self, kept: [Capture; 2]) -> [Capture; 2];
 }
 
 /// The linked library.
@@ -117,4 +149,52 @@ impl Subject for Library {
     fn write_layout(&mut self, structures: &[Structure], offsets: &[u16], space: &mut [u8]) -> u8 {
         raw::write_layout(structures, offsets, space)
     }
+
+    fn serve_pair(&mut self, call: DuoCall<'_>) -> DuoServed {
+        let [primary, alternate] = call.sides;
+        let kept = captures([primary.kept, alternate.kept]);
+        let served = raw::serve_pair(
+            call.edition,
+            function(&primary),
+            function(&alternate),
+            kept,
+            primary.ordinary,
+            primary.ordinary_rules,
+            primary.ordinary_marks,
+            primary.trusted,
+            primary.trusted_rules,
+            primary.trusted_marks,
+            alternate.ordinary,
+            alternate.ordinary_rules,
+            alternate.ordinary_marks,
+            alternate.trusted,
+            alternate.trusted_rules,
+            alternate.trusted_marks,
+            call.packet,
+            call.reply,
+        );
+        DuoServed {
+            length: served.length,
+            number: served.number,
+            kept: [served.kept.primary, served.kept.alternate],
+        }
+    }
+
+    fn reset_pair(&mut self, kept: [Capture; 2]) -> [Capture; 2] {
+        let after = raw::reset_pair(captures(kept));
+        [after.primary, after.alternate]
+    }
+}
+
+/// What the library is told of one function beside its buffers and its capture.
+const fn function(side: &SideCall<'_>) -> Function {
+    Function {
+        function: side.function,
+        a: side.a,
+        b: side.b,
+    }
+}
+
+const fn captures([primary, alternate]: [Capture; 2]) -> Captures {
+    Captures { primary, alternate }
 }

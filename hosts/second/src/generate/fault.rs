@@ -94,8 +94,7 @@ impl FaultMaker {
     pub fn put_some(&mut self, number: usize, case: &mut ServeCase, random: &mut Random) {
         let beside_bit_7 = number > 0 && random.percent(10);
         if number == 1 {
-            let place = random.weighted(&FAULTS.map(|(_, weight)| weight));
-            self.put(FAULTS[place].0, !beside_bit_7, case, random);
+            self.put_one(!beside_bit_7, case, random);
         } else {
             for _ in 0..number {
                 self.put(random.pick(&FAULTS).0, false, case, random);
@@ -104,6 +103,12 @@ impl FaultMaker {
         if beside_bit_7 {
             case.packet = case.packet.with_bit_7(true);
         }
+    }
+
+    /// Puts one fault into a call, with the values of those that have many in turn or at random.
+    pub fn put_one(&mut self, in_turn: bool, case: &mut ServeCase, random: &mut Random) {
+        let place = random.weighted(&FAULTS.map(|(_, weight)| weight));
+        self.put(FAULTS[place].0, in_turn, case, random);
     }
 
     fn put(&mut self, fault: Fault, in_turn: bool, case: &mut ServeCase, random: &mut Random) {

@@ -38,7 +38,12 @@ impl RunPacketMaker {
 
     /// A packet for a board. Now and then it is of Type 1, or empty.
     pub fn draw(&mut self, board: &Board, random: &mut Random) -> Packet {
-        let mut packet = self.packets.sound(board, false, random);
+        let packet = self.packets.sound(board, false, random);
+        self.spoil(packet, random)
+    }
+
+    /// A packet without a fault, as it is or made to be of Type 1, with a fault, empty, or noise.
+    pub fn spoil(&mut self, mut packet: Packet, random: &mut Random) -> Packet {
         if random.percent(15) {
             packet.bytes[0] = packet.bytes[0] & 0xC0 | Route::Type1 as u8;
         }

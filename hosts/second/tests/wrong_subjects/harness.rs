@@ -1,6 +1,6 @@
 //! A subject whose entries are the model's but for those that a test puts in their place.
 
-use second::compare::{Failure, Reference, ServeCall, Subject, Tally, run};
+use second::compare::{DuoCall, DuoServed, Failure, Reference, ServeCall, Subject, Tally, run, run_two_functions};
 use second::model::List;
 use thawribbon::raw::{
     Alternate, Capture, Dvsec, Groups, Heard, Judged, Part, Parts, Port, Routed, Served, Structure, Walked, Written,
@@ -12,6 +12,8 @@ const SEED: u64 = 20_050_701;
 const CALLS: u64 = 150_000;
 /// The calls that a right subject goes through: all, but with debug assertions the first of them, which are the same for each.
 const RIGHT_CALLS: u64 = if cfg!(debug_assertions) { 30_000 } else { CALLS };
+/// The calls of a subject that is about a board of two functions: as many of such calls as a run of [`CALLS`] has.
+const CALLS_OF_TWO: u64 = 7_300;
 
 type ServeEntry = Box<dyn FnMut(ServeCall<'_>) -> Served>;
 type ResetEntry = Box<dyn FnMut(Capture) -> Capture>;
@@ -27,6 +29,8 @@ type JudgeEntry = Box<dyn FnMut(&[Groups], usize, u64) -> Judged>;
 type PlanEntry = Box<dyn FnMut(&[Structure], &mut [u16]) -> u8>;
 type CheckEntry = Box<dyn FnMut(&[Structure], &[u16]) -> u8>;
 type LayEntry = Box<dyn FnMut(&[Structure], &[u16], &mut [u8]) -> u8>;
+type DuoEntry = Box<dyn FnMut(DuoCall<'_>) -> DuoServed>;
+type DuoResetEntry = Box<dyn FnMut([Capture; 2]) -> [Capture; 2]>;
 
 /// The model, with entries that may be wrong.
 pub struct Wrong {
@@ -44,6 +48,8 @@ pub struct Wrong {
     plan: PlanEntry,
     check: CheckEntry,
     lay: LayEntry,
+    duo: DuoEntry,
+    duo_reset: DuoResetEntry,
 }
 
 impl Wrong {
@@ -64,6 +70,8 @@ impl Wrong {
             plan: Box::new(|structures, room| Reference.plan_layout(structures, room)),
             check: Box::new(|structures, offsets| Reference.check_layout(structures, offsets)),
             lay: Box::new(|structures, offsets, space| Reference.write_layout(structures, offsets, space)),
+            duo: Box::new(|call| Reference.serve_pair(call)),
+            duo_reset: Box::new(|kept| Reference.reset_pair(kept)),
         }
     }
 
@@ -172,6 +180,20 @@ impl Wrong {
             ..Self::nothing()
         }
     }
+
+    pub fn duo(entry: impl FnMut(DuoCall<'_>) -> DuoServed + 'static) -> Self {
+        Self {
+            duo: Box::new(entry),
+            ..Self::nothing()
+        }
+    }
+
+    pub fn duo_reset(entry: impl FnMut([Capture; 2]) -> [Capture; 2] + 'static) -> Self {
+        Self {
+            duo_reset: Box::new(entry),
+            ..Self::nothing()
+        }
+    }
 }
 
 impl Subject for Wrong {
@@ -238,6 +260,14 @@ impl Subject for Wrong {
     fn write_layout(&mut self, structures: &[Structure], offsets: &[u16], space: &mut [u8]) -> u8 {
         (self.lay)(structures, offsets, space)
     }
+
+    fn serve_pair(&mut self, call: DuoCall<'_>) -> DuoServed {
+        (self.duo)(call)
+    }
+
+    fn reset_pair(&mut self, kept: [Capture; 2]) -> [Capture; 2] {
+        (self.duo_reset)(kept)
+    }
 }
 
 /// The little-endian word at an offset.
@@ -268,8 +298,24 @@ pub fn expect_not_caught(mut subject: Wrong) {
 
 /// Fails unless a subject is caught by a call of the given entry.
 pub fn expect_caught(mut subject: Wrong, entry: &str) -> Failure {
-    match run_fixed(&mut subject) {
-        Ok(_) => panic!("{CALLS} calls did not catch it"),
+    caught(run_fixed(&mut subject), entry)
+}
+
+/// Fails where a subject is caught by calls of a board of two functions.
+pub fn expect_two_not_caught(mut subject: Wrong) {
+    if let Err(failure) = run_two_functions(&mut subject, SEED, CALLS_OF_TWO) {
+        panic!("{failure}");
+    }
+}
+
+/// Fails unless a subject is caught by such calls, and by the given entry.
+pub fn expect_two_caught(mut subject: Wrong, entry: &str) -> Failure {
+    caught(run_two_functions(&mut subject, SEED, CALLS_OF_TWO), entry)
+}
+
+fn caught(outcome: Result<Tally, Failure>, entry: &str) -> Failure {
+    match outcome {
+        Ok(_) => panic!("no call caught it"),
         Err(failure) => {
             assert_eq!(failure.difference.entry, entry, "{failure}");
             failure
