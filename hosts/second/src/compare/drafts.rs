@@ -7,8 +7,7 @@ use super::difference::Difference;
 use super::planning::{Desk, list};
 use super::subject::Subject;
 use crate::classes::{DraftView, Lists, Tally, count_draft};
-use crate::generate::{LayoutSpace, MOST_STRUCTURES, Random, acceptable, crowded, fitting, lowest, some_count};
-use crate::model::List;
+use crate::generate::{LayoutSpace, MOST_STRUCTURES, Random, SHAPES, acceptable, crowded, fitting, lowest, some_count};
 use crate::twin::Twin;
 
 /// The room of the two walks.
@@ -67,9 +66,10 @@ impl Drafts {
     /// What the walks list now.
     fn lists(&mut self, subject: &mut impl Subject) -> Result<Lists, Box<Difference>> {
         let space = &self.space.space;
+        let [compatible, extended, _] = SHAPES;
         Ok(Lists {
-            extended: list(List::Extended, space, &mut self.extended, subject)?,
-            compatible: list(List::Compatible, space, &mut self.compatible, subject)?,
+            extended: list(extended, space, &mut self.extended, subject)?,
+            compatible: list(compatible, space, &mut self.compatible, subject)?,
         })
     }
 }

@@ -5,8 +5,8 @@ use thawribbon::raw::{Structure, Walked};
 use super::difference::Difference;
 use super::reference::Reference;
 use super::subject::Subject;
-use crate::generate::{FAR, NEAR_ROOM, NEAR_STRUCTURES, Random, sound_structure};
-use crate::model::List;
+use super::walks::{difference, walk};
+use crate::generate::{FAR, NEAR_ROOM, NEAR_STRUCTURES, Random, Shape, sound_structure};
 use crate::reach::Reach;
 use crate::twin::Twin;
 
@@ -111,29 +111,15 @@ impl Desk {
 
 /// Walks a list of a space, and answers what the model lists.
 pub fn list(
-    list: List,
+    shape: Shape,
     space: &Twin<u8>,
     room: &mut Twin<u16>,
     subject: &mut impl Subject,
 ) -> Result<(Walked, Vec<u16>), Box<Difference>> {
-    let (entry, ours, theirs) = match list {
-        List::Compatible => (
-            "walk_compatible",
-            Reference.walk_compatible(space.ours(), room.ours_mut()),
-            subject.walk_compatible(space.theirs(), room.theirs_mut()),
-        ),
-        _ => (
-            "walk_extended",
-            Reference.walk_extended(space.ours(), room.ours_mut()),
-            subject.walk_extended(space.theirs(), room.theirs_mut()),
-        ),
-    };
+    let ours = walk(shape.list, &mut Reference, space.ours(), room.ours_mut());
+    let theirs = walk(shape.list, subject, space.theirs(), room.theirs_mut());
     if ours == theirs && space.agrees() && room.agrees() {
         return Ok((ours, room.ours()[..ours.count].to_vec()));
     }
-    let difference = Difference::new(entry, ours, theirs)
-        .space("space", space.ours())
-        .look("space", space)
-        .look("room", room);
-    Err(Box::new(difference))
+    Err(Box::new(difference(shape, space, room, ours, theirs)))
 }

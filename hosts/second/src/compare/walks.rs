@@ -50,7 +50,7 @@ impl Walks {
         let ours = walk(shape.list, &mut Reference, space.ours(), self.room.ours_mut());
         let theirs = walk(shape.list, subject, space.theirs(), self.room.theirs_mut());
         if ours != theirs || !space.agrees() || !self.room.agrees() {
-            return Err(Box::new(self.difference(ours, theirs)));
+            return Err(Box::new(difference(shape, space, &self.room, ours, theirs)));
         }
         tally.add_if(self.scene.noise, Group::Noise, 2 + shape.place());
         count_walk(shape, self.scene.space.ours(), self.room.ours().len(), ours, tally);
@@ -87,32 +87,32 @@ impl Walks {
         });
         self.room.lend(length);
     }
+}
 
-    fn difference(&self, ours: Walked, theirs: Walked) -> Difference {
-        let space = &self.scene.space;
-        let pointers = Pointers::new(self.scene.shape, space.ours());
-        let entry = match self.scene.shape.list {
-            List::Compatible => "walk_compatible",
-            List::Extended => "walk_extended",
-            List::Trusted => "walk_trusted",
-        };
-        Difference::new(entry, ours, theirs)
-            .input("length of the room", self.room.ours().len())
-            .input(
-                "pointers from the start on",
-                pointers
-                    .map(|pointers| pointers.first(MOST_POINTERS))
-                    .unwrap_or_default(),
-            )
-            .words("words 004h, 034h and 100h", space.ours(), &[0x004, 0x034, 0x100])
-            .space("space", space.ours())
-            .look("space", space)
-            .look("room", &self.room)
-    }
+/// Tells of a walk whose two outcomes are not alike.
+pub fn difference(shape: Shape, space: &Twin<u8>, room: &Twin<u16>, ours: Walked, theirs: Walked) -> Difference {
+    let pointers = Pointers::new(shape, space.ours());
+    let entry = match shape.list {
+        List::Compatible => "walk_compatible",
+        List::Extended => "walk_extended",
+        List::Trusted => "walk_trusted",
+    };
+    Difference::new(entry, ours, theirs)
+        .input("length of the room", room.ours().len())
+        .input(
+            "pointers from the start on",
+            pointers
+                .map(|pointers| pointers.first(MOST_POINTERS))
+                .unwrap_or_default(),
+        )
+        .words("words 004h, 034h and 100h", space.ours(), &[0x004, 0x034, 0x100])
+        .space("space", space.ours())
+        .look("space", space)
+        .look("room", room)
 }
 
 /// Walks a list of a subject.
-fn walk(list: List, subject: &mut impl Subject, space: &[u8], room: &mut [u16]) -> Walked {
+pub fn walk(list: List, subject: &mut impl Subject, space: &[u8], room: &mut [u16]) -> Walked {
     match list {
         List::Compatible => subject.walk_compatible(space, room),
         List::Extended => subject.walk_extended(space, room),

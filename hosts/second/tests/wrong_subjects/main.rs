@@ -3,6 +3,7 @@
 //! Were one of these not caught, a library with the same fault would not be caught either.
 
 mod accessing;
+mod addressing;
 mod admitting;
 mod announcing;
 mod answering;
@@ -16,6 +17,8 @@ mod casting;
 mod checking;
 mod clearer;
 mod clearing;
+mod coupler;
+mod describing;
 mod doubling;
 mod dropping;
 mod emptying;
@@ -33,6 +36,7 @@ mod listing;
 mod looping;
 mod marking;
 mod measuring;
+mod mixing;
 mod ordering;
 mod passing;
 mod picking;
@@ -48,6 +52,7 @@ mod revising;
 mod router;
 mod routing;
 mod serving;
+mod sharing;
 mod surveyor;
 mod telling;
 mod vetting;
@@ -56,7 +61,7 @@ mod walking;
 mod widening;
 mod writing;
 
-use harness::{Wrong, expect_caught, expect_not_caught, run_fixed};
+use harness::{Wrong, expect_caught, expect_not_caught, expect_two_caught, run_fixed};
 use second::compare::{Failure, Library};
 
 #[test]
@@ -156,6 +161,28 @@ fn a_difference_of_the_multicast_entries_is_told_in_full() {
         &failure,
         &["entry: judge", "address: ", "entering: ", "records:", "group: 0"],
     );
+}
+
+#[test]
+fn a_difference_of_two_functions_is_told_in_full() {
+    let failure = expect_two_caught(addressing::with_the_alternates_id(), "serve_pair");
+    expect_told(
+        &failure,
+        &[
+            "entry: serve_pair",
+            "descriptions of the primary and of the alternate: ",
+            "kept: ",
+            "packet: ",
+            "reply as lent",
+            "primary's ordinary words there",
+            "primary's trusted marks: 4096 bytes",
+            "alternate's ordinary: 4096 bytes",
+            "alternate's trusted bytes with a bit marked doubly:",
+            "reply, place ",
+        ],
+    );
+    let failure = expect_two_caught(sharing::with_a_reset_of_the_primary_only(), "reset_pair");
+    expect_told(&failure, &["entry: reset_pair", "kept: ", "captured: "]);
 }
 
 #[test]

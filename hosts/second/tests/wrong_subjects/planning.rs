@@ -309,7 +309,8 @@ fn the_rest_of_the_room_written() {
         }
     });
     expect_caught_after(|room, number, structures| {
-        if let (0, Some(last)) = (number, room[structures.len()..].last_mut()) {
+        let rest = room.get_mut(structures.len()..);
+        if let (0, Some(last)) = (number, rest.and_then(<[u16]>::last_mut)) {
             *last = 0;
         }
     });
