@@ -6,19 +6,53 @@ use second::compare::{DuoCall, DuoServed, Reference, Subject, meaning};
 use crate::coupler::{
     ALTERNATE, PRIMARY, SIDES, accepting, again, by_two_boards, code, completed_by, declined, declined_by,
     expect_caught_accepting, expect_caught_declining, expect_caught_refusing, expect_caught_serving, is_trusted,
-    is_type_1, named, refused, rehearsed, served_anyway, target, whom,
+    is_type_1, kept_plain, named, refused, rehearsed, served_alone, served_anyway, target, whom,
 };
-use crate::harness::{Wrong, expect_two_caught};
+use crate::harness::{Wrong, expect_two_caught, expect_two_not_caught};
 
-/// Fails unless a board is caught that looks for the function in another way. Type 1 is for nobody.
-fn expect_caught_looking(other: impl Fn(&DuoCall<'_>) -> Option<usize> + 'static) {
-    expect_caught_accepting(move |call| {
+/// A board of one function answers what is not for it by UR with its own ID, so the primary can have all that is not the
+/// alternate's.
+#[test]
+fn a_primary_that_is_given_all_that_is_not_the_alternates_is_not_caught() {
+    expect_two_not_caught(accepting(|call| {
+        let side = if whom(call) == Some(ALTERNATE) {
+            ALTERNATE
+        } else {
+            PRIMARY
+        };
+        Some(served_alone(call, side, |_| {}))
+    }));
+}
+
+#[test]
+fn functions_found_by_a_table_or_by_a_difference_are_not_caught() {
+    expect_two_not_caught(looking(|call| {
+        let mut owners = [None; 8];
+        for side in SIDES {
+            owners[usize::from(call.sides[side].function)] = Some(side);
+        }
+        owners[usize::from(call.packet[9] % 8)]
+    }));
+    expect_two_not_caught(looking(|call| {
+        let difference = |side: &usize| (call.packet[9] ^ call.sides[*side].function) << 5;
+        SIDES.into_iter().rev().find(|side| difference(side) == 0)
+    }));
+}
+
+/// A board that looks for the function in another way. Type 1 is for nobody.
+fn looking(other: impl Fn(&DuoCall<'_>) -> Option<usize> + 'static) -> Wrong {
+    accepting(move |call| {
         let whom = if is_type_1(call) { None } else { other(call) };
         Some(match whom {
             Some(side) => served_anyway(call, side),
             None => declined(call, PRIMARY),
         })
-    });
+    })
+}
+
+/// Fails unless such a board is caught.
+fn expect_caught_looking(other: impl Fn(&DuoCall<'_>) -> Option<usize> + 'static) {
+    expect_two_caught(looking(other), "serve_pair");
 }
 
 /// The function whose number is alike under a mask.
@@ -434,6 +468,20 @@ fn unsupported_request_to_everything() {
     for wrong in SIDES {
         expect_caught_accepting(move |call| (whom(call) == Some(wrong)).then(|| declined(call, wrong)));
     }
+}
+
+#[test]
+fn one_completion_for_everything() {
+    let fixed = |call: &mut DuoCall<'_>| {
+        call.reply[..12].copy_from_slice(&[0x0A, 0, 0, 0, 5, 0x18, 0, 4, 1, 0, 7, 0]);
+        DuoServed {
+            number: 0,
+            length: 12,
+            kept: kept_plain(call),
+        }
+    };
+    expect_caught_accepting(move |call| Some(fixed(call)));
+    expect_caught_serving(move |call, _| Some(fixed(call)));
 }
 
 #[test]

@@ -1,13 +1,14 @@
 //! Wrong ways to judge the description of two functions. By request 11/13 they have different numbers and one edition, and
 //! both are well described, whomever the packet is for.
 
-use second::compare::{DuoCall, DuoServed, Reference, SideCall, Subject};
+use second::compare::{DuoCall, DuoServed, Reference, ServeCall, SideCall, Subject};
+use thawribbon::raw::{Capture, Description};
 
 use crate::coupler::{
-    ALTERNATE, PRIMARY, SIDES, again, declined, expect_caught_accepting, expect_caught_refusing, is_trusted, named,
-    refused, refusing, rehearsed, served_anyway,
+    ALTERNATE, PRIMARY, SIDES, again, by_two_boards, declined, expect_caught_accepting, expect_caught_refusing,
+    is_trusted, named, refused, refusing, rehearsed, served_anyway,
 };
-use crate::harness::{expect_two_caught, expect_two_not_caught};
+use crate::harness::{Wrong, expect_two_caught, expect_two_not_caught};
 use crate::reviser::has_bit_7;
 
 #[test]
@@ -16,6 +17,45 @@ fn the_form_of_these_with_nothing_wrong_is_not_caught() {
     expect_two_not_caught(refusing(&[1, 2, 3, 4, 5, 6], |call, number| {
         Some(refused(call, number))
     }));
+}
+
+/// What each function would be answered with alone: 1 where either is, else what both are.
+#[test]
+fn numbers_told_by_two_boards_of_one_function_are_not_caught() {
+    expect_two_not_caught(Wrong::duo(|mut call| {
+        let numbers = SIDES.map(|side| number_alone(&call, side));
+        let equal = call.sides[PRIMARY].function == call.sides[ALTERNATE].function;
+        match numbers {
+            _ if equal || numbers.contains(&1) => refused(&call, 1),
+            [0, _] => by_two_boards(&mut call),
+            [number, _] => refused(&call, number),
+        }
+    }));
+}
+
+/// The number that a function would get alone, while no byte that is lent changes.
+fn number_alone(call: &DuoCall<'_>, side: usize) -> u8 {
+    let own = &call.sides[side];
+    let [mut ordinary, mut trusted, mut reply] = [&*own.ordinary, &*own.trusted, &*call.reply].map(<[u8]>::to_vec);
+    let description = Description {
+        function: own.function,
+        a: own.a,
+        b: own.b,
+        edition: call.edition,
+    };
+    let alone = ServeCall {
+        description,
+        kept: own.kept,
+        ordinary: &mut ordinary,
+        ordinary_rules: own.ordinary_rules,
+        ordinary_marks: own.ordinary_marks,
+        trusted: &mut trusted,
+        trusted_rules: own.trusted_rules,
+        trusted_marks: own.trusted_marks,
+        packet: call.packet,
+        reply: &mut reply,
+    };
+    Reference.serve(alone).number
 }
 
 /// Whether equal numbers are the only fault of the description.
@@ -403,15 +443,13 @@ fn one_functions_description_is_tested_after_another_number() {
 
 /// The number that a call would get for its reply and its packet, on a board that is well described.
 fn later_number(call: &DuoCall<'_>) -> u8 {
-    let space = || vec![0; 4096];
-    let (mut spaces, rules) = ([space(), space(), space(), space()], space());
-    let mut reply = call.reply.to_vec();
+    let (mut spaces, rules, mut reply) = ([[0; 4096]; 4], [0; 4096], call.reply.to_vec());
     let [first, second, third, fourth] = &mut spaces;
-    let mut sides = [(first, second, 0), (third, fourth, 1)].map(|(ordinary, trusted, function)| SideCall {
+    let sides = [(0, first, second), (1, third, fourth)].map(|(function, ordinary, trusted)| SideCall {
         function,
         a: 0x104,
         b: 0x00C,
-        kept: Default::default(),
+        kept: Capture::default(),
         ordinary,
         ordinary_rules: &rules,
         ordinary_marks: &rules,
@@ -419,14 +457,16 @@ fn later_number(call: &DuoCall<'_>) -> u8 {
         trusted_rules: &rules,
         trusted_marks: &rules,
     });
-    let sides = sides.each_mut().map(crate::coupler::side_again);
-    let alone = DuoCall {
-        edition: call.edition,
-        sides,
-        packet: call.packet,
-        reply: &mut reply,
-    };
-    Reference.serve_pair(alone).number
+    let (edition, packet) = (call.edition, call.packet);
+    let reply = &mut reply;
+    Reference
+        .serve_pair(DuoCall {
+            edition,
+            sides,
+            packet,
+            reply,
+        })
+        .number
 }
 
 #[test]
