@@ -1,6 +1,6 @@
 /*
- * The 16 KiB of rules and marks of a board, gone through once for every packet: looked at for a bit that is in both, and
- * only read.
+ * The 16 KiB of rules and marks of a function, gone through once for every packet: looked at for a bit that is in both, and
+ * only read. A board has one function or two.
  *
  * ./benchmark compiles this with the kit's clang and -O3, as the kit compiles the library, so that no compiler makes a
  * difference. No header is needed, for the kit has none. Both are plain loops without a way out before their end, of which

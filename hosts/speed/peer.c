@@ -10,6 +10,9 @@
  * (refusals 1, 2, 3 and 5), the ranges of the function number, of the captured device and of both offsets (refusal 1),
  * whether the edition is one (refusal 1), bit 7 of byte 0, which it ignores under both (refusal 4 under edition 2),
  * whether a bit is in both masks (refusal 1; `masks_serve_looking` looks), and which number a refused packet gets.
+ *
+ * `masks_serve_pair` and `masks_serve_pair_looking` do the same for a board of two functions. They leave to their caller also
+ * whether the two have different numbers (refusal 1).
  */
 #include <stddef.h>
 #include <stdint.h>
@@ -113,4 +116,39 @@ size_t masks_serve_looking(struct masks_board *board, uint8_t *config, const uin
     if (look_overlap(wmask, w1cmask, trusted_wmask, trusted_w1cmask))
         return 0;
     return masks_serve(board, config, wmask, w1cmask, trusted, trusted_wmask, trusted_w1cmask, packet, reply);
+}
+
+/* One of the two functions of a board, and its spaces with their masks. */
+struct masks_function {
+    struct masks_board *board;
+    uint8_t *config;
+    const uint8_t *wmask;
+    const uint8_t *w1cmask;
+    uint8_t *trusted;
+    const uint8_t *trusted_wmask;
+    const uint8_t *trusted_w1cmask;
+};
+
+/* A packet for the alternate goes to it, and every other to the primary: also a Type 1 request, whatever byte 9 names. */
+size_t masks_serve_pair(const struct masks_function *primary, const struct masks_function *alternate, const uint8_t *packet,
+                        uint8_t *reply)
+{
+    int is_for_alternate = (packet[9] & 7) == alternate->board->function && (packet[0] & 0x1F) != 0x05;
+    const struct masks_function *one = is_for_alternate ? alternate : primary;
+    return masks_serve(one->board, one->config, one->wmask, one->w1cmask, one->trusted, one->trusted_wmask,
+                       one->trusted_w1cmask, packet, reply);
+}
+
+static int overlaps(const struct masks_function *one)
+{
+    return look_overlap(one->wmask, one->w1cmask, one->trusted_wmask, one->trusted_w1cmask);
+}
+
+/* The same, after a look at all masks of both. */
+size_t masks_serve_pair_looking(const struct masks_function *primary, const struct masks_function *alternate,
+                                const uint8_t *packet, uint8_t *reply)
+{
+    if (overlaps(primary) || overlaps(alternate))
+        return 0;
+    return masks_serve_pair(primary, alternate, packet, reply);
 }

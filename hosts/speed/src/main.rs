@@ -11,6 +11,7 @@ mod multicast;
 mod options;
 mod order;
 mod packets;
+mod pairs;
 mod random;
 mod records;
 mod routes;
@@ -55,6 +56,7 @@ fn measure_all(plan: Plan) -> Result<(), String> {
     rows.extend(asks::rows()?);
     rows.extend(multicast::rows()?);
     rows.extend(layouts::rows()?);
+    rows.extend(pairs::rows()?);
     let mut variants = packets::variants::all()?;
     let row_contests = rows.iter_mut().map(|row| &mut row.contest);
     let variant_contests = variants.iter_mut().map(|variants| &mut variants.contest);
@@ -63,6 +65,7 @@ fn measure_all(plan: Plan) -> Result<(), String> {
     machine::print_heading(plan);
     table::print_rows(&rows);
     table::print_looks(&rows);
+    table::print_pairs(&rows);
     table::print_variants(&variants);
     table::print_summary(&rows);
     table::print_growth(&rows);

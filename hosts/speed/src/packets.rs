@@ -4,7 +4,7 @@ mod board;
 mod check;
 mod draft;
 mod kind;
-mod look;
+pub mod look;
 mod masks;
 mod reset;
 mod setting;
@@ -14,22 +14,25 @@ use crate::measure::Pass;
 use crate::order;
 use crate::random::Random;
 use crate::row::{Peer, Row};
-use board::{Answer, Board, Library, SafeRust};
+use board::SafeRust;
+pub use board::{Answer, Board, Library, capture_of, description_of};
 pub use draft::Draft;
 use kind::{KINDS, Kind};
+pub use kind::{SERVED, UNSUPPORTED};
+pub use masks::Kept;
 use masks::{Looking, Masks};
-use setting::Setting;
+pub use setting::{Lent, Setting};
 use std::hint::black_box;
 use std::rc::Rc;
 
 /// How many packets of its kind a row has, and how many are sent in a pass: fewer where each has all rules and marks looked
 /// at, so that a pass stays shorter than a batch.
-const PACKETS: usize = 64;
-const CALLS: usize = 256;
-const SERVED_CALLS: usize = 32;
+pub const PACKETS: usize = 64;
+pub const CALLS: usize = 256;
+pub const SERVED_CALLS: usize = 32;
 
 /// The packets of a row.
-type Packets = Rc<[Box<[u8]>]>;
+pub type Packets = Rc<[Box<[u8]>]>;
 
 /// The rows of all kinds and of the reset, after all sides gave equal answers to all their packets.
 pub fn rows() -> Result<Vec<Row>, String> {
@@ -61,13 +64,13 @@ fn peers_in_c(kind: &Kind, setting: &Setting, packets: &Packets) -> Result<[(Pee
     Ok([
         (Peer::Masks, pass::<Masks>(setting, packets, kind.calls)),
         (Peer::Looking, pass::<Looking>(setting, packets, kind.calls)),
-        (Peer::Look, look::overlap_pass(setting, packets, kind.calls)),
-        (Peer::Reading, look::read_pass(setting, packets, kind.calls)),
+        (Peer::Look, look::overlap_pass([setting], packets, kind.calls)),
+        (Peer::Reading, look::read_pass([setting], packets, kind.calls)),
     ])
 }
 
 /// Packets, one after the other, to a board of a side.
-fn pass<Side: Board + 'static>(setting: &Setting, packets: &Packets, calls: usize) -> Pass {
+pub fn pass<Side: Board + 'static>(setting: &Setting, packets: &Packets, calls: usize) -> Pass {
     let mut board = Side::new(setting);
     let serve: fn(&mut Side, &[u8]) -> Answer = black_box(Side::serve);
     order::pass(packets, calls, move |packet| {

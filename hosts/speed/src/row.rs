@@ -15,8 +15,13 @@ pub enum Peer {
     Looking,
     /// That look by itself, in C.
     Look,
-    /// The same 16 KiB read once, in C.
+    /// The same 16 KiB read once, in C; of a board of two functions 32.
     Reading,
+    /// On a board of two functions: the function that serves a packet, by the library's entry for one, after a look in C at
+    /// the other.
+    ByHand,
+    /// The same without the look at the other.
+    Alone,
 }
 
 /// A line of the table. The contest's first side is the library, the others are the peers in their order.

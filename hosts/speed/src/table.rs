@@ -10,6 +10,8 @@ const NOTES: &str = "\
   packets.
 - Bare chase follows and counts the pointers, tests nothing and lists nothing; in a loop it stops at the maximum.
 - Merge alone: the library exports no merge; its side is the same proved function, in an archive of the benchmark's own.
+- Pair: safe Rust takes a packet apart once, looks at both spaces of a function at once, and is compiled into the function
+  that calls it; the library is given 34 words by a call.
 - Every figure holds the calls and the loop around them; the row `reset` is hardly more than that.
 - In rows of a few ns, where the linker happens to put a function makes a difference of a cycle or two.
 ";
@@ -19,12 +21,25 @@ pub fn print_rows(rows: &[Row]) {
     println!("| what | library ns | safe Rust ns | ratio | C masks ns | ratio | bare chase ns | ratio |");
     println!("|---|---:|---:|---|---:|---|---:|---|");
     for row in rows {
-        let peers = [Peer::SafeRust, Peer::Masks, Peer::Chase]
-            .map(|peer| peer_cells(row, peer))
-            .join(" | ");
-        println!("| {} | {} | {peers} |", row.what, nanoseconds(row.contest.median(0)));
+        print_row(row, [Peer::SafeRust, Peer::Masks, Peer::Chase]);
     }
     println!("\n{NOTES}");
+}
+
+/// Whether a row is one of packets that are served on a board of two functions.
+fn is_of_two(row: &&Row) -> bool {
+    row.side(Peer::ByHand).is_some()
+}
+
+/// The rows of packets that are served on a board of one function.
+fn served_by_one(rows: &[Row]) -> impl Iterator<Item = &Row> {
+    let served = rows.iter().filter(|row| row.side(Peer::Reading).is_some());
+    served.filter(|row| !is_of_two(row))
+}
+
+/// The rows of packets that are served on a board of two.
+fn served_by_two(rows: &[Row]) -> impl Iterator<Item = &Row> {
+    rows.iter().filter(is_of_two)
 }
 
 /// Prints what packets that are served take beside the look at all rules and marks, and beside reading them once.
@@ -35,13 +50,36 @@ pub fn print_looks(rows: &[Row]) {
     println!("16 KiB read once (look.c, compiled by the kit's clang as the library is).\n");
     println!("| what | library ns | C masks with the look ns | ratio | look alone ns | ratio | read once ns | ratio |");
     println!("|---|---:|---:|---|---:|---|---:|---|");
-    for row in rows.iter().filter(|row| row.side(Peer::Reading).is_some()) {
-        let peers = [Peer::Looking, Peer::Look, Peer::Reading]
-            .map(|peer| peer_cells(row, peer))
-            .join(" | ");
-        println!("| {} | {} | {peers} |", row.what, nanoseconds(row.contest.median(0)));
+    for row in served_by_one(rows) {
+        print_row(row, [Peer::Looking, Peer::Look, Peer::Reading]);
     }
     println!();
+}
+
+/// Prints the same of a board of two functions, and beside it what the library's entry for one function takes.
+pub fn print_pairs(rows: &[Row]) {
+    println!(
+        "A board of two functions, with 32 KiB of rules and marks: the same, and the library's entry for one function, on"
+    );
+    println!(
+        "that which serves the packet: by hand, after a look in C at the other, so that a packet is taken apart once; and"
+    );
+    println!("alone, where there is no other.\n");
+    println!(
+        "| what | library ns | C masks with the looks ns | ratio | looks alone ns | ratio | read once ns | ratio | by hand ns | ratio | one function ns | ratio |"
+    );
+    println!("|---|---:|---:|---|---:|---|---:|---|---:|---|---:|---|");
+    let peers = [Peer::Looking, Peer::Look, Peer::Reading, Peer::ByHand, Peer::Alone];
+    for row in served_by_two(rows) {
+        print_row(row, peers);
+    }
+    println!();
+}
+
+/// Prints a line: the library, then each peer with its ratio.
+fn print_row<const PEERS: usize>(row: &Row, peers: [Peer; PEERS]) {
+    let cells = peers.map(|peer| peer_cells(row, peer)).join(" | ");
+    println!("| {} | {} | {cells} |", row.what, nanoseconds(row.contest.median(0)));
 }
 
 /// A peer's time and ratio, or two empty cells.
@@ -96,10 +134,19 @@ pub fn print_variants(all: &[Variants]) {
 /// How many times the reading of its board's rules and marks a served packet may take.
 const AIM: f64 = 1.5;
 
-/// Prints how many times the reading of the same 16 KiB a served packet of each kind takes, and whether that is as aimed at.
+/// Prints how many times the reading of the same bytes a served packet of each kind takes, and whether that is as aimed at: on
+/// a board of one function, and on a board of two.
 pub fn print_reading(rows: &[Row]) {
+    print_readings("A served packet takes", 16, served_by_one(rows));
+    print_readings(
+        "A packet served on a board of two functions takes",
+        32,
+        served_by_two(rows),
+    );
+}
+
+fn print_readings<'rows>(takes: &str, kibibytes: u32, rows: impl Iterator<Item = &'rows Row>) {
     let mut ratios: Vec<(f64, &str)> = rows
-        .iter()
         .filter_map(|row| Some((row.ratio(Peer::Reading)?, row.what.as_str())))
         .collect();
     ratios.sort_by(|left, right| right.0.total_cmp(&left.0));
@@ -109,7 +156,7 @@ pub fn print_reading(rows: &[Row]) {
         .iter()
         .map(|(ratio, what)| format!("{what} ({ratio:.3})"))
         .collect();
-    println!("A served packet takes at most {most:.2} times the reading of the same 16 KiB, {verdict} {AIM}.");
+    println!("{takes} at most {most:.2} times the reading of the same {kibibytes} KiB, {verdict} {AIM}.");
     println!("By kind: {}.", named.join("; "));
 }
 

@@ -28,32 +28,32 @@ pub struct Library {
     lent: Lent,
 }
 
+pub fn description_of(setting: &Setting) -> raw::Description {
+    raw::Description {
+        function: setting.function,
+        a: setting.a.into(),
+        b: setting.b.into(),
+        edition: setting.edition,
+    }
+}
+
+pub fn capture_of(setting: &Setting) -> raw::Capture {
+    let captured = |(bus, device)| raw::Capture {
+        captured: 1,
+        bus,
+        device,
+    };
+    setting.capture.map_or_else(raw::Capture::default, captured)
+}
+
 impl Board for Library {
     const NAME: &'static str = "library";
 
     fn new(setting: &Setting) -> Self {
-        let Setting {
-            function,
-            a,
-            b,
-            edition,
-            capture,
-            ref lent,
-        } = *setting;
-        let capture = capture.map_or_else(raw::Capture::default, |(bus, device)| raw::Capture {
-            captured: 1,
-            bus,
-            device,
-        });
         Self {
-            description: raw::Description {
-                function,
-                a: a.into(),
-                b: b.into(),
-                edition,
-            },
-            capture,
-            lent: lent.clone(),
+            description: description_of(setting),
+            capture: capture_of(setting),
+            lent: setting.lent.clone(),
         }
     }
 

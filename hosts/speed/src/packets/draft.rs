@@ -72,6 +72,11 @@ impl Draft {
         self
     }
 
+    pub fn for_function(mut self, number: u8) -> Self {
+        self.0[9] = self.0[9] & 0xF8 | number;
+        self
+    }
+
     pub fn poisoned(mut self) -> Self {
         self.0[2] |= 0x40;
         self

@@ -24,7 +24,7 @@ pub struct Kind {
 type Draw = fn(&mut Random, &Setting) -> Draft;
 
 pub const SERVED: Option<u8> = Some(0x00);
-const UNSUPPORTED: Option<u8> = Some(0x20);
+pub const UNSUPPORTED: Option<u8> = Some(0x20);
 
 pub const KINDS: [Kind; 24] = [
     read("read, ordinary", |random, setting| {

@@ -1,5 +1,6 @@
-//! The 16 KiB of a board's rules and marks, gone through once in plain C (look.c): looked at for a bit that is in both, which
-//! no served packet can do without, and only read, which nothing that looks at them is quicker than.
+//! The 16 KiB of a function's rules and marks, gone through once in plain C (look.c): looked at for a bit that is in both, which
+//! no served packet can do without, and only read, which nothing that looks at them is quicker than. A board has one function
+//! or two.
 
 use super::Packets;
 use super::setting::{Lent, Setting};
@@ -25,21 +26,34 @@ unsafe extern "C" {
 /// Rules and marks of both spaces, in the order of look.c, each of the size that look.c takes for granted.
 type Four = [Box<[u8; 4096]>; 4];
 
-/// A board's rules and marks once more.
-fn four(lent: &Lent) -> Four {
+/// A function's rules and marks as they are lent.
+fn as_lent(lent: &Lent) -> [&[u8; 4096]; 4] {
     let all = [
         &lent.ordinary_rules,
         &lent.ordinary_marks,
         &lent.trusted_rules,
         &lent.trusted_marks,
     ];
-    all.map(|bytes| Box::new(bytes.as_slice().try_into().expect("4,096 bytes")))
+    all.map(|bytes| bytes.as_slice().try_into().expect("4,096 bytes"))
+}
+
+/// A function's rules and marks once more.
+fn four(lent: &Lent) -> Four {
+    as_lent(lent).map(|bytes| Box::new(*bytes))
+}
+
+/// Whether a bit is in the rules and in the marks of a space that is lent.
+#[inline]
+pub fn overlaps(lent: &Lent) -> bool {
+    let [one, two, three, four] = as_lent(lent);
+    // SAFETY: each has the 4,096 bytes that look.c reads, and nothing is written.
+    unsafe { look_overlap(one.as_ptr(), two.as_ptr(), three.as_ptr(), four.as_ptr()) != 0 }
 }
 
 /// Whether a bit is in the rules and in the marks of a space.
 #[inline(never)]
 fn overlap([one, two, three, four]: &Four) -> u64 {
-    // SAFETY: each has the 4,096 bytes that look.c reads, and nothing is written.
+    // SAFETY: as above.
     unsafe { look_overlap(one.as_ptr(), two.as_ptr(), three.as_ptr(), four.as_ptr()) as u64 }
 }
 
@@ -50,25 +64,32 @@ fn read([one, two, three, four]: &Four) -> u64 {
     unsafe { look_read(one.as_ptr(), two.as_ptr(), three.as_ptr(), four.as_ptr()) }
 }
 
-/// A look at a board's rules and marks for every packet, which itself is not looked at.
-fn pass(look: fn(&Four) -> u64, setting: &Setting, packets: &Packets, calls: usize) -> Pass {
-    let buffers = four(&setting.lent);
+/// A look at the rules and marks of every function for every packet, which itself is not looked at.
+fn pass<const FUNCTIONS: usize>(
+    look: fn(&Four) -> u64,
+    settings: [&Setting; FUNCTIONS],
+    packets: &Packets,
+    calls: usize,
+) -> Pass {
+    let functions = settings.map(|setting| four(&setting.lent));
     let look = black_box(look);
     order::pass(packets, calls, move |packet| {
         black_box(packet);
-        black_box(look(black_box(&buffers)));
+        for buffers in &functions {
+            black_box(look(black_box(buffers)));
+        }
     })
 }
 
-pub fn overlap_pass(setting: &Setting, packets: &Packets, calls: usize) -> Pass {
-    pass(overlap, setting, packets, calls)
+pub fn overlap_pass<const FUNCTIONS: usize>(settings: [&Setting; FUNCTIONS], packets: &Packets, calls: usize) -> Pass {
+    pass(overlap, settings, packets, calls)
 }
 
-pub fn read_pass(setting: &Setting, packets: &Packets, calls: usize) -> Pass {
-    pass(read, setting, packets, calls)
+pub fn read_pass<const FUNCTIONS: usize>(settings: [&Setting; FUNCTIONS], packets: &Packets, calls: usize) -> Pass {
+    pass(read, settings, packets, calls)
 }
 
-/// Whether both loops go over all bytes of a board that has no bit in rules and marks.
+/// Whether both loops go over all bytes of a function that has no bit in rules and marks.
 pub fn check(what: &str, setting: &Setting) -> Result<(), String> {
     let buffers = four(&setting.lent);
     let words = buffers.iter().flat_map(|bytes| bytes.chunks_exact(8));

@@ -6,13 +6,49 @@ use super::setting::{Lent, Setting};
 
 /// The struct of peer.c.
 #[repr(C)]
-struct Kept {
+pub struct Kept {
     a: u32,
     b: u32,
     function: u8,
     captured: u8,
     bus: u8,
     device: u8,
+}
+
+impl Kept {
+    /// Stops where a size is not what the C code takes for granted.
+    pub fn new(setting: &Setting) -> Self {
+        let Setting {
+            function,
+            a,
+            b,
+            edition: _,
+            capture,
+            ref lent,
+        } = *setting;
+        let spaces = [
+            &lent.ordinary,
+            &lent.ordinary_rules,
+            &lent.ordinary_marks,
+            &lent.trusted,
+            &lent.trusted_rules,
+            &lent.trusted_marks,
+        ];
+        assert!(spaces.iter().all(|space| space.len() == 4096) && lent.reply.len() >= 16 && a <= 0xFFC && b <= 0xFFC);
+        let (bus, device) = capture.unwrap_or_default();
+        Self {
+            a: a.into(),
+            b: b.into(),
+            function,
+            captured: capture.is_some().into(),
+            bus,
+            device,
+        }
+    }
+
+    pub fn capture(&self) -> Option<(u8, u8)> {
+        (self.captured != 0).then_some((self.bus, self.device))
+    }
 }
 
 /// The board, its ordinary space with rules and marks, its trusted space with the same, a packet and a reply.
@@ -73,7 +109,7 @@ impl Masks {
             reply,
         } = &mut self.lent;
         debug_assert!(packet.len() >= if packet[0] & 0x40 == 0 { 12 } else { 16 });
-        // SAFETY: `new` has tested the sizes of all that is lent, every offset in a packet is a multiple of 4 below
+        // SAFETY: `Kept::new` has tested the sizes of all that is lent, every offset in a packet is a multiple of 4 below
         // 4,096, and safe Rust was found to serve the packet before this side got it, so its length fits its type.
         let length = unsafe {
             serve(
@@ -95,37 +131,10 @@ impl Masks {
 impl Board for Masks {
     const NAME: &'static str = "C masks";
 
-    /// Stops where a size is not what the C code takes for granted.
     fn new(setting: &Setting) -> Self {
-        let Setting {
-            function,
-            a,
-            b,
-            edition: _,
-            capture,
-            ref lent,
-        } = *setting;
-        let spaces = [
-            &lent.ordinary,
-            &lent.ordinary_rules,
-            &lent.ordinary_marks,
-            &lent.trusted,
-            &lent.trusted_rules,
-            &lent.trusted_marks,
-        ];
-        assert!(spaces.iter().all(|space| space.len() == 4096) && lent.reply.len() >= 16 && a <= 0xFFC && b <= 0xFFC);
-        let (bus, device) = capture.unwrap_or_default();
-        let kept = Kept {
-            a: a.into(),
-            b: b.into(),
-            function,
-            captured: capture.is_some().into(),
-            bus,
-            device,
-        };
         Self {
-            kept,
-            lent: lent.clone(),
+            kept: Kept::new(setting),
+            lent: setting.lent.clone(),
         }
     }
 
@@ -136,7 +145,7 @@ impl Board for Masks {
     }
 
     fn capture(&self) -> Option<(u8, u8)> {
-        (self.kept.captured != 0).then_some((self.kept.bus, self.kept.device))
+        self.kept.capture()
     }
 
     fn lent(&self) -> &Lent {
