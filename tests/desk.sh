@@ -87,11 +87,27 @@ fresh -> number 0|'->' stands behind a statement that has no answer to expect
 fresh 1|'1' is a number too many
 function 100|'100' is too large here
 captured 05|the line's end stands where a number is still wanted
-walk|the line's end stands where the name of a list or a space is wanted
-walk ordinary|'ordinary' stands where the name of a list or a space is wanted
-walk 034|'034' stands where the name of a list or a space is wanted
+take|the line's end stands where the name of a list, a space or a function is wanted
+take 1|'1' stands where the name of a list, a space or a function is wanted
+take ordinary|'ordinary' stands where the name of a list, a space or a function is wanted
+take second|'second' is no word of the desk, and no number of one to sixteen hexadecimal digits
+take alternate 1|'1' is a number too many
+take primary alternate|'alternate' stands where a number, a comma or the line's end is wanted
+take alternate -> number 0|'->' stands behind a statement that has no answer to expect
+primary|'primary' is not a statement; help lists them
+alternate 1 3|'alternate' is not a statement; help lists them
+walk primary|'primary' stands where the name of a list, a space or a function is wanted
+dvsec alternate 100|'alternate' stands where the name of a list, a space or a function is wanted
+show primary 004 4|'primary' stands where the name of a list, a space or a function is wanted
+packet 1B -> number 3, alternate 1 3|'alternate' cannot be expected of this
+packet 1B -> number 3, primary|'primary' cannot be expected of this
+packet 1B -> number 3, take alternate|'take' cannot be expected of this
+dual ordinary 040 -> number 0, alternate 1|the line's end stands where a number is still wanted
+walk|the line's end stands where the name of a list, a space or a function is wanted
+walk ordinary|'ordinary' stands where the name of a list, a space or a function is wanted
+walk 034|'034' stands where the name of a list, a space or a function is wanted
 walk compatible extended|'extended' stands where a number, a comma or the line's end is wanted
-dvsec compatible 100|'compatible' stands where the name of a list or a space is wanted
+dvsec compatible 100|'compatible' stands where the name of a list, a space or a function is wanted
 dvsec ordinary|the line's end stands where a number is still wanted
 merge 01 02|the line's end stands where a number is still wanted
 merge 0 0 0 0 0 0 0 0 0 0 0 0 0 0 0 0 0 -> bytes 00 00 00|the line's end stands where a number is still wanted
@@ -110,7 +126,7 @@ trusted-marks 004|the line's end stands where a number is still wanted
 ordinary-marks 004 01 -> number 0|'->' stands behind a statement that has no answer to expect
 show ordinary-marks FF8 9|'9' does not fit: a space ends at FFF
 show marks 004 4|'marks' is no word of the desk, and no number of one to sixteen hexadecimal digits
-dvsec trusted-marks 100|'trusted-marks' stands where the name of a list or a space is wanted
+dvsec trusted-marks 100|'trusted-marks' stands where the name of a list, a space or a function is wanted
 packet 1B -> number 3, ordinary-marks 004 51|'ordinary-marks' cannot be expected of this
 dvsec ordinary 100 -> number 0, body FFC 6|'6' does not fit: a space ends at FFF
 chain extended 0 100 4 0|the chain does not fit: its headers leave the space, or a pointer is too large
@@ -171,10 +187,10 @@ keep trusted 200 0 -> number 8|the list of records has no such port: records C b
 keep trusted 200|the line's end stands where a number is still wanted
 keep trusted 200 21|'21' is too large here
 keep trusted 200 0 1|'1' is a number too many
-keep 200 0|'200' stands where the name of a list or a space is wanted
-keep trusted-rules 200 0|'trusted-rules' stands where the name of a list or a space is wanted
-multicast|the line's end stands where the name of a list or a space is wanted
-multicast compatible 100|'compatible' stands where the name of a list or a space is wanted
+keep 200 0|'200' stands where the name of a list, a space or a function is wanted
+keep trusted-rules 200 0|'trusted-rules' stands where the name of a list, a space or a function is wanted
+multicast|the line's end stands where the name of a list, a space or a function is wanted
+multicast compatible 100|'compatible' stands where the name of a list, a space or a function is wanted
 multicast ordinary|the line's end stands where a number is still wanted
 multicast ordinary 100 200|'200' is a number too many
 multicast ordinary 100 -> fields 0 0 0 0 0 0 0|'fields' stands where the expected number is wanted first
@@ -237,9 +253,9 @@ plan -> number 0, headers 100 1 1|'headers' cannot be expected of this
 accept 100|'100' is a number too many
 accept -> number 0, offsets 100|'offsets' cannot be expected of this
 accept -> number 0, headers 100 1 1|'headers' cannot be expected of this
-write|the line's end stands where the name of a list or a space is wanted
-write extended|'extended' stands where the name of a list or a space is wanted
-write ordinary-rules|'ordinary-rules' stands where the name of a list or a space is wanted
+write|the line's end stands where the name of a list, a space or a function is wanted
+write extended|'extended' stands where the name of a list, a space or a function is wanted
+write ordinary-rules|'ordinary-rules' stands where the name of a list, a space or a function is wanted
 write ordinary 100|'100' is a number too many
 write ordinary -> headers 100 1 1|'headers' stands where the expected number is wanted first
 write ordinary -> number 0, headers|the line's end stands where a number is still wanted
@@ -408,6 +424,141 @@ $stays
 checks 1, as expected 0, lines not understood 0
 LINES
 answers "editions, and a 4 for bit 7" 1 <"$work/in"
+
+# Two functions: whose capture and whose bytes are told, in an answer and where something is not as expected; which causes a 1 has, and whose; the function that is
+# taken is at hand again after each question, and a new board has one.
+cat >"$work/in" <<'LINES'
+open
+take alternate
+packet 44 00 00 01 01 00 07 0F 05 19 00 04 11 22 33 44 -> number 0, reply 0A 00 00 00 05 19 00 04 01 00 07 00
+packet 44 00 00 01 01 00 07 0F 05 18 00 04 11 22 33 44 -> number 0, reply 0A 00 00 00 05 18 00 04 01 00 07 00, captured 05 02, ordinary 004 11 22 33 45
+packet 1B 00 00 01 01 00 08 0F 06 19 00 04
+packet 1B 00 00 01 01 00 08 0F 06 1A 00 04
+packet 5B 00 00 01 01 00 07 0F 05 19 00 10 21 43 65 87
+show trusted 010 4
+reset -> captured 05 03
+reset
+packet 1B 00 00 01 01 00 08 0F 05 1A 00 04
+ask 44 01 00 07 05 03 1 008 F 01 02 03 04 -> number 0, writes 44 00 00 01 01 00 07 0F 05 19 00 08 01 02 03 04, reply 0A 00 00 00 05 19 00 04 01 00 07 00, captured 05 03
+ordinary-marks 010 0F
+take primary
+trusted-marks FFF 80
+function 1
+edition 3
+packet 04 00 00 01 01 00 08 0F 05 19 00 04
+edition 1
+function 0
+trusted-marks FFF 00
+sizes 1000 1000 1000 1000 1000 FFF
+packet 04 00 00 01 01 00 08 0F 05 18 00 04
+take alternate
+ordinary-rules 010 F0
+packet 04 00 00 01 01 00 08 0F 05 19 00 04 -> number 0, reply 4A 00 00 01 05 19 00 04 01 00 08 00 11 22 33 44
+structures 1 1 4
+proposal 100
+write trusted
+open
+packet 04 00 00 01 01 00 08 0F 05 19 00 04
+reset
+LINES
+cat >"$work/wanted" <<'LINES'
+ok
+ok
+line 3: not as expected: captured primary nothing, alternate bus 05 device 03, expected primary nothing, alternate nothing
+line 3: not as expected: alternate ordinary 004: 11 22 33 44, expected 51 51 51 51
+number 0: answered
+  asks: Type 0 write, bus 05 device 03 function 1, offset 004, enables 1111, data 11 22 33 44, requester 01 00 tag 07
+  reply: 0A 00 00 00 05 19 00 04 01 00 07 00
+  says: successful; completer 05 19, requester 01 00 tag 07
+  captured: primary nothing, alternate bus 05 device 03
+  alternate ordinary 004: 51 51 51 51 -> 11 22 33 44
+line 4: not as expected: captured primary bus 05 device 03, alternate bus 05 device 03, expected primary bus 05 device 02, alternate bus 05 device 03
+line 4: not as expected: primary ordinary 004: 11 22 33 44, expected 11 22 33 45
+number 0: answered
+  asks: Type 0 write, bus 05 device 03 function 0, offset 004, enables 1111, data 11 22 33 44, requester 01 00 tag 07
+  reply: 0A 00 00 00 05 18 00 04 01 00 07 00
+  says: successful; completer 05 18, requester 01 00 tag 07
+  captured: primary bus 05 device 03, alternate bus 05 device 03
+  primary ordinary 004: 51 51 51 51 -> 11 22 33 44
+number 0: answered
+  asks: trusted read, bus 06 device 03 function 1, offset 004, enables 1111, requester 01 00 tag 08
+  reply: 0A 00 00 00 05 19 20 04 01 00 08 00
+  says: unsupported request (UR): a trusted request that does not name the captured bus and device and the board's function; completer 05 19, requester 01 00 tag 08
+  captured: primary bus 05 device 03, alternate bus 05 device 03
+  no byte changed
+number 0: answered
+  asks: trusted read, bus 06 device 03 function 2, offset 004, enables 1111, requester 01 00 tag 08
+  reply: 0A 00 00 00 05 18 20 04 01 00 08 00
+  says: unsupported request (UR): a trusted request that does not name the captured bus and device and the board's function; completer 05 18, requester 01 00 tag 08
+  captured: primary bus 05 device 03, alternate bus 05 device 03
+  no byte changed
+number 0: answered
+  asks: trusted write, bus 05 device 03 function 1, offset 010, enables 1111, data 21 43 65 87, requester 01 00 tag 07
+  reply: 0A 00 00 00 05 19 00 04 01 00 07 00
+  says: successful; completer 05 19, requester 01 00 tag 07
+  captured: primary bus 05 device 03, alternate bus 05 device 03
+  alternate trusted 010: 72 72 72 72 -> 21 43 65 87
+010: 21 43 65 87
+line 9: not as expected: captured primary nothing, alternate nothing, expected primary bus 05 device 03, alternate bus 05 device 03
+  captured: primary nothing, alternate nothing
+  captured: primary nothing, alternate nothing
+number 0: answered
+  asks: trusted read, bus 05 device 03 function 2, offset 004, enables 1111, requester 01 00 tag 08
+  reply: 0A 00 00 00 00 00 20 04 01 00 08 00
+  says: unsupported request (UR): a trusted request while nothing is captured; completer 00 00, requester 01 00 tag 08
+  captured: primary nothing, alternate nothing
+  no byte changed
+line 12: not as expected: alternate ordinary 008: 01 02 03 04, expected 51 51 51 51
+writes: 44 00 00 01 01 00 07 0F 05 19 00 08 01 02 03 04
+number 0: answered
+  asks: Type 0 write, bus 05 device 03 function 1, offset 008, enables 1111, data 01 02 03 04, requester 01 00 tag 07
+  reply: 0A 00 00 00 05 19 00 04 01 00 07 00
+  says: successful; completer 05 19, requester 01 00 tag 07
+  captured: primary nothing, alternate bus 05 device 03
+  alternate ordinary 008: 51 51 51 51 -> 01 02 03 04
+  reads: success without data; completer 05 19, requester 01 00 tag 07
+ok
+ok
+ok
+ok
+ok
+number 1: badly described: functions with the same number, a buffer of another size than 1000, a number or an offset out of range, an edition other than 1 and 2, or a bit that is writable and marked
+  both functions have the number 1
+  edition 3 is neither 1 nor 2
+  alternate ordinary 010: rule FF and mark 0F have a bit in common
+  primary trusted FFF: rule FF and mark 80 have a bit in common
+  asks: Type 0 read, bus 05 device 03 function 1, offset 004, enables 1111, requester 01 00 tag 08
+  captured: primary nothing, alternate bus 05 device 03
+  no byte changed
+ok
+ok
+ok
+ok
+number 1: badly described: functions with the same number, a buffer of another size than 1000, a number or an offset out of range, an edition other than 1 and 2, or a bit that is writable and marked
+  alternate ordinary 010: rule FF and mark 0F have a bit in common
+  asks: Type 0 read, bus 05 device 03 function 0, offset 004, enables 1111, requester 01 00 tag 08
+  captured: primary nothing, alternate bus 05 device 03
+  no byte changed
+ok
+ok
+as expected
+ok
+ok
+number 0: written
+extended 1
+100 0001 1
+  alternate trusted 100: 72 72 72 72 -> 01 00 01 00
+ok
+number 0: answered
+  asks: Type 0 read, bus 05 device 03 function 1, offset 004, enables 1111, requester 01 00 tag 08
+  reply: 0A 00 00 00 00 00 20 04 01 00 08 00
+  says: unsupported request (UR): a Type 0 request for another function; completer 00 00, requester 01 00 tag 08
+  captured: nothing
+  no byte changed
+  captured: nothing
+checks 5, as expected 1, lines not understood 0
+LINES
+answers "two functions" 1 <"$work/in"
 
 # What the records of ports say in words, and why an address is not judged: each cause.
 cat >"$work/in" <<'LINES'

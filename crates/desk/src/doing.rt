@@ -206,7 +206,7 @@ fn ask_of_layout(
 // While a question is asked, the function that it names is at hand.
 fn ask(desk: &mut Desk, tokens: &Tokens, store: &mut Store, records: &mut Records) {
     let role = slots::at(desk, slots::ROLE);
-    taking::take_named(desk, tokens, store);
+    taking::take(desk, store, taking::named(desk, tokens));
     put_question(desk, tokens, store, records);
     taking::take(desk, store, role);
 }

@@ -14,7 +14,6 @@ use crate::tokens::Tokens;
 use crate::vocabulary;
 use crate::wording;
 use crate::wording::say;
-use answers::Answer;
 use board::Description;
 use capture::Capture;
 use pair::Captures;
@@ -115,10 +114,10 @@ fn serve(
     reply: &mut [u8],
 ) -> Outcome {
     if slots::at(desk, slots::ROLE) != slots::ALONE {
-        return outcome_of(serve_two(desk, store, ordinary, trusted, reply));
+        return lend_beside(desk, store, ordinary, trusted, reply);
     }
     let lent = &*store;
-    outcome_alone(board::serve(
+    outcome_of_one(board::serve(
         description_of(desk),
         capture_of(desk, slots::CAPTURED),
         ordinary,
@@ -132,71 +131,93 @@ fn serve(
     ))
 }
 
-// Of two functions the primary is at hand, and the alternate's spaces are lent and put back in the same way.
-fn serve_two(
+// A board of two is lent the spaces of its alternate too, in the same way.
+fn lend_beside(
     desk: &Desk,
     store: &mut Store,
     ordinary: &mut [u8],
     trusted: &mut [u8],
     reply: &mut [u8],
-) -> Served {
-    let mut alternate_ordinary = spaces::copy_of(store, spaces::BESIDE);
-    let mut alternate_trusted = spaces::copy_of(store, spaces::BESIDE_TRUSTED);
-    let first = spaces::within(desk, slots::BESIDE_ORDINARY_SIZE, &alternate_ordinary);
-    let second = spaces::within(desk, slots::BESIDE_TRUSTED_SIZE, &alternate_trusted);
-    let lent_ordinary = &mut alternate_ordinary[..first];
-    let lent_trusted = &mut alternate_trusted[..second];
-    let lent = &*store;
-    let served = pair::serve(
+) -> Outcome {
+    let mut beside_ordinary = spaces::copy_of(store, spaces::BESIDE);
+    let mut beside_trusted = spaces::copy_of(store, spaces::BESIDE_TRUSTED);
+    let first = spaces::within(desk, slots::BESIDE_ORDINARY_SIZE, &beside_ordinary);
+    let second = spaces::within(desk, slots::BESIDE_TRUSTED_SIZE, &beside_trusted);
+    let outcome = serve_both(
+        desk,
+        store,
+        ordinary,
+        trusted,
+        &mut beside_ordinary[..first],
+        &mut beside_trusted[..second],
+        reply,
+    );
+    spaces::put_back(store, spaces::BESIDE, &beside_ordinary);
+    spaces::put_back(store, spaces::BESIDE_TRUSTED, &beside_trusted);
+    outcome
+}
+
+fn serve_both(
+    desk: &Desk,
+    store: &Store,
+    ordinary: &mut [u8],
+    trusted: &mut [u8],
+    beside_ordinary: &mut [u8],
+    beside_trusted: &mut [u8],
+    reply: &mut [u8],
+) -> Outcome {
+    outcome_of_two(pair::serve(
         edition_of(desk),
         function_of(desk, slots::FUNCTION),
         function_of(desk, slots::BESIDE_FUNCTION),
         captures_of(desk),
         ordinary,
-        spaces::lent(desk, lent, spaces::ORDINARY_RULES),
-        spaces::lent(desk, lent, spaces::ORDINARY_MARKS),
+        spaces::lent(desk, store, spaces::ORDINARY_RULES),
+        spaces::lent(desk, store, spaces::ORDINARY_MARKS),
         trusted,
-        spaces::lent(desk, lent, spaces::TRUSTED_RULES),
-        spaces::lent(desk, lent, spaces::TRUSTED_MARKS),
-        lent_ordinary,
-        spaces::lent(desk, lent, spaces::BESIDE_ORDINARY_RULES),
-        spaces::lent(desk, lent, spaces::BESIDE_ORDINARY_MARKS),
-        lent_trusted,
-        spaces::lent(desk, lent, spaces::BESIDE_TRUSTED_RULES),
-        spaces::lent(desk, lent, spaces::BESIDE_TRUSTED_MARKS),
-        sent(desk, lent),
+        spaces::lent(desk, store, spaces::TRUSTED_RULES),
+        spaces::lent(desk, store, spaces::TRUSTED_MARKS),
+        beside_ordinary,
+        spaces::lent(desk, store, spaces::BESIDE_ORDINARY_RULES),
+        spaces::lent(desk, store, spaces::BESIDE_ORDINARY_MARKS),
+        beside_trusted,
+        spaces::lent(desk, store, spaces::BESIDE_TRUSTED_RULES),
+        spaces::lent(desk, store, spaces::BESIDE_TRUSTED_MARKS),
+        sent(desk, store),
         reply,
-    );
-    spaces::put_back(store, spaces::BESIDE, &alternate_ordinary);
-    spaces::put_back(store, spaces::BESIDE_TRUSTED, &alternate_trusted);
-    served
+    ))
 }
 
-fn outcome_of(served: Served) -> Outcome {
+fn outcome_of_two(served: Served) -> Outcome {
     let answer = served.answer;
     let kept = served.kept;
-    let primary = kept.primary;
-    let alternate = kept.alternate;
-    Outcome {
-        number: answer.number(),
-        length: served.length,
-        captured: capture_number(primary),
-        beside: capture_number(alternate),
-    }
+    outcome_of(answer.number(), served.length, kept)
 }
 
 // Beside a function that is alone nothing is captured.
-fn outcome_alone(served: board::Served) -> Outcome {
+fn outcome_of_one(served: board::Served) -> Outcome {
     let answer = served.answer;
     let primary = served.capture;
-    outcome_of(Served {
-        answer,
-        length: served.length,
-        kept: Captures {
+    outcome_of(
+        answer.number(),
+        served.length,
+        Captures {
             primary,
             alternate: Capture::Nothing,
         },
-    })
+    )
+}
+
+// With what the primary has captured, which is at hand, and the alternate.
+fn outcome_of(number: u8, length: usize, kept: Captures) -> Outcome {
+    let primary = kept.primary;
+    let alternate = kept.alternate;
+    Outcome {
+        number,
+        length,
+        captured: capture_number(primary),
+        beside: capture_number(alternate),
+    }
 }
 
 fn keep_reply(store: &mut Store, reply: &Reply) {
@@ -361,11 +382,7 @@ fn wanted_capture(desk: &Desk, tokens: &Tokens) -> usize {
 
 // A reset is asked for. What is expected of one function is expected of both.
 pub fn reset(desk: &mut Desk, tokens: &Tokens) -> bool {
-    let outcome = outcome_of(Served {
-        answer: Answer::Done,
-        length: 0,
-        kept: pair::reset(captures_of(desk)),
-    });
+    let outcome = outcome_of(0, 0, pair::reset(captures_of(desk)));
     let right = answer_reset(desk, tokens, outcome);
     keep_captures(desk, outcome);
     right

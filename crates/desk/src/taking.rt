@@ -22,31 +22,39 @@ pub fn take(desk: &mut Desk, store: &mut Store, role: usize) {
     }
 }
 
-// The function that a packet or a request names.
-pub fn take_named(desk: &mut Desk, tokens: &Tokens, store: &mut Store) {
+// Of two functions the one that a packet or a request names: the alternate, where it is that, else the primary. Any other question is about the one at hand.
+pub fn named(desk: &Desk, tokens: &Tokens) -> usize {
+    let role = slots::at(desk, slots::ROLE);
+    if role == slots::ALONE {
+        return role;
+    }
     match tokens::word(tokens, 0) {
-        vocabulary::PACKET => take_number(desk, store, named_in(tokens)),
-        vocabulary::ASK => take_number(desk, store, tokens::at(tokens, 7)),
-        _ => {}
+        vocabulary::PACKET => role_of(desk, role, number_in(tokens)),
+        vocabulary::ASK => role_of(desk, role, tokens::at(tokens, 7)),
+        _ => role,
     }
 }
 
-// Byte 9 names it; a packet that is shorter than a header names none.
-fn named_in(tokens: &Tokens) -> usize {
+// Byte 9 has it; a packet that is shorter than a header names none.
+fn number_in(tokens: &Tokens) -> usize {
     if tokens::numbers_from(tokens, 1) < HEADER {
         return slots::NOTHING;
     }
     tokens::at(tokens, 10) % 8
 }
 
-// The alternate, where it has this number, else the primary; of a board of one function that one.
-fn take_number(desk: &mut Desk, store: &mut Store, number: usize) {
-    take(desk, store, slots::PRIMARY);
-    if slots::at(desk, slots::ROLE) == slots::PRIMARY {
-        if slots::at(desk, slots::BESIDE_FUNCTION) == number {
-            take(desk, store, slots::ALTERNATE);
-        }
+fn role_of(desk: &Desk, role: usize, number: usize) -> usize {
+    if number == alternate_number(desk, role) {
+        return slots::ALTERNATE;
     }
+    slots::PRIMARY
+}
+
+fn alternate_number(desk: &Desk, role: usize) -> usize {
+    if role == slots::ALTERNATE {
+        return slots::at(desk, slots::FUNCTION);
+    }
+    slots::at(desk, slots::BESIDE_FUNCTION)
 }
 
 // The name of the function that has a place of the store, where there are two.
