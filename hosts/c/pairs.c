@@ -93,8 +93,8 @@ static void every_two_numbers(void)
     }
 }
 
-/* The five causes of Unsupported Request at each function, with its own ID; and Type 1 and what names neither, with the primary's: fresh,
- * after the other has captured, and after both have. */
+/* What is unsupported at each function, with its own ID: nothing captured, another address, a poisoned write; and Type 1 and what names
+ * neither, with the primary's: fresh, after either has captured, and after both have. */
 static void unsupported_ids(void)
 {
     static const uint8_t poison = 0x40;
@@ -257,7 +257,7 @@ static void captured_devices(void)
     }
 }
 
-/* Every value of captured, of both functions: a refusal hands all of it back; a packet that is served gives 0 or 1. */
+/* Values of captured, of both functions: a refusal hands all of it back; a packet that is served gives 0 or 1. */
 static void captured_values(void)
 {
     unsigned one, other;

@@ -94,7 +94,7 @@ enum thawribbon_number {
     THAWRIBBON_SERVED = 0,
     /* a space, its rules or its marks aren't 4,096 bytes, a bit is 1 in the rules and in the marks of a space, a captured device is over
        31, a function number or A or B is outside its range, the edition is neither THAWRIBBON_EDITION_1 nor THAWRIBBON_EDITION_2 (one that
-       an initialiser leaves out is 0), the two functions of a board have one number, where all else is looked at for both (rule 14.1), a
+       an initialiser leaves out is 0); of a board of two functions, any of this is so of either, or both have one number (rule 14.1); a
        record is asked for where none may stand (rule 2.2); at thawribbon_board_serve and thawribbon_pair_serve, also where buffers overlap;
        at a router, a list has over 32 ports, a port's secondary bus is over its subordinate bus, or two ranges of buses meet (rule 10.2); at
        thawribbon_ports_route, also where what leaves overlaps the ports or the packet; of a request to be written, its kind is none of the
@@ -1035,7 +1035,8 @@ static inline int thawribbon_captured_other(thawribbon_capture capture, uint8_t 
  *
  * Sets every member of `record` to what thawribbon_dual_bdf gives. Only THAWRIBBON_NAMED_ALTERNATE means that function and device of the
  * record are those of this board's alternate. The device of a record is that of both functions, and a board knows its device only by what
- * it has captured: so it is compared with each capture that there is, and THAWRIBBON_NAMED_UNCAPTURED says that there is none. With
+ * it has captured: so it is compared with each capture that there is, and THAWRIBBON_NAMED_UNCAPTURED says that there is none. Whether the
+ * pair is well described is not looked at: with one number twice the record's function is the primary's too, and serving answers 1. With
  * THAWRIBBON_NAMED_REFUSED, record->number says why: 1, also where the space is NULL, 8, 9 or 10. The offset may be any number. The pair,
  * which is only read, and `record` are not NULL.
  */

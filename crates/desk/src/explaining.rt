@@ -58,6 +58,11 @@ pub const FEW_ENTRIES: usize = 21;
 
 const BOARD: usize = 22;
 
+// Of the reasons for UR, those of two functions.
+const FOR_TYPE_1: usize = 2;
+
+const FOR_NEITHER: usize = 7;
+
 // An answer number and what it means.
 pub fn put_number(number: u8) {
     put_number_as(number, meaning_of(number));
@@ -189,10 +194,27 @@ fn request(desk: &Desk, packet: &[u8], replied: usize, store: &Store) {
         Decoded::Asks(asked) => {
             put_request(asked, packet);
             if replied != 0 {
-                put_reply(cause_of(desk, asked), replied, store);
+                put_reply(reason_of(desk, asked), replied, store);
             }
         }
     }
+}
+
+// The place in the table of why it is unsupported. Of two functions the primary answers what is for neither, whatever else it has to say of it.
+fn reason_of(desk: &Desk, asked: Request) -> usize {
+    let reason = reason_number(cause_of(desk, asked));
+    if reason != FOR_TYPE_1 && is_for_neither(desk, asked.function as usize) {
+        return FOR_NEITHER;
+    }
+    reason
+}
+
+fn is_for_neither(desk: &Desk, function: usize) -> bool {
+    if slots::at(desk, slots::ROLE) == slots::ALONE {
+        return false;
+    }
+    function != slots::at(desk, slots::FUNCTION)
+        && function != slots::at(desk, slots::BESIDE_FUNCTION)
 }
 
 fn cause_of(desk: &Desk, asked: Request) -> Cause {
@@ -274,10 +296,10 @@ fn put_data(asked: Request, packet: &[u8]) {
 }
 
 // The completion as it is and taken apart from its bytes; why it is unsupported, from the request.
-fn put_reply(cause: Cause, length: usize, store: &[u8]) {
+fn put_reply(reason: usize, length: usize, store: &[u8]) {
     spaces::tell_part(wording::REPLY, store, REPLY, length);
     say(wording::SAYS);
-    put_status(pieces::byte_of(store, REPLY + 6), cause);
+    put_status(pieces::byte_of(store, REPLY + 6), reason);
     spaces::tell_part(wording::COMPLETER, store, REPLY + 4, 2);
     spaces::tell_part(wording::REQUESTER, store, REPLY + 8, 2);
     spaces::tell_part(wording::TAG, store, REPLY + 10, 1);
@@ -292,7 +314,7 @@ fn put_read(store: &[u8]) {
     }
 }
 
-fn put_status(status: u8, cause: Cause) {
+fn put_status(status: u8, reason: usize) {
     put(texts::entry(
         b"successful
 unsupported request (UR): none
@@ -301,18 +323,16 @@ unsupported request (UR): a Type 0 request for another function
 unsupported request (UR): a trusted request while nothing is captured
 unsupported request (UR): a trusted request that does not name the captured bus and device and the board's function
 unsupported request (UR): a poisoned write
+unsupported request (UR): a request for neither function, which the primary answers
 ",
-        status_number(status, cause),
+        if status == 0 { 0 } else { reason },
     ));
 }
 
-fn status_number(status: u8, cause: Cause) -> usize {
-    if status == 0 {
-        return 0;
-    }
+fn reason_number(cause: Cause) -> usize {
     match cause {
         Cause::Supported => 1,
-        Cause::Type1 => 2,
+        Cause::Type1 => FOR_TYPE_1,
         Cause::OtherFunction => 3,
         Cause::NothingCaptured => 4,
         Cause::OtherAddress => 5,

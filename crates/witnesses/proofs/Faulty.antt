@@ -1,5 +1,5 @@
--- There are servers with each of the faults of specs/Servers.antt that are right about every packet but those where the fault shows: so what is refuted in Wrong.antt
--- is the fault, and nothing else that such a server would have to do. Assumes nothing.
+-- There are servers with each of the faults of specs/Servers.antt that are right about every packet of another kind: one that is not for the function that has the fault,
+-- not for neither, not of Type 1, or of a pair whose numbers differ. So what is refuted in Wrong.antt asks of a server nothing about those. Assumes nothing.
 use Prim.Native.Nat.{ℕ, _%_}
 use mathlib.Core.Bool.{Bool, true, false, not, _&&_, cond}
 use mathlib.Core.List.{List, [], _∷_}
@@ -29,13 +29,13 @@ use Rattle.witnesses.specs.Servers.{PairServer, SharesCapture, LooksUpOt
 abbrev promised : PairServer
 promised pair p reply = pairShows (servePair pair p (length reply)) reply
 
--- the statement: a server has the fault, and is right where a test of the pair and the packet says that the fault does not show
+-- the statement: a server has the fault, and is right about every pair and packet of which a test says that they are of another kind
 pub record Such (Fault : PairServer → Type 0) (shows : Pair → List ℕ → Bool) : Type 0 where
   pub server : PairServer
   pub faulty : Fault server
   pub rightElse : (pair : Pair) (p reply : List ℕ) → shows pair p ≡ false → server pair p reply ≡ promised pair p reply
 
--- where each fault shows
+-- the kinds
 abbrev pub forIt : Role → Pair → List ℕ → Bool
 forIt role pair p = isForRole role pair p
 

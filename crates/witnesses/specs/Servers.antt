@@ -1,5 +1,5 @@
--- What wrong servers of a board of two functions do, for any server at all: faults against document 02's 11/13 that a newcomer would make, each by itself, so that a
--- server may be right in all else. A server here is what a caller sees of it. Assumes nothing.
+-- What wrong servers of a board of two functions do, for any server at all: faults against document 02's 11/13 that a newcomer would make, each by itself: a
+-- server with one may be right about every packet of another kind. A server here is what a caller sees of it. Assumes nothing.
 use Prim.Native.Nat.{ℕ, _≤_, _%_}
 use mathlib.Core.Bool.{Bool, true, false}
 use mathlib.Core.List.{List}

@@ -258,6 +258,9 @@ impl Pair<'_> {
     /// - [`NotNamed::Refused`]: there is no such record; the refusals are those of [`dual_bdf`].
     /// - [`NotNamed::Other`]: it has another function, or another device than one of the two functions has captured.
     /// - [`NotNamed::Uncaptured`]: it has the alternate's function, and neither function has captured a device.
+    ///
+    /// Whether the pair is well described is not looked at: with one number twice the record's function is the primary's too,
+    /// and serving answers 1.
     pub fn dual_bdf(&self, at: Offset) -> Result<Alternate, NotNamed> {
         let record = dual_bdf(self.primary.ordinary.bytes, at)?;
         let captured = [self.primary.capture, self.alternate.capture];
