@@ -13,6 +13,7 @@ use crate::wording::say;
 // The bytes of a packet's header.
 const HEADER: usize = 12;
 
+// The function with this role becomes the one at hand, unless it is; a board of one function stays as it is where its primary is taken.
 pub fn take(desk: &mut Desk, store: &mut Store, role: usize) {
     let is_alternate = slots::at(desk, slots::ROLE) == slots::ALTERNATE;
     if is_alternate != (role == slots::ALTERNATE) {
@@ -29,8 +30,8 @@ pub fn named(desk: &Desk, tokens: &Tokens) -> usize {
         return role;
     }
     match tokens::word(tokens, 0) {
-        vocabulary::PACKET => role_of(desk, role, number_in(tokens)),
-        vocabulary::ASK => role_of(desk, role, tokens::at(tokens, 7)),
+        vocabulary::PACKET => role_numbered(desk, role, number_in(tokens)),
+        vocabulary::ASK => role_numbered(desk, role, tokens::at(tokens, 7)),
         _ => role,
     }
 }
@@ -43,7 +44,7 @@ fn number_in(tokens: &Tokens) -> usize {
     tokens::at(tokens, 10) % 8
 }
 
-fn role_of(desk: &Desk, role: usize, number: usize) -> usize {
+fn role_numbered(desk: &Desk, role: usize, number: usize) -> usize {
     if number == alternate_number(desk, role) {
         return slots::ALTERNATE;
     }
