@@ -489,7 +489,7 @@ number 0: answered
 number 0: answered
   asks: trusted read, bus 06 device 03 function 2, offset 004, enables 1111, requester 01 00 tag 08
   reply: 0A 00 00 00 05 18 20 04 01 00 08 00
-  says: unsupported request (UR): a trusted request that does not name the captured bus and device and the board's function; completer 05 18, requester 01 00 tag 08
+  says: unsupported request (UR): a request for neither function, which the primary answers; completer 05 18, requester 01 00 tag 08
   captured: primary bus 05 device 03, alternate bus 05 device 03
   no byte changed
 number 0: answered
@@ -505,7 +505,7 @@ line 9: not as expected: captured primary nothing, alternate nothing, expected p
 number 0: answered
   asks: trusted read, bus 05 device 03 function 2, offset 004, enables 1111, requester 01 00 tag 08
   reply: 0A 00 00 00 00 00 20 04 01 00 08 00
-  says: unsupported request (UR): a trusted request while nothing is captured; completer 00 00, requester 01 00 tag 08
+  says: unsupported request (UR): a request for neither function, which the primary answers; completer 00 00, requester 01 00 tag 08
   captured: primary nothing, alternate nothing
   no byte changed
 line 12: not as expected: alternate ordinary 008: 01 02 03 04, expected 51 51 51 51

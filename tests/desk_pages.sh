@@ -69,7 +69,7 @@ sed 's/^\(  reply: .* 75\) 00$/\1 01/' docs/ANSWERS.md | noticed 'an altered ans
 sed 's/^\(  group 21, leaves by\) no port$/\1 ports: 1/' docs/GROUPS.md | noticed 'an altered verdict' 'ports: 1", the desk "  group 21, leaves by no port"'
 sed '/-> forgotten$/{n;d;}' docs/SHARED.md | noticed 'a missing answer' ', the desk "as expected"'
 sed 's/trusted 1A8 72 72 72 7E$/trusted 1A8 72 72 72 7F/' docs/ANSWERS.md | noticed 'a wrong expectation' 'the page has "as expected", the desk "line '
-sed '$d' docs/SHARED.md | noticed 'a block without an end' 'the page has "a block has no end"'
+awk '{ line[NR] = $0 } /^```/ { last = NR } END { for (n = 1; n <= NR; n++) if (n != last) print line[n] }' docs/SHARED.md | noticed 'a block without an end' 'the page has "a block has no end"'
 as_answered 'reset -> captured 05 03' | noticed 'a failed check, as the desk tells it,' 'the end: the page has "checks 1, as expected 1, '
 as_answered 'walrus extended' | noticed 'a mistake, as the desk tells it,' 'the end: the page has "checks 0, as expected 0, lines not understood 0"'
 
