@@ -116,31 +116,28 @@ fn without_id(written: &[u8]) -> Option<[&[u8]; 2]> {
     (!written.is_empty()).then(|| [&written[..4], &written[6..]])
 }
 
-/// The place of the function, and of the edition with bit 7 clear and set: edition 1 with bit 7 clear, set, edition 2.
-const fn form(view: &ApartView<'_>, edition: u32) -> usize {
-    let form = match edition {
-        1 => has_bit_7(view.packet.bytes[0]) as usize,
-        _ => 2,
-    };
-    3 * view.apart.side + form
-}
-
 /// Counts a packet for the function that the runs share packets of: by its type code and by success and UR, which a read of
-/// Type 0 does not get, or as 2. A half of demand 3 has two of the type codes.
+/// Type 0 does not get, or as 2. Where all packets are shared, edition 1 has bit 7 clear and set. A half of demand 3 has two
+/// of the type codes.
 fn count_shareds(view: &ApartView<'_>, edition: u32, tally: &mut Tally) {
-    let (first, too_short) = match view.apart.shared {
-        Shared::All => (0, 14),
-        Shared::Half(half) => (7, 15 + half as usize),
+    let first = view.packet.bytes[0];
+    let (second_edition, bit_7) = (edition == 2, edition == 1 && has_bit_7(first));
+    let place = match (view.answers[0].0, code_place(first)) {
+        (2, _) => None,
+        (_, 0) => Some(0),
+        (_, code) => Some([0, 1, 1, 1, 3, 5][code] + usize::from(view.written[0][6] == 0x20)),
     };
-    let place = match (view.answers[0].0, code_place(view.packet.bytes[0])) {
-        (2, _) => too_short,
-        (_, 0) => first,
-        (_, code) => {
-            let place = [0, 1, 1, 1, 3, 5][code];
-            first + place + usize::from(view.written[0][6] == 0x20)
+    let class = match view.apart.shared {
+        Shared::All => {
+            let form = if second_edition { 2 } else { usize::from(bit_7) };
+            8 * (3 * view.apart.side + form) + place.unwrap_or(7)
+        }
+        Shared::Half(half) => {
+            let form = usize::from(second_edition);
+            48 + 9 * (2 * view.apart.side + form) + place.unwrap_or(7 + half as usize)
         }
     };
-    tally.add(Group::ApartShared, 17 * form(view, edition) + place);
+    tally.add(Group::ApartShared, class);
 }
 
 /// Counts a packet for neither: UR of Type 0, of a trusted one, and of Type 1 by whom it names; then 2 to 6.
@@ -172,7 +169,7 @@ pub struct OwnView<'call> {
     pub written: &'call [u8],
 }
 
-/// Counts a packet that one of the runs was given: whom it is for, and success, UR or a number.
+/// Counts a packet that one of the runs was given: whom it is for, with success and UR, or that it is refused.
 pub fn count_own(view: &OwnView<'_>, met: &mut ApartMet, tally: &mut Tally) {
     let edition = view.descriptions[0].edition;
     let numbers = view.descriptions.map(|description| description.function);
@@ -181,20 +178,20 @@ pub fn count_own(view: &OwnView<'_>, met: &mut ApartMet, tally: &mut Tally) {
         side => usize::from(side != view.apart.side),
     };
     let succeeds = view.number == 0 && view.written[6] == 0;
-    let answer = match view.number {
-        0 => usize::from(!succeeds),
-        _ => 2,
+    let place = match (view.number, whom) {
+        // What is for neither is no success.
+        (0, 2) => 4,
+        (0, _) => 2 * whom + usize::from(!succeeds),
+        _ => 5,
     };
     let place = match view.apart.shared {
         Shared::All => {
             assert_eq!(whom, 1, "only packets for the other function are a run's own");
-            answer
+            [0, 0, 0, 1, 0, 2][place]
         }
-        // A success is for one of the functions, so those for neither have two classes.
-        Shared::Half(half) => 3 + 8 * half as usize + (3 * whom + answer - usize::from(whom == 2)),
+        Shared::Half(half) => 3 + 6 * half as usize + place,
     };
-    let first = 19 * (2 * view.apart.side + edition as usize - 1);
-    tally.add(Group::ApartOwn, first + place);
+    tally.add(Group::ApartOwn, 15 * view.apart.side + place);
     met.own_packets[view.run][whom] += 1;
     let code = view.packet.bytes[0] & 0x7F;
     met.others_captures[view.run] += usize::from(whom == 1 && succeeds && code == 0x44);

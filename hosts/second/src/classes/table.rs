@@ -370,12 +370,12 @@ pub const TABLE: [Line; 255] = [
         79,
         10,
     ),
-    numbered(Group::AgainPlaces, "walks: 12 told at every offset, each list", 2030, 2),
+    numbered(Group::AgainPlaces, "walks: 12 told at every offset, each list", 2030, 1),
     numbered(
         Group::AgainOffsets,
         "walks: 12 for a pointer to every offset, each list",
         2030,
-        2,
+        1,
     ),
     named(
         Group::EndPlaces,
@@ -519,7 +519,7 @@ pub const TABLE: [Line; 255] = [
         Group::RouteOvers,
         "route: each of 32 secondaries over its subordinate alone",
         32,
-        16,
+        14,
     ),
     numbered(Group::RoutePairs, "route: each pair of 32 ports meets alone", 496, 2),
     named(Group::Meetings, "route: how two ranges meet, alone", MEETINGS, 50),
@@ -552,7 +552,7 @@ pub const TABLE: [Line; 255] = [
         Group::RouteWrongLengths,
         "route: four type codes, digest, twelve wrong lengths",
         96,
-        2,
+        1,
     ),
     numbered(
         Group::RouteFieldValues,
@@ -1136,7 +1136,7 @@ pub const TABLE: [Line; 255] = [
         Group::DuoEqual,
         "serve_pair: equal numbers, type codes, each number",
         20,
-        4,
+        3,
     ),
     numbered(
         Group::DuoFaults,
@@ -1160,7 +1160,7 @@ pub const TABLE: [Line; 255] = [
         Group::DuoDoubledPages,
         "serve_pair: one bit marked doubly, pages of four spaces",
         64,
-        7,
+        5,
     ),
     numbered(
         Group::DuoDoubledBits,
@@ -1218,12 +1218,12 @@ pub const TABLE: [Line; 255] = [
         24,
         70,
     ),
-    named(Group::DuoEvents, "serve_pair: what a success came to", DUO_EVENTS, 4),
+    named(Group::DuoEvents, "serve_pair: what a success came to", DUO_EVENTS, 3),
     numbered(
         Group::DuoEnables,
         "serve_pair: the sixteen enables of eight accesses",
         128,
-        7,
+        5,
     ),
     numbered(
         Group::DuoNumbers,
@@ -1235,7 +1235,7 @@ pub const TABLE: [Line; 255] = [
         Group::DuoPages,
         "serve_pair: pages of four spaces, read and changed",
         128,
-        5,
+        4,
     ),
     numbered(
         Group::DuoTurns,
@@ -1248,8 +1248,8 @@ pub const TABLE: [Line; 255] = [
     numbered(
         Group::ApartShared,
         "apart: packets of both runs, editions, answers",
-        102,
-        2,
+        84,
+        1,
     ),
     numbered(
         Group::ApartNeither,
@@ -1257,7 +1257,7 @@ pub const TABLE: [Line; 255] = [
         40,
         2,
     ),
-    numbered(Group::ApartOwn, "apart: packets of one run, whom, answers", 76, 1),
+    numbered(Group::ApartOwn, "apart: packets of one run, whom, answers", 30, 5),
     named(Group::ApartDiffering, "apart: how two runs differ", APART_DIFFERING, 8),
     named(Group::Noise, "all: plain noise (as the generator meant it)", NOISE, 100),
 ];

@@ -134,8 +134,8 @@ impl DuoPacketMaker {
             let (a, b) = (other.description.a, other.description.b);
             fields.offset = random.pick(&[a, b]) as usize;
         }
-        let others_capture = near(other.capture, random);
-        match random.weighted(&[56, 10, 10, 8, 8, 8]) {
+        let others_capture = other.capture.unwrap_or((0, 0));
+        match random.weighted(&[52, 10, 10, 8, 10, 10]) {
             0 => {}
             1 => fields.function = other.description.function,
             2 => fields.function = neither(duo.numbers(), random),
@@ -144,17 +144,16 @@ impl DuoPacketMaker {
                 let ([primary, alternate], free) = (duo.numbers(), neither(duo.numbers(), random));
                 fields.function = random.pick(&[primary, alternate, free]);
             }
-            4 => (fields.bus, fields.device) = others_capture,
+            4 => (fields.bus, fields.device) = near(others_capture, random),
             _ => (fields.route, (fields.bus, fields.device)) = (Route::Trusted, others_capture),
         }
         fields
     }
 }
 
-/// What the other function has captured, mostly: now and then only its bus, or only its device.
-fn near(capture: Option<(u8, u8)>, random: &mut Random) -> (u8, u8) {
-    let (bus, device) = capture.unwrap_or((0, 0));
-    match random.below(6) {
+/// The same bus and device, or one of them only.
+fn near((bus, device): (u8, u8), random: &mut Random) -> (u8, u8) {
+    match random.below(3) {
         0 => (random.byte(), device),
         1 => (bus, random.below(32) as u8),
         _ => (bus, device),

@@ -65,18 +65,21 @@ impl DuoFaultMaker {
     }
 
     /// Puts so many faults into a call: of either function, of both in common, or equal numbers. But for lengths, there are
-    /// too few calls for each value of a fault to have its turn.
+    /// too few calls for each value of a fault to have its turn. Now and then one of 2 to 6 comes beside them, and with equal
+    /// numbers more often.
     pub fn put_some(&mut self, number: usize, case: &mut DuoCase, random: &mut Random) {
         for _ in 0..number {
             let side = random.below(2);
-            match random.weighted(&[6, 20, 74]) {
+            let fault = random.weighted(&[7, 20, 73]);
+            match fault {
                 0 => case.sides[side].description.function = case.sides[1 - side].description.function,
                 1 => self.put_length(side, &mut case.sides[side], random),
-                _ => {
-                    self.faults[side].put_one(false, &mut case.sides[side], random);
-                    case.share(side);
-                }
+                _ => self.faults[side].put_one(false, &mut case.sides[side], random),
             }
+            if random.percent(if fault == 0 { 25 } else { 4 }) {
+                self.faults[side].put_later(&mut case.sides[side], random);
+            }
+            case.share(side);
         }
     }
 

@@ -111,6 +111,18 @@ impl FaultMaker {
         self.put(FAULTS[place].0, in_turn, case, random);
     }
 
+    /// Puts one fault of the numbers 2 to 6 into a call, each number as often as the others.
+    pub fn put_later(&mut self, case: &mut ServeCase, random: &mut Random) {
+        const LATER: [Fault; 5] = [
+            Fault::Reply,
+            Fault::Packet(PacketFault::Short),
+            Fault::Packet(PacketFault::TypeCode),
+            Fault::Packet(PacketFault::PacketLength),
+            Fault::Packet(PacketFault::LastEnables),
+        ];
+        self.put(random.pick(&LATER), false, case, random);
+    }
+
     fn put(&mut self, fault: Fault, in_turn: bool, case: &mut ServeCase, random: &mut Random) {
         let description = &mut case.description;
         match fault {
