@@ -8,19 +8,19 @@ Times the library against its peers and prints a table in Markdown on standard o
 
 usage: speed [--quick | --help]
 
-  --quick   fewer rounds: about 9 seconds instead of about 140
+  --quick   fewer rounds: about 12 seconds instead of about 180
   --help    this text
 
 Status 0: measured. 1: the sides gave different answers, and nothing was timed. 2: bad arguments.
 ";
 
-/// About 140 seconds on a machine of two cores.
+/// About 180 seconds on a machine of two cores.
 const FULL: Plan = Plan {
     turns: 40,
     rounds: 230,
     batch: Duration::from_micros(20),
 };
-/// About 9 seconds.
+/// About 12 seconds.
 const QUICK: Plan = Plan {
     turns: 8,
     rounds: 75,
