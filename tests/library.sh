@@ -343,6 +343,7 @@ built_again() {
 on_x86_64() {
     local target=x86_64-unknown-linux-gnu
     try 'rt staticlib thawribbon' rt staticlib thawribbon &&
+        try 'rt staticlib tandem' rt staticlib tandem &&
         try 'rt staticlib backplane' rt staticlib backplane &&
         try 'rt staticlib tester' rt staticlib tester &&
         try 'rt staticlib offload' rt staticlib offload &&
@@ -350,7 +351,7 @@ on_x86_64() {
         needs target/staticlib/libthawribbon.a &&
         try 'first_day compiles for x86-64' objects "$work/x86-64" $target &&
         try 'first_day links for x86-64' "$kit/bin/rattle-link" --target $target --toolchain "$tools" -o "$work/first_day.x86-64" \
-            "$work"/x86-64/*.o target/staticlib/lib{thawribbon,backplane,tester,offload,workshop}.a &&
+            "$work"/x86-64/*.o target/staticlib/lib{thawribbon,tandem,backplane,tester,offload,workshop}.a &&
         first_day 'first_day on x86-64' "$tools/bin/qemu-x86_64" "$tools/lib/ld-linux-x86-64.so.2" --library-path "$tools/lib" \
             "$work/first_day.x86-64"
 }

@@ -2,5 +2,4 @@ pub mod Told
 pub mod Bodies
 pub mod Numbers
 pub mod Sequence
-pub mod Both
 pub mod Unique

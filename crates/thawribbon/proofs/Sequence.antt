@@ -36,7 +36,7 @@ HostResets =
     ≡ afterReset (hostBoard description kept ordinary trusted)
 
 -- a capture that is told is kept as it is
-pub kept-told : (c : Capture) → keptBy (toldCapture c) ≡ c
+kept-told : (c : Capture) → keptBy (toldCapture c) ≡ c
 kept-told Nothing = refl
 kept-told (Number bus device) = refl
 

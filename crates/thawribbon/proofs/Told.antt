@@ -1,25 +1,16 @@
 -- What the private functions tell each other gives what a host is promised. Assumes nothing.
 use Prim.Native.Nat.{ℕ}
 use mathlib.Core.List.{List}
-use mathlib.Core.Path.{_≡_, ap, _∙_, subst}
+use mathlib.Core.Path.{_≡_, ap, _∙_}
 use Rattle.capture.specs.declared.Capture.{Capture}
 use Rattle.board.specs.declared.Description.{Description}
 use Rattle.board.specs.declared.Served.{Served}
 use Rattle.board.specs.Promise.{spaceOf, lent, Serves}
-use Rattle.board.specs.Description.{Space}
-use Rattle.pair.specs.declared.Function.{Function}
-use Rattle.pair.specs.declared.Captures.{Captures}
-use Rattle.pair.specs.Pair.{Pair}
-use Rattle.pair.specs.Promise.{PairServes}
 use Rattle.thawribbon.specs.declared.HostDescription.{HostDescription}
 use Rattle.thawribbon.specs.declared.HostCapture.{HostCapture}
 use Rattle.thawribbon.specs.declared.HostServed.{HostServed}
 use Rattle.thawribbon.specs.Packets.{described, keptBy, hostSeen, hostShows, HostServes}
-use Rattle.thawribbon.specs.declared.HostFunction.{HostFunction}
-use Rattle.thawribbon.specs.declared.HostCaptures.{HostCaptures}
-use Rattle.thawribbon.specs.declared.HostPairServed.{HostPairServed}
-use Rattle.thawribbon.specs.Pairs.{functionOf, keptBoth, hostPairSeen, hostPairShows, HostPairServes}
-use Rattle.thawribbon.specs.Inner.{toldServed, toldPair}
+use Rattle.thawribbon.specs.Inner.{toldServed}
 
 -- a board is served with the description and the capture that the host gave, and what is answered is told
 pub serves-told : (e : Description) (l : Capture) (d : HostDescription) (kept : HostCapture) (o or om t tr tm p reply : List ℕ) (s : Served)
@@ -27,23 +18,3 @@ pub serves-told : (e : Description) (l : Capture) (d : HostDescription) (kept : 
     → r ≡ toldServed kept s → HostServes d kept (spaceOf o or om) (spaceOf t tr tm) p reply r o′ t′ after
 serves-told e l d kept o or om t tr tm p reply s r o′ t′ after description capture serves told =
     rw (← description, ← capture) (ap (λ (x : HostServed). hostSeen x o′ t′ after) told ∙ ap (hostShows kept) serves)
-
--- a pair of given functions and captures
-abbrev pairWith : ℕ → Function → Function → Captures → Space → Space → Space → Space → Pair
-pairWith edition f g l po pt ao at =
-    record {
-      edition = edition;
-      primary = record { function = f; capture = l .primary; ordinary = po; trusted = pt };
-      alternate = record { function = g; capture = l .alternate; ordinary = ao; trusted = at };
-    }
-
--- a pair is served likewise
-pub serves-told-pair : (edition : ℕ) (f g : Function) (l : Captures) (primary alternate : HostFunction) (kept : HostCaptures) (po pt ao at : Space)
-    (p reply : List ℕ) (s : Rattle.pair.specs.declared.Served.Served) (r : HostPairServed) (po′ pt′ ao′ at′ after : List ℕ) → f ≡ functionOf primary → g ≡ functionOf alternate
-    → l ≡ keptBoth kept → PairServes (pairWith edition f g l po pt ao at) p reply s po′ pt′ ao′ at′ after
-    → r ≡ toldPair kept s → HostPairServes edition primary alternate kept po pt ao at p reply r po′ pt′ ao′ at′ after
-serves-told-pair edition f g l primary alternate kept po pt ao at p reply s r po′ pt′ ao′ at′ after first second captures serves told =
-    let served = subst (λ (x : Function). PairServes (pairWith edition x (functionOf alternate) (keptBoth kept) po pt ao at) p reply s po′ pt′ ao′ at′ after) first
-    (subst (λ (x : Function). PairServes (pairWith edition f x (keptBoth kept) po pt ao at) p reply s po′ pt′ ao′ at′ after) second
-    (subst (λ (x : Captures). PairServes (pairWith edition f g x po pt ao at) p reply s po′ pt′ ao′ at′ after) captures serves)) in
-    ap (λ (x : HostPairServed). hostPairSeen x po′ pt′ ao′ at′ after) told ∙ ap (hostPairShows kept) served

@@ -1,5 +1,4 @@
 pub mod Packets
-pub mod Pairs
 pub mod Walks
 pub mod Records
 pub mod Inner

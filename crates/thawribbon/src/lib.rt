@@ -1,15 +1,12 @@
-// What a host in C or Rust links: the entries of board, pair, lists and records, with plain numbers in the place of enums.
+// What a host in C or Rust links: the entries of board, lists and records, with plain numbers in the place of enums.
 // Each function answers for every input and keeps nothing; what it promises is in specs/, over the promises of the entries that it calls.
 // A slice is a pointer and a length. Where the length is 0 the pointer is not followed. No struct has more than 16 bytes.
 mod packets; // packets.rt: a packet served, a reset
-mod pairs; // pairs.rt: the same on a board of two functions
 mod reading; // reading.rt: a DVSEC record and its body, a Dual-BDF record
 mod walks; // walks.rt: the three lists
 
 pub use packets::thawribbon_reset;
 pub use packets::thawribbon_serve;
-pub use pairs::thawribbon_reset_pair;
-pub use pairs::thawribbon_serve_pair;
 pub use reading::thawribbon_dual_bdf;
 pub use reading::thawribbon_dvsec;
 pub use reading::thawribbon_dvsec_body;
@@ -39,28 +36,6 @@ pub struct HostServed {
     pub length: usize,
     pub number: u8,
     pub capture: HostCapture,
-}
-
-// One of two functions: its number, and the places of its Device Correlation word, A and B.
-#[repr(C)]
-pub struct HostFunction {
-    pub function: u8,
-    pub a: u32,
-    pub b: u32,
-}
-
-// What the two functions have captured, each for itself.
-#[repr(C)]
-pub struct HostCaptures {
-    pub primary: HostCapture,
-    pub alternate: HostCapture,
-}
-
-#[repr(C)]
-pub struct HostPairServed {
-    pub length: usize,
-    pub number: u8,
-    pub kept: HostCaptures,
 }
 
 #[repr(C)]

@@ -22,7 +22,7 @@ fn description_of(description: HostDescription) -> Description
     }
 }
 
-pub(super) fn capture_of(kept: HostCapture) -> Capture
+fn capture_of(kept: HostCapture) -> Capture
     ensures { λ r. ⌜ r ≡ keptBy kept ⌝ }
 {
     if kept.captured == 0 {
@@ -34,7 +34,7 @@ pub(super) fn capture_of(kept: HostCapture) -> Capture
     }
 }
 
-pub(super) fn told_capture(capture: Capture) -> HostCapture
+fn told_capture(capture: Capture) -> HostCapture
     ensures { λ r. ⌜ r ≡ toldCapture capture ⌝ }
 {
     match capture {

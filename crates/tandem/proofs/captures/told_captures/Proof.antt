@@ -1,7 +1,7 @@
 -- `told_captures` gives two captures as a host is told them. Assumes nothing.
 use borrow.Author.Needs.{needs}
-use Rattle.thawribbon.proofs.pairs.told_captures.Statement.{statement}
-use Rattle.thawribbon.proofs.pairs.told_captures.Tie as tie
+use Rattle.tandem.proofs.captures.told_captures.Statement.{statement}
+use Rattle.tandem.proofs.captures.told_captures.Tie as tie
 
 -- src/pairs.rt:42:18
 told-capture-requires : tie.Need-told-capture-requires

@@ -1,10 +1,10 @@
 -- `thawribbon_serve_pair` meets its promise, by that of `pair::serve`. Assumes nothing.
 use denote.Ref.{now}
 use Rattle.board.specs.Promise.{spaceOf}
-use Rattle.thawribbon.proofs.Told.{serves-told-pair}
+use Rattle.tandem.proofs.Told.{serves-told-pair}
 use borrow.Author.Needs.{needs}
-use Rattle.thawribbon.proofs.pairs.thawribbon_serve_pair.Statement.{statement}
-use Rattle.thawribbon.proofs.pairs.thawribbon_serve_pair.Tie as tie
+use Rattle.tandem.proofs.serving.thawribbon_serve_pair.Statement.{statement}
+use Rattle.tandem.proofs.serving.thawribbon_serve_pair.Tie as tie
 
 -- src/pairs.rt:91:9
 function-of-requires : tie.Need-function-of-requires

@@ -1,8 +1,8 @@
 -- `told_pair` tells a host the answer of `pair::serve`. Assumes nothing.
 use borrow.Author.Tests.{eq-eqb, ne-eqb}
 use borrow.Author.Needs.{needs}
-use Rattle.thawribbon.proofs.pairs.told_pair.Statement.{statement}
-use Rattle.thawribbon.proofs.pairs.told_pair.Tie as tie
+use Rattle.tandem.proofs.serving.told_pair.Statement.{statement}
+use Rattle.tandem.proofs.serving.told_pair.Tie as tie
 
 -- src/pairs.rt:52:9
 number-requires : tie.Need-number-requires

@@ -1,7 +1,7 @@
 -- `thawribbon_reset_pair` forgets both captures. Assumes nothing.
 use borrow.Author.Needs.{needs}
-use Rattle.thawribbon.proofs.pairs.thawribbon_reset_pair.Statement.{statement}
-use Rattle.thawribbon.proofs.pairs.thawribbon_reset_pair.Tie as tie
+use Rattle.tandem.proofs.serving.thawribbon_reset_pair.Statement.{statement}
+use Rattle.tandem.proofs.serving.thawribbon_reset_pair.Tie as tie
 
 -- src/pairs.rt:116:31
 captures-of-requires : tie.Need-captures-of-requires

@@ -1,7 +1,7 @@
 -- `captures_of` gives the two captures that a host has kept. Assumes nothing.
 use borrow.Author.Needs.{needs}
-use Rattle.thawribbon.proofs.pairs.captures_of.Statement.{statement}
-use Rattle.thawribbon.proofs.pairs.captures_of.Tie as tie
+use Rattle.tandem.proofs.captures.captures_of.Statement.{statement}
+use Rattle.tandem.proofs.captures.captures_of.Tie as tie
 
 -- src/pairs.rt:31:18
 capture-of-requires : tie.Need-capture-of-requires

@@ -2,13 +2,12 @@
 ghost use mathlib.Core.Path.{_≡_};
 ghost use Rattle.board.specs.Promise.{spaceOf};
 ghost use Rattle.pair.specs.Pair.{forgottenBoth};
-ghost use Rattle.thawribbon.specs.Pairs.{functionOf, keptBoth, toldBoth, HostPairServes};
-ghost use Rattle.thawribbon.specs.Inner.{toldPair};
+ghost use Rattle.tandem.specs.Pairs.{functionOf, keptBoth, toldBoth, HostPairServes};
+ghost use Rattle.tandem.specs.Inner.{toldPair};
 use super::HostCaptures;
 use super::HostFunction;
 use super::HostPairServed;
-use super::packets;
-use pair::Captures;
+use super::captures;
 use pair::Function;
 use pair::Served;
 
@@ -22,28 +21,6 @@ fn function_of(function: HostFunction) -> Function
     }
 }
 
-fn captures_of(kept: HostCaptures) -> Captures
-    ensures { λ r. ⌜ r ≡ keptBoth kept ⌝ }
-{
-    let primary = kept.primary;
-    let alternate = kept.alternate;
-    Captures {
-        primary: packets::capture_of(primary),
-        alternate: packets::capture_of(alternate),
-    }
-}
-
-fn told_captures(captures: Captures) -> HostCaptures
-    ensures { λ r. ⌜ r ≡ toldBoth captures ⌝ }
-{
-    let primary = captures.primary;
-    let alternate = captures.alternate;
-    HostCaptures {
-        primary: packets::told_capture(primary),
-        alternate: packets::told_capture(alternate),
-    }
-}
-
 // A refusal hands both captures back as they were given.
 fn told_pair(kept: HostCaptures, served: Served) -> HostPairServed
     ensures { λ r. ⌜ r ≡ toldPair kept served ⌝ }
@@ -52,7 +29,7 @@ fn told_pair(kept: HostCaptures, served: Served) -> HostPairServed
     let number = answer.number();
     let after = served.kept;
     let captures = if number == 0 {
-        told_captures(after)
+        captures::told_captures(after)
     } else {
         kept
     };
@@ -90,7 +67,7 @@ pub extern "C" fn thawribbon_serve_pair(
         edition,
         function_of(primary),
         function_of(alternate),
-        captures_of(kept),
+        captures::captures_of(kept),
         primary_ordinary,
         primary_ordinary_rules,
         primary_ordinary_marks,
@@ -113,5 +90,5 @@ pub extern "C" fn thawribbon_serve_pair(
 pub extern "C" fn thawribbon_reset_pair(kept: HostCaptures) -> HostCaptures
     ensures { λ r. ⌜ r ≡ toldBoth (forgottenBoth (keptBoth kept)) ⌝ }
 {
-    told_captures(pair::reset(captures_of(kept)))
+    captures::told_captures(pair::reset(captures::captures_of(kept)))
 }

@@ -6,17 +6,26 @@ use mathlib.Core.List.{List}
 use mathlib.Core.Path.{_≡_}
 use lib.Dec.{eqb}
 use lib.ListN.{length}
+use Rattle.capture.specs.declared.Capture.{Capture}
+use Rattle.capture.specs.declared.Capture.the-variants.{Nothing, Number}
 use Rattle.board.specs.Description.{Space}
 use Rattle.pair.specs.declared.Function.{Function}
 use Rattle.pair.specs.declared.Captures.{Captures}
 use Rattle.pair.specs.Pair.{Side, Pair}
 use Rattle.pair.specs.Serving.{servePair}
 use Rattle.pair.specs.Promise.{PairSeen, pairShows}
-use Rattle.thawribbon.specs.declared.HostCapture.{HostCapture}
-use Rattle.thawribbon.specs.declared.HostFunction.{HostFunction}
-use Rattle.thawribbon.specs.declared.HostCaptures.{HostCaptures}
-use Rattle.thawribbon.specs.declared.HostPairServed.{HostPairServed}
-use Rattle.thawribbon.specs.Packets.{keptBy, toldCapture}
+use Rattle.tandem.specs.declared.HostCapture.{HostCapture}
+use Rattle.tandem.specs.declared.HostFunction.{HostFunction}
+use Rattle.tandem.specs.declared.HostCaptures.{HostCaptures}
+use Rattle.tandem.specs.declared.HostPairServed.{HostPairServed}
+
+-- the capture that a host has kept: nothing where `captured` is 0, and the bus and device number with any other value; and a capture as a host is told it
+abbrev pub keptBy : HostCapture → Capture
+keptBy kept = cond (eqb (kept .captured) 0) Nothing (Number (kept .bus) (kept .device))
+
+abbrev pub toldCapture : Capture → HostCapture
+toldCapture Nothing = record { captured = 0; bus = 0; device = 0 }
+toldCapture (Number bus device) = record { captured = 1; bus = bus; device = device }
 
 -- a function that a host gives
 abbrev pub functionOf : HostFunction → Function

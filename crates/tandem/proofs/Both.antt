@@ -6,6 +6,8 @@ use mathlib.Core.Path.{_≡_, refl, sym, ap, _∙_, subst}
 use native.Mathlib.Omega.{arith}
 use lib.ListN.{length}
 use borrow.Author.Tests.{ne-eqb}
+use Rattle.capture.specs.declared.Capture.{Capture}
+use Rattle.capture.specs.declared.Capture.the-variants.{Nothing, Number}
 use Rattle.board.specs.Description.{Space, withBytes}
 use Rattle.pair.specs.declared.Captures.{Captures}
 use Rattle.pair.specs.Pair.{Pair, forgottenBoth}
@@ -13,11 +15,10 @@ use Rattle.pair.specs.Serving.{PairOutcome, delivered, pairNumber, byPairNumber
 use Rattle.pair.specs.Promise.{pairShows}
 use Rattle.pair.proofs.Keeps.{pair-serve-keeps}
 use Rattle.pair.proofs.Refusals.{PairNumberSays, pair-outcome-number, pair-number-says, pair-refused}
-use Rattle.thawribbon.specs.declared.HostFunction.{HostFunction}
-use Rattle.thawribbon.specs.declared.HostCaptures.{HostCaptures}
-use Rattle.thawribbon.specs.declared.HostPairServed.{HostPairServed}
-use Rattle.thawribbon.specs.Pairs.{keptBoth, toldBoth, handedBackBoth, HostPairSeen, hostPairSeen, hostPairShows, hostPair, HostPairServes}
-use Rattle.thawribbon.proofs.Sequence.{kept-told}
+use Rattle.tandem.specs.declared.HostFunction.{HostFunction}
+use Rattle.tandem.specs.declared.HostCaptures.{HostCaptures}
+use Rattle.tandem.specs.declared.HostPairServed.{HostPairServed}
+use Rattle.tandem.specs.Pairs.{keptBy, toldCapture, keptBoth, toldBoth, handedBackBoth, HostPairSeen, hostPairSeen, hostPairShows, hostPair, HostPairServes}
 
 -- the statements
 abbrev pub HostPairServeUnique : Type 0
@@ -65,6 +66,11 @@ host-pair-serve-unique edition f g kept sp st sa su p reply r q po pt ao at afte
 
 pub host-pair-reset-unique : (kept r q : HostCaptures) → r ≡ toldBoth (forgottenBoth (keptBoth kept)) → q ≡ toldBoth (forgottenBoth (keptBoth kept)) → r ≡ q
 host-pair-reset-unique kept r q e f = e ∙ sym f
+
+-- a capture that is told is kept as it is
+kept-told : (c : Capture) → keptBy (toldCapture c) ≡ c
+kept-told Nothing = refl
+kept-told (Number bus device) = refl
 
 -- the two captures of a pair
 abbrev keptOf : Pair → Captures
