@@ -53,10 +53,7 @@ impl ListFaultMaker {
                 let place = self.places.draw(in_turn, random);
                 (random.within(place + 1, MOST_STRUCTURES), self.any_fault(place, random))
             }
-            1 => {
-                let count = if random.percent(20) { 1 } else { count };
-                (count, self.any_fault(random.pick(&[0, count / 2, count - 1]), random))
-            }
+            1 => (count, self.any_fault(random.pick(&[0, count / 2, count - 1]), random)),
             2 => (
                 MOST_STRUCTURES,
                 self.any_fault(MOST_STRUCTURES - random.within(1, 3), random),
