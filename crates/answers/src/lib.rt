@@ -1,10 +1,11 @@
+#![tactic(auto)]
 // The answer numbers of document 01, with those of document 02 that are built, named once. Every answer of every public entry is one of these, and its
 // number is `number_of` or `answer_of` of specs/Numbers.antt.
 ghost use Rattle.std.specs.Prelude.{◌≡◌};
 ghost use Rattle.answers.specs.Numbers.{number_of, answer_of};
 
 // Why nothing was done. The number stands beside each.
-#[derive(Drop)]
+#[derive(Clone, Copy)]
 pub enum Refusal {
     BadDescription, // 1
     NoRoom, // 2
@@ -22,7 +23,7 @@ pub enum Refusal {
     NotAccepted, // 18
 }
 
-#[derive(Drop)]
+#[derive(Clone, Copy)]
 pub enum Answer {
     Done, // 0
     Refused(Refusal),

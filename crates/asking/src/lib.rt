@@ -1,3 +1,4 @@
+#![tactic(auto)]
 // The asking side: a configuration request written from its parts, and a completion read back. It knows no board, so that a test host links it
 // without one. Promised for every input: specs/Writing.antt and specs/Reading.antt, in document 02's words (5/13).
 mod filling;
@@ -11,7 +12,7 @@ pub use reading::read_completion;
 pub use writing::write_request;
 
 // The parts of a request, but for a write's data. The kind is the type code: 04h, 44h (read, write, Type 0), 05h, 45h (Type 1), 1Bh, 5Bh (trusted).
-#[derive(Drop)]
+#[derive(Clone, Copy)]
 pub struct Parts {
     pub kind: u8,
     pub requester: Id,
@@ -24,7 +25,7 @@ pub struct Parts {
 }
 
 // How many bytes of the buffer are written, or why none is.
-#[derive(Drop)]
+#[derive(Clone, Copy)]
 pub enum Written {
     Bytes(usize),
     Refused(Refusal),
@@ -32,14 +33,14 @@ pub enum Written {
 
 // What a completion says of the access: a read was done and showed these four bytes, a write was done, or it is an Unsupported Request (UR) and
 // nothing was done. (An enum that holds an array is not covered by the kit: DECISIONS 51.)
-#[derive(Drop)]
+#[derive(Clone, Copy)]
 pub enum Said {
     Shown(u8, u8, u8, u8),
     Done,
     Unsupported,
 }
 
-#[derive(Drop)]
+#[derive(Clone, Copy)]
 pub struct Completion {
     pub completer: Id,
     pub requester: Id,
@@ -47,7 +48,7 @@ pub struct Completion {
     pub said: Said,
 }
 
-#[derive(Drop)]
+#[derive(Clone, Copy)]
 pub enum Heard {
     Says(Completion),
     Refused(Refusal),

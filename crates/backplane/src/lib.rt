@@ -1,3 +1,4 @@
+#![tactic(auto)]
 // What a host of the switch links, in C or Rust: `router::route`, with plain numbers in the place of the enum. What it promises for every list of
 // ports, packet and buffer is specs/Routes.antt. A slice is a pointer and a length; where the length is 0 the pointer is not followed.
 // It is a crate of its own, so that the board's functions are compiled as they are without it (docs/DECISIONS.md, 41). The two halves of
@@ -11,7 +12,7 @@ use router::Verdict;
 
 // The number; and where `leaves` is 1, the port's place in the list and how many bytes leave by it. All else is 0.
 #[repr(C)]
-#[derive(Drop)]
+#[derive(Clone, Copy)]
 pub struct HostRouted {
     pub length: usize,
     pub number: u8,

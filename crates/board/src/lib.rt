@@ -1,3 +1,4 @@
+#![tactic(auto)]
 // One function of one endpoint: every configuration packet answered, and every space left, as document 01 says.
 // `serve`, `reset` and `is_badly_described` are the entries; what they promise for every input is specs/Promise.antt over specs/Serving.antt,
 // and specs/Description.antt.
@@ -14,7 +15,7 @@ pub use serving::{reset, serve};
 
 // What does not change while a board runs: its function number, the places of the Device Correlation word in the ordinary space
 // (a) and in the trusted space (b), and its edition of byte 0 (packet::EDITION_1 or packet::EDITION_2; with any other it answers 1).
-#[derive(Drop)]
+#[derive(Clone, Copy)]
 pub struct Description {
     pub function: u8,
     pub a: usize,
@@ -23,7 +24,7 @@ pub struct Description {
 }
 
 // The answer to a packet: how many bytes of the reply are written, and the capture to keep for the next packet.
-#[derive(Drop)]
+#[derive(Clone, Copy)]
 pub struct Served {
     pub answer: Answer,
     pub length: usize,

@@ -1,3 +1,4 @@
+#![tactic(auto)]
 // The captured bus and device number, kept between packets: a state by value, handed back by each of its methods.
 // Promised for every state and number: specs/Kept.antt.
 ghost use Rattle.std.specs.Prelude.{◌≡◌};
@@ -6,14 +7,14 @@ ghost use Rattle.capture.specs.Kept.{forgotten, captured, identified};
 use packet::Id;
 
 // What the board has captured. A fresh board has captured nothing.
-#[derive(Drop)]
+#[derive(Clone, Copy)]
 pub enum Capture {
     Nothing,
     Number { bus: u8, device: u8 },
 }
 
 // A completer ID, with the state it was made from.
-#[derive(Drop)]
+#[derive(Clone, Copy)]
 pub struct Identified {
     pub capture: Capture,
     pub id: Id,

@@ -154,7 +154,7 @@ fn is_within(word: usize, first: usize, last: usize) -> bool {
     word <= last
 }
 
-#[derive(Drop)]
+#[derive(Clone, Copy)]
 pub struct Fault {
     pub what: usize,
     pub place: usize,

@@ -1,3 +1,4 @@
+#![tactic(auto)]
 // The desk: statements from standard input, each answered at once. `help` lists them. What decides is the proved code of the crates
 // below; here only safety is promised, and that every session ends.
 mod capabilities;

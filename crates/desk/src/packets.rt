@@ -19,7 +19,7 @@ type Reply = [u8; REPLY];
 
 // What became of a packet: the answer number, how many bytes of the reply are written, and what is captured then, by the function at hand and by the one
 // beside it.
-#[derive(Drop)]
+#[derive(Clone, Copy)]
 pub struct Outcome {
     pub number: u8,
     pub length: usize,

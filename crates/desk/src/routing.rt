@@ -15,7 +15,7 @@ const UNTOUCHED: u8 = 0xee;
 type Leaving = [u8; LEAVING];
 
 // What became of a packet: NO_PORT and no bytes where it does not leave.
-#[derive(Drop)]
+#[derive(Clone, Copy)]
 struct Routed {
     number: u8,
     port: usize,

@@ -18,7 +18,7 @@ const DROPPED: usize = 5;
 const LEAVES: usize = 6;
 
 // NO_PORT stands for no group, and the ports are a set with a bit for each.
-#[derive(Drop)]
+#[derive(Clone, Copy)]
 struct Verdict {
     number: u8,
     said: usize,

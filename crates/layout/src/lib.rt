@@ -1,3 +1,4 @@
+#![tactic(auto)]
 // The extended list of a new board laid out: a planner proposes offsets, a checker decides, and a layout that it accepts is written as headers.
 // Every function answers for every input. A refusal leaves the room, or the space, as it was lent. The writer asks the checker itself, so that nobody has
 // to trust where a proposal comes from.

@@ -1,3 +1,4 @@
+#![tactic(auto)]
 // Lists the capabilities of a configuration space on standard input, as document 01 says.
 // The text is `report::listing`'s, whose promise says its bytes; no contract can say what a program reads or writes.
 use libc::{STDERR_FILENO, STDIN_FILENO, STDOUT_FILENO};

@@ -6,7 +6,7 @@ ghost use Rattle.lists.specs.Inner.{offset_of, Leads, Underway, Chases};
 use crate::{Kind, table};
 
 // Where a pointer leads: "the next offset, the end, or a fault".
-#[derive(Drop)]
+#[derive(Clone, Copy)]
 pub(crate) enum Step {
     Next(usize),
     End,
@@ -15,7 +15,7 @@ pub(crate) enum Step {
 
 // How a chase comes out, with so many offsets logged: at the chain's end; or it stopped at a position, which is below the floor or was passed before,
 // or for which the log has no room.
-#[derive(Drop)]
+#[derive(Clone, Copy)]
 pub(crate) enum Chased {
     Ended(usize),
     Stopped(usize, usize),

@@ -1,3 +1,4 @@
+#![tactic(auto)]
 // The capability lists of a lent configuration space: the chain of one of three lists, or what broke in it, and where.
 // `walk` answers for every list, space and room. It follows at most the list's maximum of pointers, each of a chain that ends only once, and nothing
 // scans the space. A refusal leaves the room as it was lent.
@@ -16,7 +17,7 @@ mod marks; // marks.rt: where a list comes back for the first time
 mod table; // table.rt: the three lists, as document 01 describes them
 
 // The three lists.
-#[derive(Drop)]
+#[derive(Clone, Copy)]
 pub enum Kind {
     Compatible,
     Extended,
@@ -25,7 +26,7 @@ pub enum Kind {
 
 // What a walk answers. The place, where the list is broken, is the offset of the structure that holds the pointer at fault, or 0 where the
 // start itself is at fault, and 0 otherwise. The count is that of the headers read, 0 where the walk is refused.
-#[derive(Drop)]
+#[derive(Clone, Copy)]
 pub struct Walked {
     pub answer: Answer,
     pub place: u16,

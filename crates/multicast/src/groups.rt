@@ -6,7 +6,7 @@ ghost use Rattle.multicast.specs.Inner.{Hits};
 
 use super::{BASE, ENABLE, INDEX, NUM_GROUP, Record};
 
-#[derive(Drop)]
+#[derive(Clone, Copy)]
 pub(crate) enum Hit {
     Nothing,
     Group(u8),

@@ -1,3 +1,4 @@
+#![tactic(auto)]
 // The Multicast extended capability of a lent configuration space, and what becomes of a packet for an address at a switch, by the records of its ports.
 // Every function answers for every input. A capability that is refused tells its number and 0 for every field.
 // Promised by specs/Capability.antt and specs/Judging.antt, in the words of the eighth change request of document 02.
@@ -37,14 +38,14 @@ pub const BLOCK_ALL: usize = 6;
 pub const MOST_PORTS: usize = 32;
 
 // The record of a capability that was found, or 0 for each of its numbers and why.
-#[derive(Drop)]
+#[derive(Clone, Copy)]
 pub struct Capability {
     pub answer: Answer,
     pub fields: Record,
 }
 
 // What becomes of a packet for an address. A set of ports has a bit for each, bit 0 for the first of the list.
-#[derive(Drop)]
+#[derive(Clone, Copy)]
 pub enum Judged {
     Refused(Refusal),
     NoHit,

@@ -1,3 +1,4 @@
+#![tactic(auto)]
 // What hosts of a switch's multicast link, in the same archive as the rest: the entries of multicast with plain numbers.
 // Each function answers for every input and keeps nothing; what it promises is in specs/, over the promises of the entries that it calls.
 // A slice is a pointer and a length. Where the length is 0 the pointer is not followed. A record is seven numbers of 64 bits, one after the other.
@@ -8,7 +9,7 @@ use multicast::{Judged, Record};
 
 // What becomes of a packet: the verdict is 0 where the number says that it is refused, 1 no hit, 2 dropped, 3 leaves.
 #[repr(C)]
-#[derive(Drop)]
+#[derive(Clone, Copy)]
 pub struct HostJudged {
     pub ports: u32,
     pub number: u8,

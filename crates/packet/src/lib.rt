@@ -1,3 +1,4 @@
+#![tactic(auto)]
 // A configuration packet as it stands on the wire: what any bytes ask for, or the number that refuses them, and the bytes of a
 // completion. Promised for every input: specs/Request.antt and specs/Completion.antt, in document 01's words.
 ghost use Rattle.std.specs.Prelude.{◌≡◌};
@@ -18,14 +19,14 @@ pub const EDITION_1: u32 = 1;
 pub const EDITION_2: u32 = 2;
 
 // A requester or completer ID, as its two bytes are sent.
-#[derive(Drop)]
+#[derive(Clone, Copy)]
 pub struct Id {
     pub high: u8,
     pub low: u8,
 }
 
 // Where a request is meant for.
-#[derive(Drop)]
+#[derive(Clone, Copy)]
 pub enum Target {
     Type0,
     Type1,
@@ -45,14 +46,14 @@ impl Target {
 }
 
 // What a type code stands for: whether it writes, and where it goes.
-#[derive(Drop)]
+#[derive(Clone, Copy)]
 pub enum TypeCode {
     Known(bool, Target),
     Unknown,
 }
 
 // What a packet without a fault asks for.
-#[derive(Drop)]
+#[derive(Clone, Copy)]
 pub struct Request {
     pub target: Target,
     pub writes: bool,
@@ -66,14 +67,14 @@ pub struct Request {
     pub offset: usize,
 }
 
-#[derive(Drop)]
+#[derive(Clone, Copy)]
 pub enum Decoded {
     Asks(Request),
     Refused(Refusal),
 }
 
 // What a completion says of the access: it was done, or it is an Unsupported Request (UR) and was not.
-#[derive(Drop)]
+#[derive(Clone, Copy)]
 pub enum Status {
     Success,
     Unsupported,

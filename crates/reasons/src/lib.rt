@@ -1,3 +1,4 @@
+#![tactic(auto)]
 // Why a request is unsupported: the first of document 01's five causes that applies, or none.
 // Promised for every board and request: specs/Cause.antt.
 ghost use Rattle.std.specs.Prelude.{◌≡◌, ◌&&◌};
@@ -9,7 +10,7 @@ use capture::Capture;
 use packet::{Request, Target};
 
 // In document 01's order.
-#[derive(Drop)]
+#[derive(Clone, Copy)]
 pub enum Cause {
     Supported,
     Type1,

@@ -1,3 +1,4 @@
+#![tactic(auto)]
 // Two records of a lent configuration space: a DVSEC record and a Dual-BDF record.
 // Every function answers for every space and offset. A record that is refused tells its number and nothing else, and has an empty body.
 ghost use Rattle.std.specs.Prelude.{◌≡◌};
@@ -9,7 +10,7 @@ use answers::Refusal;
 mod dual; // dual.rt: what a Dual-BDF record requires, and its fields
 mod vendor; // vendor.rt: what a DVSEC record requires, and its fields
 
-#[derive(Drop)]
+#[derive(Clone, Copy)]
 pub struct DvsecHeader {
     pub vendor: u16,
     pub revision: u8,
@@ -17,20 +18,20 @@ pub struct DvsecHeader {
     pub length: u16,
 }
 
-#[derive(Drop)]
+#[derive(Clone, Copy)]
 pub enum DvsecRead {
     Found(DvsecHeader),
     Refused(Refusal),
 }
 
 // The alternate function of a Dual-BDF record, and its device number.
-#[derive(Drop)]
+#[derive(Clone, Copy)]
 pub struct Alternate {
     pub function: u8,
     pub device: u8,
 }
 
-#[derive(Drop)]
+#[derive(Clone, Copy)]
 pub enum DualRead {
     Found(Alternate),
     Refused(Refusal),

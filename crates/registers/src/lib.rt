@@ -1,3 +1,4 @@
+#![tactic(auto)]
 // What a write leaves of four register bytes under four byte enables, and what a read shows of them whatever the enables.
 // Enable bit 0 is the byte at the lowest address. Promised for every value: specs/Merge.antt and specs/Shown.antt.
 ghost use Rattle.std.specs.Prelude.{◌≡◌};

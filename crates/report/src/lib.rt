@@ -1,3 +1,4 @@
+#![tactic(auto)]
 // What the listing program writes, made as bytes in a lent text: the lines of the compatible and the extended list of a space.
 // `listing` answers for every input, and its text has room for every listing. What it promises is specs/Prints.antt over specs/Listing.antt.
 ghost use Rattle.lists.specs.Walks.{WholeSpace};

@@ -11,7 +11,7 @@ use answers::{Answer, Refusal};
 use lists::Kind;
 
 // The lists that are shown.
-#[derive(Drop)]
+#[derive(Clone, Copy)]
 pub(crate) enum Section {
     Compatible,
     Extended,

@@ -1,3 +1,4 @@
+#![tactic(auto)]
 // The switch between host and boards: by which port a configuration request leaves, and with which bytes.
 // `route` is lent the list of ports. What it promises for every list, packet and buffer is specs/Promise.antt over specs/Routing.antt, in the
 // words of the first change request of document 02. `bus_of` and `decide` are its two halves, before and after the choice of a port, for a
@@ -13,7 +14,7 @@ pub const LEAVING: usize = 20;
 
 // What becomes of a packet: it leaves by a port of the list, with so many bytes; it is an Unsupported Request (UR), for no port has its bus;
 // or it is refused.
-#[derive(Drop)]
+#[derive(Clone, Copy)]
 pub enum Verdict {
     Leaves { port: u8, length: usize },
     Unsupported,

@@ -1,3 +1,4 @@
+#![tactic(auto)]
 // What hosts of a board of two functions link, in the same archive as the rest: the entries of pair with plain numbers in the place of enums.
 // Each function answers for every input and keeps nothing; what it promises is in specs/, over the promises of the entries that it calls.
 // A slice is a pointer and a length. Where the length is 0 the pointer is not followed. No struct has more than 16 bytes.
@@ -8,7 +9,7 @@ pub use serving::{thawribbon_reset_pair, thawribbon_serve_pair};
 
 // Nothing where `captured` is 0, else the captured bus and device number.
 #[repr(C)]
-#[derive(Drop)]
+#[derive(Clone, Copy)]
 pub struct HostCapture {
     pub captured: u8,
     pub bus: u8,
@@ -17,7 +18,7 @@ pub struct HostCapture {
 
 // One of two functions: its number, and the places of its Device Correlation word, A and B.
 #[repr(C)]
-#[derive(Drop)]
+#[derive(Clone, Copy)]
 pub struct HostFunction {
     pub function: u8,
     pub a: u32,
@@ -26,14 +27,14 @@ pub struct HostFunction {
 
 // What the two functions have captured, each for itself.
 #[repr(C)]
-#[derive(Drop)]
+#[derive(Clone, Copy)]
 pub struct HostCaptures {
     pub primary: HostCapture,
     pub alternate: HostCapture,
 }
 
 #[repr(C)]
-#[derive(Drop)]
+#[derive(Clone, Copy)]
 pub struct HostPairServed {
     pub length: usize,
     pub number: u8,

@@ -1,3 +1,4 @@
+#![tactic(auto)]
 // What a test host links, in C or Rust: the entries of `asking`, with plain numbers in the place of enums. What they promise for every input is
 // specs/Asks.antt. A slice is a pointer and a length; where the length is 0 the pointer is not followed. No struct has more than 16 bytes.
 // It is a crate of its own, so that a test host links it without a board (docs/DECISIONS.md, 41).
@@ -9,7 +10,7 @@ use packet::Id;
 
 // The parts of a request, with the data, which is ignored for a read.
 #[repr(C)]
-#[derive(Drop)]
+#[derive(Clone, Copy)]
 pub struct HostParts {
     pub offset: u32,
     pub kind: u8,
@@ -27,7 +28,7 @@ pub struct HostParts {
 }
 
 #[repr(C)]
-#[derive(Drop)]
+#[derive(Clone, Copy)]
 pub struct HostWritten {
     pub length: usize,
     pub number: u8,
@@ -35,7 +36,7 @@ pub struct HostWritten {
 
 // What a completion says: 0 nothing, since it is refused; 1 success, with the data; 2 success without data; 3 UR. Bytes that it does not have are 0.
 #[repr(C)]
-#[derive(Drop)]
+#[derive(Clone, Copy)]
 pub struct HostHeard {
     pub number: u8,
     pub said: u8,

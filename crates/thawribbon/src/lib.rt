@@ -1,3 +1,4 @@
+#![tactic(auto)]
 // What a host in C or Rust links: the entries of board, lists and records, with plain numbers in the place of enums.
 // Each function answers for every input and keeps nothing; what it promises is in specs/, over the promises of the entries that it calls.
 // A slice is a pointer and a length. Where the length is 0 the pointer is not followed. No struct has more than 16 bytes.
@@ -11,7 +12,7 @@ pub use walks::{thawribbon_walk_compatible, thawribbon_walk_extended, thawribbon
 
 // The function number, the places of the Device Correlation word, A and B, and the edition of byte 0: 1 or 2, and no other.
 #[repr(C)]
-#[derive(Drop)]
+#[derive(Clone, Copy)]
 pub struct HostDescription {
     pub function: u8,
     pub a: u32,
@@ -21,7 +22,7 @@ pub struct HostDescription {
 
 // Nothing where `captured` is 0, else the captured bus and device number.
 #[repr(C)]
-#[derive(Drop)]
+#[derive(Clone, Copy)]
 pub struct HostCapture {
     pub captured: u8,
     pub bus: u8,
@@ -29,7 +30,7 @@ pub struct HostCapture {
 }
 
 #[repr(C)]
-#[derive(Drop)]
+#[derive(Clone, Copy)]
 pub struct HostServed {
     pub length: usize,
     pub number: u8,
@@ -37,7 +38,7 @@ pub struct HostServed {
 }
 
 #[repr(C)]
-#[derive(Drop)]
+#[derive(Clone, Copy)]
 pub struct HostWalked {
     pub count: usize,
     pub number: u8,
@@ -45,7 +46,7 @@ pub struct HostWalked {
 }
 
 #[repr(C)]
-#[derive(Drop)]
+#[derive(Clone, Copy)]
 pub struct HostDvsec {
     pub number: u8,
     pub revision: u8,
@@ -56,14 +57,14 @@ pub struct HostDvsec {
 
 // So many bytes of a space, from an offset on.
 #[repr(C)]
-#[derive(Drop)]
+#[derive(Clone, Copy)]
 pub struct HostPart {
     pub start: usize,
     pub length: usize,
 }
 
 #[repr(C)]
-#[derive(Drop)]
+#[derive(Clone, Copy)]
 pub struct HostAlternate {
     pub number: u8,
     pub function: u8,

@@ -1,3 +1,4 @@
+#![tactic(auto)]
 // For the benchmark, and in no archive that a host links: the merge of a write by itself, as the product has it (specs/Merges.antt).
 ghost use Rattle.trials.specs.Merges.{Merges};
 

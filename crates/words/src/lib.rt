@@ -1,3 +1,4 @@
+#![tactic(auto)]
 // Bytes of a lent space: four of them at an offset, as a little-endian word, and a run of bytes stored.
 // Every function answers for every offset and length: four bytes that do not all lie in the space read as four zeros, and bytes that do
 // not all lie in it are not stored.

@@ -1,3 +1,4 @@
+#![tactic(auto)]
 // What hosts that lay out new boards link, in the same archive as the rest: the entries of layout with plain numbers.
 // Each function answers for every input and keeps nothing; what it promises is in specs/, over the promises of the entries that it calls.
 // A slice is a pointer and a length. Where the length is 0 the pointer is not followed. A structure is three numbers of 16 bits, one after the other.
