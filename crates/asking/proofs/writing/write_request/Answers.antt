@@ -1,0 +1,31 @@
+-- `asking::write_request` meets its contract: what the kind and the ranges leave is put down. Assumes nothing.
+use mathlib.Core.Path.{sym, ◌∙◌}
+use Rattle.asking.proofs.Laws.{inside, write_unknown, write_out_of_range, write_put, bytes_of_write, bytes_of_read}
+use Rattle.asking.proofs.writing.write_request.Goals as goal
+
+pub returns-in_default : goal.returns-in_default
+returns-in_default c =
+    let a = c.args in
+    write_unknown a.parts a.new a.buffer.now (sym c.type_of.ensures ∙ c.in_default.is)
+
+pub returns-then-is_out_of_range : goal.returns-then-is_out_of_range
+returns-then-is_out_of_range c =
+    let a = c.args in
+    write_out_of_range a.parts a.new a.buffer.now _ _ (sym c.type_of.ensures ∙ c.in-Known.is) (sym c.is_out_of_range.ensures ∙ c.if-is_out_of_range.true)
+
+pub header_of-header-requires : goal.header_of-header-requires
+header_of-header-requires c = inside c.args.parts (sym c.is_out_of_range.ensures ∙ c.if-is_out_of_range.false)
+
+pub returns-then-writes : goal.returns-then-writes
+returns-then-writes c =
+    let a = c.args in
+    c.put_down.ensures
+    ∙ write_put a.parts a.new a.buffer-1.now _ _ (sym c.type_of.ensures ∙ c.in-Known.is) _ (sym c.is_out_of_range.ensures ∙ c.if-is_out_of_range.false)
+    (bytes_of_write a.parts a.new _ _ _ c.header_of-header.ensures c.with_data.ensures c.if-writes.true)
+
+pub returns : goal.returns
+returns c =
+    let a = c.args in
+    c.put_down-2.ensures
+    ∙ write_put a.parts a.new a.buffer.now _ _ (sym c.type_of.ensures ∙ c.in-Known.is) _ (sym c.is_out_of_range.ensures ∙ c.if-is_out_of_range.false)
+    (bytes_of_read a.parts a.new _ _ c.header_of-header.ensures c.if-writes.false)

@@ -1,0 +1,19 @@
+-- `layout::checking::check` meets its contract: what the code accepts is what is acceptable. Assumes nothing.
+use mathlib.Core.Path.{refl, sym, ◌∙◌}
+use Rattle.layout.specs.Accepting.{Checks.misdescribed, Checks.unaccepted, Checks.accepted}
+use Rattle.layout.proofs.Sound.{given}
+use Rattle.layout.proofs.Orderly.{accepts_acceptable, refuses_acceptable}
+use Rattle.layout.proofs.checking.check.Goals as goal
+
+pub returns-then-are_bad : goal.returns-then-are_bad
+returns-then-are_bad c = misdescribed (sym c.are_bad.ensures ∙ c.if-are_bad.true) refl
+
+pub returns-then-accepts : goal.returns-then-accepts
+returns-then-accepts c =
+    let good = sym c.are_bad.ensures ∙ c.if-are_bad.false in
+    accepted good (accepts_acceptable (given _ good).sound (sym c.accepts.ensures ∙ c.if-accepts.true)) refl
+
+pub returns : goal.returns
+returns c =
+    let good = sym c.are_bad.ensures ∙ c.if-are_bad.false in
+    unaccepted good (refuses_acceptable (given _ good).sound (sym c.accepts.ensures ∙ c.if-accepts.false)) refl

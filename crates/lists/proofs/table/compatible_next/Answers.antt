@@ -1,0 +1,21 @@
+-- `lists::table::compatible_next` meets its contract: the byte behind the ID lies in the space. Assumes nothing.
+use Prim.Native.Nat.{ℕ, ◌+◌, ◌<◌}
+use mathlib.Core.List.{List}
+use mathlib.Core.Path.{refl}
+use native.Mathlib.Omega.{arith}
+use Rattle.words.specs.Bytes.{byte}
+use Rattle.lists.specs.Table.{compatible_next}
+use Rattle.lists.specs.Inner.{Raw}
+use Rattle.lists.proofs.table.compatible_next.Goals as goal
+
+byte-pointer : (s : List ℕ) (at : ℕ) → byte s (at + 1) < 256 → Raw (compatible_next s at) (byte s (at + 1))
+unfolding compatible_next
+byte-pointer s at h = record { is = refl; small = omega arith }
+
+pub overflow_cast-result : goal.overflow_cast-result
+overflow_cast-result c = omega (arith, c.shared_slice_known-1.given (c.args.offset + 1))
+
+pub returns : goal.returns
+returns c =
+    let a = c.args in
+    byte-pointer a.space.now a.offset (omega (arith, c.shared_slice_known-1.given (a.offset + 1)))

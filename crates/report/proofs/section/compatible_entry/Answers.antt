@@ -1,0 +1,19 @@
+-- `report::section::compatible_entry` meets its contract: each digit is the one that the line has there. Assumes nothing.
+use native.Mathlib.Omega.{arith}
+use Rattle.report.proofs.Lines.{compatible_line}
+use Rattle.report.proofs.section.compatible_entry.Goals as goal
+
+pub overflow_cast-id : goal.overflow_cast-id
+overflow_cast-id c = omega (arith, c.shared_slice_known-2-1.given c.args.at)
+
+pub returns : goal.returns
+returns c =
+    let a = c.args in
+    rw (
+      compatible_line a.space.now a.at,
+      ← c.hex_digit.ensures,
+      ← c.hex_digit-2.ensures,
+      ← c.hex_digit-3.ensures,
+      ← c.hex_digit-4.ensures,
+      ← c.hex_digit-5.ensures,
+    ) c.append.ensures
