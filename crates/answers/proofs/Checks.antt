@@ -74,6 +74,7 @@ none_here true number rest h e = absurd (omega arith)
 none_here false number rest h e = (refl, e)
 
 pub none_applies : (cs : List Check) → Positive cs → first_that_applies cs ≡ 0 → NoneApplies cs
+none_applies [] p e c m = elim m [ ]
 none_applies (x ∷ cs) p e c (Memᴰ.head q) =
     ap (λ (y : Check). y.applies) q ∙ (none_here x.applies x.number (first_that_applies cs) p.0 e).0
 none_applies (x ∷ cs) p e c (Memᴰ.tail m) =
@@ -121,6 +122,7 @@ gives_first cs p = record { none = (none_applies cs p, gives_none cs); first = c
 -- ---- the lowest
 
 below : (n : ℕ) (cs : List Check) → AtMost n cs → {c : Check} → Memᴰ c cs → n ≤ c.number
+below n [] a m = elim m [ ]
 below n (x ∷ cs) a (Memᴰ.head e) = subst (λ (y : Check). n ≤ y.number) (sym e) a.0
 below n (x ∷ cs) a (Memᴰ.tail m) = below n cs a.1 m
 
@@ -129,6 +131,7 @@ first_lowest true number rest most h k = h
 first_lowest false number rest most h k = k
 
 lowest : (cs : List Check) → Rising cs → (c : Check) → Memᴰ c cs → c.applies ≡ true → first_that_applies cs ≤ c.number
+lowest [] r c m t = elim m [ ]
 lowest (x ∷ cs) r c (Memᴰ.head e) t =
     rw (ap (λ (y : Check). y.applies) (sym e) ∙ t) (le_of_eq (ap (λ (y : Check). y.number) (sym e)))
 lowest (x ∷ cs) r c (Memᴰ.tail m) t =
