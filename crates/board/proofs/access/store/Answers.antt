@@ -1,7 +1,6 @@
 -- `board::store` meets its contract: the four bytes, rules and marks are inside, and what is put is their merge. Assumes nothing.
 use Rattle.board.specs.Promise.{space_of}
 use Rattle.board.proofs.Laws.{stored_is}
-use borrow.Author.Rules.{rules}
 use Rattle.board.proofs.access.store.Goals as goal
 
 pub returns : goal.returns
