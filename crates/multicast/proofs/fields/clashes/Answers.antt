@@ -7,16 +7,16 @@ use Rattle.multicast.proofs.fields.clashes.Goals as goal
 
 pub returns-then-port : goal.returns-then-port
 unfolding clashes
-returns-then-port c = let r = c.args.t1 in rw (lt-ltb (max_group r) (num_group r) c.if-port.true)
+returns-then-port c = let r = c.args.port in rw (lt-ltb (max_group r) (num_group r) c.if-port.true)
 
 pub returns-then-port-eq0 : goal.returns-then-port-eq0
 unfolding clashes
 returns-then-port-eq0 c =
-    let r = c.args.t1 in
+    let r = c.args.port in
     rw (le-ltb (max_group r) (num_group r) c.if-port.false, eq-eqb (enable r) 0 c.if-port-eq0.true)
 
 pub returns : goal.returns
 unfolding clashes
 returns c =
-    let r = c.args.t1 in
+    let r = c.args.port in
     rw (le-ltb (max_group r) (num_group r) c.if-port.false, ne_eqb (enable r) 0 c.if-port-eq0.false) (or_false (ltb (index r) 12))
