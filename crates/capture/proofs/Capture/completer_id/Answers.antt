@@ -6,4 +6,4 @@ pub returns-in-Nothing : goal.returns-in-Nothing
 returns-in-Nothing c = identified_nothing c.args.self _ c.in-Nothing.is
 
 pub returns-in-Number : goal.returns-in-Number
-returns-in-Number c = identified_number c.args.self _ _ _ _ c.in-Number.is c.wrapping_add_u8.ensures
+returns-in-Number c = identified_number c.args.self _ _ _ _ c.in-Number.is c.wrapping_add_u8.ensures.value

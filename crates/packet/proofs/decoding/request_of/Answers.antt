@@ -4,4 +4,4 @@ use Rattle.packet.proofs.decoding.request_of.Goals as goal
 
 pub returns : goal.returns
 unfolding request_of
-returns c = simp (c.offset_of.ensures, c.Function_of.ensures, c.device_of.ensures, c.first_enables.ensures, c.is_poisoned.ensures, c.requires.known)
+returns c = simp (c.offset_of.ensures, c.function_of.ensures, c.device_of.ensures, c.first_enables.ensures, c.is_poisoned.ensures, c.requires.known)

@@ -35,5 +35,5 @@ unfolding type_of
 returns-in_default c =
     let first = c.args.first in
     let code : (k : ℕ) → (bit_and first 127 ≡ k → ⊥) → type_code first ≡ k → ⊥ = λ k h e. h (sym (code_is first _ refl) ∙ e) in
-    let r = c.in_default.rest in
+    let r = c.in_default.in_default-own.rest in
     sym (type_unknown (type_code first) (code _ r.0.0.0.0.0.1) (code _ r.0.0.0.0.1) (code _ r.0.0.0.1) (code _ r.0.0.1) (code _ r.0.1) (code _ r.1))
