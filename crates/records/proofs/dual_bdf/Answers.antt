@@ -1,4 +1,5 @@
--- `records::dual_bdf` meets its contract: each way out gives the number of the first fact that is missing. Assumes nothing.
+-- `records::dual_bdf` meets its contract: each way out gives the number of the first fact that is missing; where the vector has not one bit,
+-- by proofs/NotOne. Assumes nothing.
 use Prim.Native.Nat.{ℕ, ◌+◌, ◌<◌}
 use mathlib.Core.Bool.{Bool, true, not, cond}
 use mathlib.Core.List.{List}
@@ -13,7 +14,7 @@ use Rattle.words.specs.Places.{placed}
 use Rattle.words.proofs.Laws.{Place, placed_true}
 use Rattle.records.specs.DualRule.{fits_dual, is_dual, one_set, vector_at, alternate_of, dual_number}
 use Rattle.records.proofs.Masks.{word_read}
-use Rattle.records.proofs.OneBit.{one_set_lem, not_one_set}
+use Rattle.records.proofs.OneBit.{one_set_lem}
 use Rattle.records.proofs.Told.{sized_true, sized_false, dual_refused, dual_found, dual_number_lem}
 use Rattle.records.proofs.dual_bdf.Goals as goal
 
@@ -90,21 +91,10 @@ returns-then-not-is_dual c =
     (fits_tested a.space.now a.at size here c.word-second.ensures c.fits_dual.ensures ∙ c.if-not-fits_dual.false)
     (dual_tested a.space.now a.at size here c.word-second.ensures c.word-third.ensures c.is_dual.ensures ∙ c.if-not-is_dual.true) refl)
 
-pub returns-then-vector-ne1 : goal.returns-then-vector-ne1
-returns-then-vector-ne1 c =
-    let a = c.args in
-    let size = c.if-space-ne-SPACE.false in
-    let here = place a.at c.placed.ensures c.if-not-placed.false in
-    dual_refused _ _ 10 refl
-    (number a.space.now a.at size here (sym c.placed.ensures ∙ c.if-not-placed.false) (eq-eqb _ 0x09 c.if-space-at-ne-VENDOR_SPECIFIC.false)
-    (fits_tested a.space.now a.at size here c.word-second.ensures c.fits_dual.ensures ∙ c.if-not-fits_dual.false)
-    (dual_tested a.space.now a.at size here c.word-second.ensures c.word-third.ensures c.is_dual.ensures ∙ c.if-not-is_dual.false)
-    c.word-third.ensures c.vector_of-vector.ensures (not_one_set _ (omega (arith, c.vector_of-vector.ensures)) c.if-vector-ne1.true))
-
 pub alternate_of-requires : goal.alternate_of-requires
 alternate_of-requires c =
     let small : c.vector_of-vector.result < 256 = omega (arith, c.vector_of-vector.ensures) in
-    (small, one_set_lem _ small c.if-vector-ne1.false)
+    (small, one_set_lem _ small (omega arith))
 
 pub returns : goal.returns
 returns c =
@@ -116,4 +106,4 @@ returns c =
     (number a.space.now a.at size here (sym c.placed.ensures ∙ c.if-not-placed.false) (eq-eqb _ 0x09 c.if-space-at-ne-VENDOR_SPECIFIC.false)
     (fits_tested a.space.now a.at size here c.word-second.ensures c.fits_dual.ensures ∙ c.if-not-fits_dual.false)
     (dual_tested a.space.now a.at size here c.word-second.ensures c.word-third.ensures c.is_dual.ensures ∙ c.if-not-is_dual.false)
-    c.word-third.ensures c.vector_of-vector.ensures (one_set_lem _ (omega (arith, c.vector_of-vector.ensures)) c.if-vector-ne1.false)))
+    c.word-third.ensures c.vector_of-vector.ensures (one_set_lem _ (omega (arith, c.vector_of-vector.ensures)) (omega arith))))
