@@ -5,9 +5,9 @@ use Rattle.asking.proofs.writing.put_down.Goals as goal
 pub returns-then-put : goal.returns-then-put
 returns-then-put c =
     let a = c.args in
-    put_down_fits a.bytes.now a.buffer-1.now _ c.if-put.true c.put.ensures
+    put_down_fits a.bytes.now a.buffer.now _ c.if-put.true c.put.ensures
 
 pub returns : goal.returns
 returns c =
     let a = c.args in
-    put_down_short a.bytes.now a.buffer-1.now _ c.if-put.false c.put.ensures
+    put_down_short a.bytes.now a.buffer.now _ c.if-put.false c.put.ensures

@@ -20,7 +20,7 @@ pub returns-then-writes : goal.returns-then-writes
 returns-then-writes c =
     let a = c.args in
     c.put_down.ensures
-    ∙ write_put a.parts a.new a.buffer-1.now _ _ (sym c.type_of.ensures ∙ c.in-Known.is) _ (sym c.is_out_of_range.ensures ∙ c.if-is_out_of_range.false)
+    ∙ write_put a.parts a.new a.buffer.now _ _ (sym c.type_of.ensures ∙ c.in-Known.is) _ (sym c.is_out_of_range.ensures ∙ c.if-is_out_of_range.false)
     (bytes_of_write a.parts a.new _ _ _ c.header_of-header.ensures c.with_data.ensures c.if-writes.true)
 
 pub returns : goal.returns
