@@ -5,4 +5,4 @@ use Rattle.tester.proofs.thawribbon_write_request.Goals as goal
 pub returns : goal.returns
 returns c =
     let a = c.args in
-    writes_told a.parts _ a.buffer-1.now c.write_request.result _ _ c.parts_by.ensures c.write_request.ensures c.told_written.ensures
+    writes_told a.parts _ a.buffer.now c.write_request.result _ _ c.parts_by.ensures c.write_request.ensures c.told_written.ensures
