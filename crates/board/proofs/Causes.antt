@@ -41,10 +41,12 @@ whole : (s : Space) → WellSpace s → (buffer : List ℕ) → Memᴰ buffer (b
 whole s w buffer (Memᴰ.head e) = ap length e ∙ w.bytes
 whole s w buffer (Memᴰ.tail (Memᴰ.head e)) = ap length e ∙ w.rules
 whole s w buffer (Memᴰ.tail (Memᴰ.tail (Memᴰ.head e))) = ap length e ∙ w.marks
+whole s w buffer (Memᴰ.tail (Memᴰ.tail (Memᴰ.tail m))) = elim m [ ]
 
 either : (d : Board) → Well d → (s : Space) → Memᴰ s (spaces d) → WellSpace s
 either d w s (Memᴰ.head e) = subst WellSpace (sym e) w.ordinary
 either d w s (Memᴰ.tail (Memᴰ.head e)) = subst WellSpace (sym e) w.trusted
+either d w s (Memᴰ.tail (Memᴰ.tail m)) = elim m [ ]
 
 no_cause : (d : Board) → Well d → Cause d → ⊥
 no_cause d w (size_of s m buffer n wrong) = wrong (whole s (either d w s m) buffer n)
@@ -67,6 +69,7 @@ not_one (Memᴰ.tail (Memᴰ.tail (Memᴰ.head e))) = omega (arith, e)
 not_one (Memᴰ.tail (Memᴰ.tail (Memᴰ.tail (Memᴰ.head e)))) = omega (arith, e)
 not_one (Memᴰ.tail (Memᴰ.tail (Memᴰ.tail (Memᴰ.tail (Memᴰ.head e))))) = omega (arith, e)
 not_one (Memᴰ.tail (Memᴰ.tail (Memᴰ.tail (Memᴰ.tail (Memᴰ.tail (Memᴰ.head e)))))) = omega (arith, e)
+not_one (Memᴰ.tail (Memᴰ.tail (Memᴰ.tail (Memᴰ.tail (Memᴰ.tail (Memᴰ.tail m)))))) = elim m [ ]
 
 described_by : (d : Board) (p : List ℕ) (size : ℕ) (bad : Bool) → badly_described d ≡ bad → (serve d p size).number ≡ 1 → badly_described d ≡ true
 described_by d p size true b n = b

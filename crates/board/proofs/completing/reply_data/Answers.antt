@@ -5,4 +5,5 @@ use Rattle.board.proofs.completing.reply_data.Goals as goal
 pub returns : goal.returns
 returns c =
     let a = c.args in
-    replied_data a.kept a.description.function _ c.completer_id-identified.ensures a.reply-1.now c.requires a.request _ _ _ _ c.with_data-bytes.ensures c.put.ensures
+    let replied = replied_data a.kept a.description.function _ c.completer_id-identified.ensures a.reply.now c.requires a.request _ _ _ _ c.with_data-bytes.ensures c.put.ensures in
+    record { answered = replied.0; written = replied.1 }

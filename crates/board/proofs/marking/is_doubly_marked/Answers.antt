@@ -1,5 +1,4 @@
 -- `board::is_doubly_marked` meets its contract: what is found in the bytes so far, byte by byte. Assumes nothing.
-use Prim.Native.Nat.{◌-◌}
 use mathlib.Core.Path.{refl, ◌∙◌}
 use native.Mathlib.Omega.{arith}
 use borrow.Author.Rules.{rules}

@@ -4,7 +4,6 @@ use mathlib.Core.Bool.{not}
 use mathlib.Core.Path.{◌≡◌}
 use lib.Dec.{eqb}
 use lib.ListN.{take}
-use borrow.Author.Rules.{rules}
 use Rattle.board.specs.Description.{doubly_marked}
 use Rattle.board.proofs.marking.is_doubly_marked.Given as goal
 

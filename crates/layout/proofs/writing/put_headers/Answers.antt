@@ -31,7 +31,7 @@ loop-place-preserved c =
     ∙ ap (put l.space-1 (offset_at a.offsets.now k)) c.header_of.ensures in (
       omega arith,
       refl,
-      after ∙ laid_next a.structures.now a.offsets.now a.space-1.now k l.place l.next l.space-1 (omega arith) (omega (arith, c.requires.each)) (omega arith) l.invariant.1 l.invariant.2,
+      after ∙ laid_next a.structures.now a.offsets.now a.space.now k l.place l.next l.space-1 (omega arith) (omega (arith, c.requires.each)) (omega arith) l.invariant.1 l.invariant.2,
       ap length after ∙ put_length l.space-1 (offset_at a.offsets.now k) (four_of (header_word (structure_at a.structures.now k) l.next)) (omega arith) ∙ l.invariant.3,
       omega arith,
     )

@@ -13,15 +13,15 @@ returns-then-primary-alternate c =
 pub returns-then-is_for : goal.returns-then-is_for
 returns-then-is_for c =
     let a = c.args in
-    let pair = (lent_pair a.edition (lent_side a.primary a.kept.primary a.primary_ordinary.now a.primary_ordinary_rules.now a.primary_ordinary_marks.now a.primary_trusted.now a.primary_trusted_rules.now a.primary_trusted_marks.now) (lent_side a.alternate a.kept.alternate a.alternate_ordinary-1.now a.alternate_ordinary_rules.now a.alternate_ordinary_marks.now a.alternate_trusted-1.now a.alternate_trusted_rules.now a.alternate_trusted_marks.now)) in
+    let pair = (lent_pair a.edition (lent_side a.primary a.kept.primary a.primary_ordinary.now a.primary_ordinary_rules.now a.primary_ordinary_marks.now a.primary_trusted.now a.primary_trusted_rules.now a.primary_trusted_marks.now) (lent_side a.alternate a.kept.alternate a.alternate_ordinary.now a.alternate_ordinary_rules.now a.alternate_ordinary_marks.now a.alternate_trusted.now a.alternate_trusted_rules.now a.alternate_trusted_marks.now)) in
     let served = c.serve_beside-served in
-    alternate_seen pair a.packet.now a.reply-1.now c.if-primary-alternate.false _ _ served.result _ _ _ _
+    alternate_seen pair a.packet.now a.reply.now c.if-primary-alternate.false _ _ served.result _ _ _ _
     c.description_of.ensures c.description_of-then-is_for.ensures (sym c.is_for.ensures ∙ c.if-is_for.true) served.ensures c.told.ensures
 
 pub returns : goal.returns
 returns c =
     let a = c.args in
-    let pair = (lent_pair a.edition (lent_side a.primary a.kept.primary a.primary_ordinary-1.now a.primary_ordinary_rules.now a.primary_ordinary_marks.now a.primary_trusted-1.now a.primary_trusted_rules.now a.primary_trusted_marks.now) (lent_side a.alternate a.kept.alternate a.alternate_ordinary.now a.alternate_ordinary_rules.now a.alternate_ordinary_marks.now a.alternate_trusted.now a.alternate_trusted_rules.now a.alternate_trusted_marks.now)) in
+    let pair = (lent_pair a.edition (lent_side a.primary a.kept.primary a.primary_ordinary.now a.primary_ordinary_rules.now a.primary_ordinary_marks.now a.primary_trusted.now a.primary_trusted_rules.now a.primary_trusted_marks.now) (lent_side a.alternate a.kept.alternate a.alternate_ordinary.now a.alternate_ordinary_rules.now a.alternate_ordinary_marks.now a.alternate_trusted.now a.alternate_trusted_rules.now a.alternate_trusted_marks.now)) in
     let served = c.serve_beside-served-2 in
     primary_seen pair a.packet.now a.reply.now c.if-primary-alternate.false _ _ served.result _ _ _ _
     c.description_of-2.ensures c.description_of-3.ensures (sym c.is_for.ensures ∙ c.if-is_for.false) served.ensures c.told-2.ensures

@@ -13,4 +13,4 @@ pub returns : goal.returns
 returns c =
     let a = c.args in
     let served = c.serve in
-    beside_served (lent a.description a.kept a.ordinary-1.now a.ordinary_rules.now a.ordinary_marks.now a.trusted-1.now a.trusted_rules.now a.trusted_marks.now) (lent a.beside a.beside_kept a.beside_ordinary.now a.beside_ordinary_rules.now a.beside_ordinary_marks.now a.beside_trusted.now a.beside_trusted_rules.now a.beside_trusted_marks.now) a.packet.now a.reply-1.now served.result _ _ _ (sym c.is_badly_described.ensures ∙ c.if-is_badly_described.false) served.ensures
+    beside_served (lent a.description a.kept a.ordinary.now a.ordinary_rules.now a.ordinary_marks.now a.trusted.now a.trusted_rules.now a.trusted_marks.now) (lent a.beside a.beside_kept a.beside_ordinary.now a.beside_ordinary_rules.now a.beside_ordinary_marks.now a.beside_trusted.now a.beside_trusted_rules.now a.beside_trusted_marks.now) a.packet.now a.reply.now served.result _ _ _ (sym c.is_badly_described.ensures ∙ c.if-is_badly_described.false) served.ensures

@@ -7,5 +7,5 @@ pub returns : goal.returns
 returns c =
     let a = c.args in
     let served = c.serve-served in
-    serves_told_pair a.edition _ _ _ a.primary a.alternate a.kept (space_of a.primary_ordinary-1.now a.primary_ordinary_rules.now a.primary_ordinary_marks.now) (space_of a.primary_trusted-1.now a.primary_trusted_rules.now a.primary_trusted_marks.now) (space_of a.alternate_ordinary-1.now a.alternate_ordinary_rules.now a.alternate_ordinary_marks.now) (space_of a.alternate_trusted-1.now a.alternate_trusted_rules.now a.alternate_trusted_marks.now) a.packet.now a.reply-1.now
+    serves_told_pair a.edition _ _ _ a.primary a.alternate a.kept (space_of a.primary_ordinary.now a.primary_ordinary_rules.now a.primary_ordinary_marks.now) (space_of a.primary_trusted.now a.primary_trusted_rules.now a.primary_trusted_marks.now) (space_of a.alternate_ordinary.now a.alternate_ordinary_rules.now a.alternate_ordinary_marks.now) (space_of a.alternate_trusted.now a.alternate_trusted_rules.now a.alternate_trusted_marks.now) a.packet.now a.reply.now
     served.result _ _ _ _ _ _ c.function_of.ensures c.function_of-2.ensures c.captures_of.ensures served.ensures c.told_pair.ensures
