@@ -8,14 +8,16 @@ entries() { # CRATE: a line 'NAME FILE' for each entry
     lib=crates/$1/src/lib.rt
     [ -f "$lib" ] || return
     awk -v c="$1" '/^impl /{t=$2"::"} /^}/{t=""} /^ *pub( extern "C")? fn /{sub(/^ *pub( extern "C")? fn /,""); sub(/[<(].*/,""); print c"::"t $0, FILENAME}' "$lib"
-    sed -nE 's/^pub use ([a-z_]+)::([a-z_]+);$/\1 \2/p' "$lib" | while read -r module name; do echo "$1::$name crates/$1/src/$module.rt"; done
+    sed -nE 's/^pub use ([a-z_]+)::([a-z_]+);$/\1 \2/p; s/^pub use ([a-z_]+)::\{([a-z_, ]+)\};$/\1 \2/p' "$lib" | while read -r module names; do
+        for name in ${names//,/ }; do echo "$1::$name crates/$1/src/$module.rt"; done
+    done
 }
 
-# What another crate could call and this page would not see: a public module, a handed-on group or renaming, a method outside lib.rt.
+# What another crate could call and this page would not see: a public module, a handed-on glob or renaming, a method outside lib.rt.
 unseen() { # CRATE
     lib=crates/$1/src/lib.rt
     [ -f "$lib" ] || return
-    grep -nE '^pub (mod|use) ' "$lib" | grep -vE '^[0-9]+:pub use [a-z_]+::([a-z_]+|[A-Z_]+);$' | sed "s|^|$lib: |"
+    grep -nE '^pub (mod|use) ' "$lib" | grep -vE '^[0-9]+:pub use [a-z_]+::([a-z_]+|[A-Z_]+|\{[a-z_]+(, [a-z_]+)*\}|\{[A-Z_]+(, [A-Z_]+)*\});$' | sed "s|^|$lib: |"
     for file in crates/"$1"/src/*.rt; do
         [ "$file" = "$lib" ] || awk '/^impl /{t=1} /^}/{t=0} t && /^ *pub( extern "C")? fn /{print FILENAME": a public method outside lib.rt: "$0}' "$file"
     done
@@ -31,10 +33,13 @@ buffers() { # MARK, clauses on standard input: the names of the parameters that 
 }
 
 parameters() { # clauses on standard input: the name of every parameter
-    tr '\n' ' ' | sed -E 's/ (requires|ensures) \{.*//; s/^[^(]*\(//; s/\) *(->.*)?$//' | grep -oE '(^|[ (,])(mut )?[a-z_]+:( |$)|(^|[ (,])(mut )?self\b' | sed -E 's/[(,: ]|mut //g'
+    tr '\n' ' ' | sed -E 's/ (requires|ensures)( [a-z_]+)? \{.*//; s/^[^(]*\(//; s/\) *(->.*)?$//' | grep -oE '(^|[ (,])(mut )?[a-z_]+:( |$)|(^|[ (,])(mut )?self\b' | sed -E 's/[(,: ]|mut //g'
 }
 
-gives() { tr '\n' ' ' | sed -E 's/ (requires|ensures) \{.*//' | grep -q -e '->'; } # clauses on standard input: there is a result
+gives() { tr '\n' ' ' | sed -E 's/ (requires|ensures)( [a-z_]+)? \{.*//' | grep -q -e '->'; } # clauses on standard input: there is a result
+
+# says NAME WHEN: the promise has what is lent under this name, at this time: .now behind a &, .old and .new behind a &mut
+says() { printf '%s\n' "$promise" | grep -qE "(^|[ (])«?$1»?\.$2([ )]|\$)"; }
 
 # The promise is DEFINITION of something, or that the result, or what it tells, is that: nothing beside it, and nothing around it; and it
 # speaks of every buffer as it was lent, and of every one that can be written as it is left.
@@ -42,31 +47,36 @@ promises() { # DEFINITION, clauses on standard input
     cat >"$work/clauses"
     text=$(tr '\n' ' ' <"$work/clauses" | sed -E 's/  +/ /g')
     case $text in *requires*) echo "it has a requires" && return ;; esac
+    case $text in *'ensures*'* | *' ghost '*) echo "it has a clause of another kind" && return ;; esac
     [ "$(printf '%s' "$text" | grep -o 'ensures' | wc -l)" -eq 1 ] || { echo "it has $(printf '%s' "$text" | grep -o 'ensures' | wc -l) promises, and not one" && return; }
-    promise=$(printf '%s' "$text" | sed -E 's/^.*⌜ //; s/ ⌝.*$//')
-    plain=$(printf '%s' "$promise" | sed -E 's/^([A-Za-z]+ )?r ≡ //')
+    promise=$(printf '%s' "$text" | sed -E 's/^.* ensures( [a-z_]+)? \{ //; s/ \} ?$//')
+    plain=$(printf '%s' "$promise" | sed -E 's/^([A-Za-z_]+ )?result ≡ //')
     if [ "${plain%% *}" != "$1" ]; then
         echo "its promise is not $1: $promise"
     else
         case $promise in *⊎* | *→* | *×* | *∨* | *↔* | *¬*) echo "its promise is $1 and something else: $promise" ;; esac
     fi
-    if gives <"$work/clauses" && ! printf '%s\n' "$promise" | grep -qE '(^|[ (])r([ )]|$)'; then
+    if gives <"$work/clauses" && ! printf '%s\n' "$promise" | grep -qE '(^|[ (])result([ ).]|$)'; then
         echo "its promise does not speak of the result: $promise"
     fi
     for name in $(parameters <"$work/clauses"); do
-        printf '%s\n' "$promise" | grep -qE "(^|[ («])$name([ )»]|\$)" || echo "its promise does not speak of $name"
+        printf '%s\n' "$promise" | grep -qE "(^|[ («])$name([ )».]|\$)" || echo "its promise does not speak of $name"
     done
-    for name in $(buffers '(mut )?' <"$work/clauses"); do
-        case $promise in *"($name .entry)"* | *"(«$name» .entry)"*) ;; *) echo "its promise does not speak of $name as it was lent" ;; esac
-    done
-    for name in $(buffers 'mut ' <"$work/clauses"); do
-        case $promise in *"($name .exit)"* | *"(«$name» .exit)"*) ;; *) echo "its promise does not speak of $name as it is left" ;; esac
+    written=" $(buffers 'mut ' <"$work/clauses" | tr '\n' ' ')"
+    for name in $(buffers '' <"$work/clauses"); do
+        case $written in
+        *" $name "*)
+            says "$name" old || echo "its promise does not speak of $name as it was lent"
+            says "$name" new || echo "its promise does not speak of $name as it is left"
+            ;;
+        *) says "$name" now || echo "its promise does not speak of $name as it was lent" ;;
+        esac
     done
 }
 
 # The definition is brought in from the file that the row names.
 brings() { # FILE CRATE/specs/FILE NAME
-    grep -qE "^ghost use Rattle·${2%%/*}(·specs)?\.specs\.${2##*/}\.\{([^}]*, )?$3(, [^}]*)?\};\$" "$1" || echo "$1 does not bring $3 in from $2"
+    grep -qE "^ghost use Rattle\.${2%%/*}\.specs\.${2##*/}\.\{([^}]*, )?$3(, [^}]*)?\};\$" "$1" || echo "$1 does not bring $3 in from $2"
 }
 
 # The theorem's statement: its type, and the definition of that type where it is a name of the same file.
@@ -97,7 +107,7 @@ speaks() { # DEFINITION EQUATIONS, a statement on standard input
 
 check() { # [CRATE]: what is wrong with all crates, or with this one, a line each; and last 'N entries'
     local count=0 found='' only=$* crate entry file row why wanted
-    for crate in ${only:-$(sed 's/#.*//' crates.txt | sed -n 's/^\([a-z0-9_]*\):.*/\1/p')}; do
+    for crate in ${only:-$(sed 's/#.*//' crates.txt | sed -n 's/^\([a-z0-9_]*\)\( staticlib\)\?:.*/\1/p')}; do
         while read -r entry file; do
             [ -n "$entry" ] || continue
             count=$((count + 1))
@@ -144,47 +154,48 @@ noticed() { # NAME WORDS FILE SED: the copy with one file edited is told about i
     mkdir -p "$work/copy/docs"
     cp crates.txt "$work/copy/"
     cp docs/ENTRIES.md "$work/copy/docs/"
-    cp -R crates "$work/copy/"
+    tar -c --exclude=out crates | tar -x -C "$work/copy"
     sed -i -E "$4" "$work/copy/$3"
     if cmp -s "$3" "$work/copy/$3"; then echo "FAILED entries, $1: the edit changes nothing"; return; fi
     if (cd "$work/copy" && check "$crate") | grep -qF "$2"; then echo "ok entries, $1 is noticed"; else echo "FAILED entries, $1 is not noticed"; fi
 }
 noticed 'a weakened promise' 'board::serve: its promise is not Serves' crates/board/src/serving.rt \
-    's/λ r\. ⌜ Serves .*⌝/λ r. ⌜ r .length ≤ 4096 ⌝/'
+    's/ensures \{ Serves .* \}/ensures { result.length ≤ 4096 }/'
 noticed 'a promise with a way out' 'lists::walk: its promise is Walks and something else' crates/lists/src/lib.rt \
-    's/λ r\. ⌜ Walks (.*) ⌝/λ r. ⌜ Walks \1 ⊎ Unit ⌝/'
+    's/ensures \{ Walks (.*) \}/ensures { Walks \1 ⊎ Unit }/'
 noticed 'a way out on a second line' 'registers::show: its promise is shown and something else' crates/registers/src/lib.rt \
-    's/(λ r\. ⌜ r ≡ shown .*) ⌝ \}/\1\n        ⊎ Unit ⌝ }/'
+    's/(ensures \{ result ≡ shown .*) \}/\1\n        ⊎ Unit }/'
 noticed 'a buffer that the promise leaves out' 'lists::walk: its promise does not speak of room as it was lent' crates/lists/src/lib.rt \
-    's/\(now \(room \.entry\)\)/(now (room .exit))/'
+    's/room\.old/room.new/'
 noticed 'a second promise' 'words::four: it has 2 promises' crates/words/src/lib.rt \
-    's/^(    ensures .*fourOrZero.*)$/\1\n\1/'
+    's/^(    ensures .*four_or_zero.*)$/\1\n\1/'
 noticed 'a definition of that name from elsewhere' 'board::serve: crates/board/src/serving.rt does not bring Serves in' crates/board/src/serving.rt \
-    's/board·specs\.specs\.Promise/board·specs.specs.Easier/'
+    's/board\.specs\.Promise/board.specs.Easier/'
 noticed 'a requires' 'records::dvsec: it has a requires' crates/records/src/lib.rt \
-    's/^(    ensures .*dvsecSays.*)$/    requires { ⌜ at < 4096 ⌝ }\n\1/'
-noticed 'a theorem about something else' 'board::serve: board/proofs/Unique: reset-unique: it does not speak' docs/ENTRIES.md \
-    's/board\/proofs\/Unique: serve-unique/board\/proofs\/Unique: reset-unique/'
-noticed 'a theorem that concludes nothing' 'words::four: words/proofs/Unique: four-unique: it concludes 0 equations' crates/words/proofs/Unique.antt \
-    '/^pub four-unique/,/^four-unique/s/→ r ≡ q$/→ r ≡ r/'
-noticed 'a theorem that leaves a buffer out' 'board::serve: board/proofs/Unique: serve-unique: it concludes 3 equations' crates/board/proofs/Unique.antt \
-    's/ × \(after ≡ after′\)//'
-noticed 'a promise that says nothing of the result' 'records::dvsec: its promise is not dvsecSays' crates/records/src/lib.rt \
-    's/tellsDvsec r ≡ dvsecSays \(now \(space \.entry\)\) at ⌝/tellsDvsec q ≡ dvsecSays (now (space .entry)) at ⌝/'
+    's/^(    ensures .*dvsec_says.*)$/    requires { at < 4096 }\n\1/'
+noticed 'a theorem about something else' 'board::serve: board/proofs/Unique: reset_unique: it does not speak' docs/ENTRIES.md \
+    's/board\/proofs\/Unique: serve_unique/board\/proofs\/Unique: reset_unique/'
+noticed 'a theorem that concludes nothing' 'words::four: words/proofs/Unique: four_unique: it concludes 0 equations' crates/words/proofs/Unique.antt \
+    '/^pub four_unique/,/^four_unique/s/→ r ≡ q$/→ r ≡ r/'
+noticed 'a theorem that leaves a buffer out' 'board::serve: board/proofs/Unique: serve_unique: it concludes 3 equations' crates/board/proofs/Unique.antt \
+    "s/ × \(after ≡ after'\)//"
+noticed 'a promise that says nothing of the result' 'records::dvsec: its promise is not dvsec_says' crates/records/src/lib.rt \
+    's/tells_dvsec result ≡ dvsec_says space\.now at \}/tells_dvsec other ≡ dvsec_says space.now at }/'
 noticed 'a promise that is true of anything' 'records::dvsec: its promise does not speak of the result' crates/records/src/lib.rt \
-    's/tellsDvsec r ≡ dvsecSays (\(now \(space \.entry\)\) at) ⌝/dvsecSays \1 ≡ dvsecSays \1 ⌝/'
+    's/tells_dvsec result ≡ dvsec_says (space\.now at) \}/dvsec_says \1 ≡ dvsec_says \1 }/'
 noticed 'a promise about one offset' 'records::dvsec: its promise does not speak of at' crates/records/src/lib.rt \
-    's/dvsecSays \(now \(space \.entry\)\) at ⌝/dvsecSays (now (space .entry)) 0x100 ⌝/'
+    's/dvsec_says space\.now at \}/dvsec_says space.now 0x100 }/'
 noticed 'a promise about one list' 'lists::walk: its promise does not speak of kind' crates/lists/src/lib.rt \
-    's/⌜ Walks kind /⌜ Walks Compatible /'
-noticed 'a theorem about nothing of a function without a result' 'trials::trial_merge: trials/proofs/Unique: trial-unique: it concludes 0 equations' \
-    crates/trials/proofs/Unique.antt '/^pub trial-unique/,/^trial-unique/s/→ after ≡ other$/→ after ≡ after/'
+    's/\{ Walks kind /{ Walks Compatible /'
+noticed 'a theorem about nothing of a function without a result' 'trials::trial_merge: trials/proofs/Unique: trial_unique: it concludes 0 equations' \
+    crates/trials/proofs/Unique.antt '/^pub trial_unique/,/^trial_unique/s/→ after ≡ other$/→ after ≡ after/'
 noticed 'a number that is lent and left out' 'trials::trial_merge: its promise does not speak of bytes as it is left' crates/trials/src/lib.rt \
-    's/bytes: &mut \[u8; 4\]/bytes: \&mut u32/; s/\(now \(bytes \.exit\)\)/(now (bytes .entry))/'
+    's/bytes: &mut \[u8; 4\]/bytes: \&mut u32/; s/bytes\.new/bytes.old/'
 noticed 'a function that can change nothing' 'trials::trial_merge: it gives nothing and can write nothing' crates/trials/src/lib.rt \
     's/bytes: &mut \[u8; 4\]/bytes: \&[u8; 4]/'
 noticed 'a row without an entry' 'words::five: docs/ENTRIES.md has a row for it, and no crate has it' docs/ENTRIES.md 's/^(\| `words::)four/\1five/'
-noticed 'a handed-on glob' 'crates/board/src/lib.rt: ' crates/board/src/lib.rt 's/^pub use serving::reset;/pub use serving::*;/'
+noticed 'a handed-on glob' 'crates/board/src/lib.rt: ' crates/board/src/lib.rt 's/^pub use serving::\{.*\};/pub use serving::*;/'
+noticed 'a renaming in a group' 'crates/board/src/lib.rt: ' crates/board/src/lib.rt 's/^pub use serving::\{reset, /pub use serving::{reset as restart, /'
 noticed 'a public module' 'crates/packet/src/lib.rt: ' crates/packet/src/lib.rt 's/^mod fields;/pub mod fields;/'
 noticed 'an entry without a row' 'board::reset: docs/ENTRIES.md has no row' docs/ENTRIES.md '/^\| `board::reset`/d'
 exit 0

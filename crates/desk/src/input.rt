@@ -3,31 +3,28 @@ ghost use Rattle.std.specs.Prelude.{◌≤◌, length};
 
 use crate::slots::Desk;
 use crate::{pieces, slots};
-use libc::STDIN_FILENO;
+use std::io::{IsTerminal, Read, Stdin};
 
 // Reads more, after the `rest` bytes that the piece begins with, and answers where it ends now: not past `rest` where nothing came. Notes
 // where that is because the input could not be read.
-pub fn read_more(desk: &mut Desk, piece: &mut [u8], rest: usize) -> usize
+pub fn read_more(desk: &mut Desk, piece: &mut [u8], rest: usize, stdin: &mut Stdin) -> usize
     ensures { result ≤ length piece.new }
 {
     if piece.len() <= rest {
         return 0;
     }
-    let free = &mut piece[rest..];
-    let got = libc::read(STDIN_FILENO, free);
-    if got < 0 {
-        slots::set(desk, slots::UNREAD, 1);
+    match stdin.read(&mut piece[rest..]) {
+        Ok(got) => rest + got,
+        Err(_) => {
+            slots::set(desk, slots::UNREAD, 1);
+            rest
+        }
     }
-    rest + io::count(got, free)
 }
 
 // 1 where somebody types the input.
-pub fn is_typed() -> usize {
-    if libc::isatty(STDIN_FILENO) == 1 {
-        1
-    } else {
-        0
-    }
+pub fn is_typed(stdin: &Stdin) -> usize {
+    if stdin.is_terminal() { 1 } else { 0 }
 }
 
 // Moves what stands from `from` to `end` to the front, and answers how many bytes these are.

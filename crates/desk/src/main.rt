@@ -42,7 +42,7 @@ use slots::SLOTS;
 use spaces::STORE;
 use walking::ROOM;
 
-fn main() {
+fn main(rt: HostRuntime) {
     let mut desk = [0; SLOTS];
     let mut piece = [0; PIECE];
     let mut store = [0; STORE];
@@ -56,5 +56,6 @@ fn main() {
         &mut records,
         &mut structures,
         &mut proposal,
+        &mut rt.stdin(),
     );
 }

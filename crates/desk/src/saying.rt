@@ -1,9 +1,11 @@
 // What the desk writes, always on standard output: texts, with numbers and bytes in them.
 use crate::{pieces, slots, texts};
-use libc::STDOUT_FILENO;
+
+// The file descriptor of standard output.
+const STANDARD_OUTPUT: i32 = 1;
 
 pub fn put(text: &[u8]) {
-    io::write_all(STDOUT_FILENO, text);
+    io::write_all(STANDARD_OUTPUT, text);
 }
 
 // Writes a text, with its numbers where it has marks: wording.rt says which there are.
@@ -29,7 +31,7 @@ pub fn fill(text: &[u8], numbers: &[usize]) {
 fn put_number(form: u8, number: usize) {
     match form {
         b'd' => {
-            io::print_decimal(STDOUT_FILENO, number as u64);
+            io::print_decimal(STANDARD_OUTPUT, number as u64);
         }
         b'e' => put_enables(number),
         b'n' => put(b"\n"),

@@ -9,6 +9,7 @@ use crate::tokens::{MOST, Tokens, WIDTH};
 use crate::walking::Room;
 use crate::wording::{say, say_three};
 use crate::{doing, faults, grammar, input, pieces, slots, tokens, wording};
+use std::io::Stdin;
 
 // What is read at once; a line is shorter.
 pub const PIECE: usize = 4000;
@@ -142,9 +143,10 @@ fn go_on(
     records: &mut Records,
     structures: &mut Structures,
     proposal: &mut Room,
+    stdin: &mut Stdin,
 ) -> bool {
     let rest = slots::at(desk, slots::REST);
-    let end = input::read_more(desk, piece, rest);
+    let end = input::read_more(desk, piece, rest, stdin);
     if end <= rest {
         return false;
     }
@@ -194,13 +196,14 @@ pub fn run(
     records: &mut Records,
     structures: &mut Structures,
     proposal: &mut Room,
+    stdin: &mut Stdin,
 ) {
     let mut turns = u64::MAX;
-    begin(desk);
+    begin(desk, stdin);
     while turns > 0 {
         turns -= 1;
         prompt(desk);
-        if !go_on(desk, piece, store, records, structures, proposal) {
+        if !go_on(desk, piece, store, records, structures, proposal, stdin) {
             break;
         }
     }
@@ -209,9 +212,9 @@ pub fn run(
     tell_end(desk);
 }
 
-fn begin(desk: &mut Desk) {
+fn begin(desk: &mut Desk, stdin: &Stdin) {
     slots::begin(desk);
-    slots::set(desk, slots::PROMPT, input::is_typed());
+    slots::set(desk, slots::PROMPT, input::is_typed(stdin));
 }
 
 // Who types is asked for each line.
