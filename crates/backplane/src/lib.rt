@@ -2,8 +2,7 @@
 // What a host of the switch links, in C or Rust: `router::route`, with plain numbers in the place of the enum. What it promises for every list of
 // ports, packet and buffer is specs/Routes.antt. A slice is a pointer and a length; where the length is 0 the pointer is not followed.
 // It is a crate of its own, so that the board's functions are compiled as they are without it (docs/DECISIONS.md, 41). The two halves of
-// `router::route` are called, and not that itself: what is given the choice is covered code, so that only the call over the lent ports is walked by
-// hand.
+// `router::route` are called, and not that itself.
 ghost use Rattle.std.specs.Prelude.{◌≡◌};
 ghost use Rattle.backplane.specs.Routes.{told_verdict, HostDecides, HostRoutes};
 

@@ -23,6 +23,7 @@ fn device_over(kept: Capture) -> bool
     }
 }
 
+#[tactic(auto, using(crate::proofs::Laws::edition_below, crate::proofs::Laws::edition_above, crate::proofs::Laws::edition_between))]
 fn is_other_edition(edition: u32) -> bool
     ensures { result ≡ other_edition edition }
 {

@@ -65,6 +65,7 @@ pub(crate) fn record_of(
 }
 
 // Num Group over Max Group, or an index under 12 while enabled.
+#[tactic(auto, unfolding(crate::specs::Capability::clashes))]
 pub(crate) fn clashes(port: Record) -> bool
     ensures { result ≡ clashes port }
 {
@@ -78,6 +79,7 @@ pub(crate) fn clashes(port: Record) -> bool
 }
 
 // Whether some space has a capability with this record.
+#[tactic(auto, unfolding(crate::specs::Records::is_record))]
 pub(crate) fn is_record(port: Record) -> bool
     ensures { result ≡ is_record port }
 {

@@ -90,6 +90,7 @@ pub fn dvsec_body(space: &[u8], at: usize) -> &[u8]
 }
 
 // The alternate function and the device of the Dual-BDF record at an offset.
+#[tactic(auto, using(crate::proofs::NotOne::not_one_function))]
 pub fn dual_bdf(space: &[u8], at: usize) -> DualRead
     ensures { tells_dual result ≡ dual_says space.now at }
 {

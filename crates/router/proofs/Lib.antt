@@ -1,5 +1,4 @@
 pub mod Laws
-pub mod Lent
 pub mod Unique
 pub mod Verdicts
 pub mod Ways

@@ -15,5 +15,4 @@ front-listed log count h e =
 
 pub returns : goal.returns
 returns c =
-    let a = c in
-    front-listed a.args.log.now a.args.count a.requires.0 c.copy.ensures
+    front-listed c.args.log.now c.args.count c.requires.0 c.copy.ensures

@@ -1,146 +1,109 @@
--- `records::dual_bdf` meets its contract: each way out gives the number of the first fact that is missing. Assumes nothing.
-use Prim.Native.Nat.{ℕ, ◌+◌, ◌%◌, ◌<◌}
+-- `records::dual_bdf` meets its contract: each way out gives the number of the first fact that is missing; where the vector has not one bit,
+-- by proofs/NotOne. Assumes nothing.
+use Prim.Native.Nat.{ℕ, ◌+◌, ◌<◌}
 use mathlib.Core.Bool.{Bool, true, not, cond}
 use mathlib.Core.List.{List}
 use mathlib.Core.Path.{◌≡◌, refl, sym, ap, ap₂, ◌∙◌}
 use native.Mathlib.Omega.{arith}
-use borrow.Author.Tests.{not-true, not-false, eq-eqb, ne_eqb}
+use borrow.Author.Tests.{eq-eqb, ne_eqb}
+use lib.Dec.{eqb}
+use lib.ListN.{length}
 use Rattle.words.specs.Bytes.{byte}
-use Rattle.words.specs.Fields.{bits, word}
+use Rattle.words.specs.Fields.{bits, word, word_or_zero}
 use Rattle.words.specs.Places.{placed}
 use Rattle.words.proofs.Laws.{Place, placed_true}
 use Rattle.records.specs.DualRule.{fits_dual, is_dual, one_set, vector_at, alternate_of, dual_number}
 use Rattle.records.proofs.Masks.{word_read}
-use Rattle.records.proofs.OneBit.{one_set_lem, not_one_set}
+use Rattle.records.proofs.OneBit.{one_set_lem}
 use Rattle.records.proofs.Told.{sized_true, sized_false, dual_refused, dual_found, dual_number_lem}
 use Rattle.records.proofs.dual_bdf.Goals as goal
 
--- the space and the offset, past the test of the place
-abbrev space : tie.Else2 → List ℕ
-space c = c.before.before.before.before.args.space.now
+-- what is known past the test of the place, of a space and an offset
+place : {said : Bool} (at : ℕ) → said ≡ placed at 0x040 0x0fc → said ≡ true → Place at 0x040 0x0fc
+place at e there = placed_true at 0x040 0x0fc (sym e ∙ there)
 
-abbrev at : tie.Else2 → ℕ
-at c = c.before.before.before.before.args.at
+module _ (s : List ℕ) (at : ℕ) (size : length s ≡ 4096) (here : Place at 0x040 0x0fc) where
+  -- the second word, and what is tested with it
+  second : {w : ℕ} → w ≡ word_or_zero s (at + 4) → w ≡ word s (at + 4)
+  second e = word_read s (at + 4) size (omega arith) e
 
--- the same place, from further on
-abbrev of-fits : tie.After-fits-dual → tie.Else2
-of-fits c = c.before.before.before.before.before
+  fits_tested : {w : ℕ} {said : Bool} → w ≡ word_or_zero s (at + 4) → said ≡ fits_dual at (byte s (at + 2)) w
+      → fits_dual at (byte s (at + 2)) (word s (at + 4)) ≡ said
+  fits_tested e tested = sym (tested ∙ ap (fits_dual at (byte s (at + 2))) (second e))
 
-abbrev of-third : tie.After-word2 → tie.Else2
-of-third c = of-fits c.before.before
+  -- the third word, and what is tested with it
+  third : {w : ℕ} → w ≡ word_or_zero s (at + 8) → w ≡ word s (at + 8)
+  third e = word_read s (at + 8) size (omega arith) e
 
-abbrev of_pair : tie.After-is-dual → tie.Else2
-of_pair c = of-third c.before
+  dual_tested : {w v : ℕ} {said : Bool} → w ≡ word_or_zero s (at + 4) → v ≡ word_or_zero s (at + 8) → said ≡ is_dual w v
+      → is_dual (word s (at + 4)) (word s (at + 8)) ≡ said
+  dual_tested e f tested = sym (tested ∙ ap₂ is_dual (second e) (third f))
 
-abbrev of-rest : tie.Else5 → tie.Else2
-of-rest c = of_pair c.before
+  vector_is : {v vector : ℕ} → v ≡ word_or_zero s (at + 8) → vector ≡ bits 23 16 v → vector ≡ vector_at s at
+  vector_is f e = e ∙ ap (bits 23 16) (third f)
 
-abbrev of-vector : tie.After-vector-of → tie.Else2
-of-vector c = of-rest c.before
-
--- what is known past the test of the place
-is-placed : (c : tie.Else2) → placed (at c) 0x040 0x0fc ≡ true
-is-placed c = sym c.before.placed.ensures ∙ not-false _ c.if2.false
-
-place : (c : tie.Else2) → Place (at c) 0x040 0x0fc
-place c = placed_true _ 0x040 0x0fc (is-placed c)
-
--- the second word, and what is tested with it
-second : (c : tie.After-word) → c.word.result ≡ word (space c.before.before.before) (at c.before.before.before + 4)
-second c =
-    let here = place c.before.before.before in
-    let four : (at c.before.before.before + 4) % 4 ≡ 0 = omega (arith, here) in
-    word_read _ _ c.before.before.before.before.before.if1.false four c.word.ensures
-
-fits-tested : (c : tie.After-fits-dual)
-    → c.fits-dual.result ≡ fits_dual (at (of-fits c)) (byte (space (of-fits c)) (at (of-fits c) + 2)) (word (space (of-fits c)) (at (of-fits c) + 4))
-fits-tested c = c.fits-dual.ensures ∙ ap (fits_dual (at (of-fits c)) (byte (space (of-fits c)) (at (of-fits c) + 2))) (second c.before.before)
-
--- the third word, and what is tested with it
-third : (c : tie.After-word2) → c.word2.result ≡ word (space (of-third c)) (at (of-third c) + 8)
-third c =
-    let here = place (of-third c) in
-    let eight : (at (of-third c) + 8) % 4 ≡ 0 = omega (arith, here) in
-    word_read _ _ c.before.before.before.before.before.before.before.before.before.if1.false eight c.word2.ensures
-
-dual-tested : (c : tie.After-is-dual)
-    → c.is-dual.result ≡ is_dual (word (space (of_pair c)) (at (of_pair c) + 4)) (word (space (of_pair c)) (at (of_pair c) + 8))
-dual-tested c = c.is-dual.ensures ∙ ap₂ is_dual (second c.before.before.before.before.before) (third c.before)
-
-vector-is : (c : tie.After-vector-of) → c.vector-of.result ≡ vector_at (space (of-vector c)) (at (of-vector c))
-vector-is c = c.vector-of.ensures ∙ ap (bits 23 16) (third c.before.before.before)
-
-small : (c : tie.After-vector-of) → c.vector-of.result < 256
-small c = omega (arith, c.vector-of.ensures)
-
--- what is known past the test of the pair, for the vector
-past : (c : tie.Else5)
-    → dual_number (space (of-rest c)) (at (of-rest c)) ≡ cond (not (one_set (vector_at (space (of-rest c)) (at (of-rest c))))) 10 0
-past c =
-    let f = c.before.before.before in
-    let n = f.before.before.before.before in
-    let p = n.before.before in
-    dual_number_lem _ _ (sized_true _ p.before.before.if1.false) (is-placed p) (eq-eqb _ 0x09 n.if3.false)
-    (sym (fits-tested f.before) ∙ not-false _ f.if4.false) (sym (dual-tested c.before) ∙ not-false _ c.if5.false) refl
-
-number : (c : tie.After-vector-of) {set : Bool} → one_set c.vector-of.result ≡ set
-    → dual_number (space (of-vector c)) (at (of-vector c)) ≡ cond (not set) 10 0
-number c e = past c.before ∙ ap (λ (set : Bool). cond (not set) 10 0) (ap one_set (sym (vector-is c)) ∙ e)
+  -- what is known past the test of the pair, for the vector
+  number : {v vector : ℕ} {set : Bool} → placed at 0x040 0x0fc ≡ true → eqb (byte s at) 0x09 ≡ true
+      → fits_dual at (byte s (at + 2)) (word s (at + 4)) ≡ true → is_dual (word s (at + 4)) (word s (at + 8)) ≡ true
+      → v ≡ word_or_zero s (at + 8) → vector ≡ bits 23 16 v → one_set vector ≡ set → dual_number s at ≡ cond (not set) 10 0
+  number there vendor fits dual f e set =
+      dual_number_lem s at (sized_true s size) there vendor fits dual (ap one_set (sym (vector_is f e)) ∙ set)
 
 pub returns-then-space-ne-SPACE : goal.returns-then-space-ne-SPACE
 returns-then-space-ne-SPACE c = dual_refused _ _ 1 refl (dual_number_lem _ _ (sized_false _ c.if-space-ne-SPACE.true) refl refl refl refl refl)
 
 pub returns-then-not-placed : goal.returns-then-not-placed
-returns-then-not-placed c = dual_refused _ _ 1 refl (dual_number_lem _ _ (sized_true _ c.if-space-ne-SPACE.false) (sym c.placed.ensures ∙ not-true _ c.if-not-placed.true-raw) refl refl refl refl)
+returns-then-not-placed c =
+    dual_refused _ _ 1 refl (dual_number_lem _ _ (sized_true _ c.if-space-ne-SPACE.false) (sym c.placed.ensures ∙ c.if-not-placed.true) refl refl refl refl)
 
 pub bounds-space-at : goal.bounds-space-at
-bounds-space-at c = omega (arith, place c, c.if-space-ne-SPACE.false)
+bounds-space-at c = omega (arith, place c.args.at c.placed.ensures c.if-not-placed.false)
 
 pub returns-then-space-at-ne-VENDOR_SPECIFIC : goal.returns-then-space-at-ne-VENDOR_SPECIFIC
 returns-then-space-at-ne-VENDOR_SPECIFIC c =
-    let p = c in
-    dual_refused _ _ 8 refl (dual_number_lem _ _ (sized_true _ p.if-space-ne-SPACE.false) (is-placed p) (ne_eqb _ 0x09 c.if-space-at-ne-VENDOR_SPECIFIC.true) refl refl refl)
-
-pub overflow_add-at : goal.overflow_add-at
-overflow_add-at c = omega (arith, place c)
-
-pub overflow_add-at-2 : goal.overflow_add-at-2
-overflow_add-at-2 c = omega (arith, place c)
+    dual_refused _ _ 8 refl
+    (dual_number_lem _ _ (sized_true _ c.if-space-ne-SPACE.false) (sym c.placed.ensures ∙ c.if-not-placed.false)
+    (ne_eqb _ 0x09 c.if-space-at-ne-VENDOR_SPECIFIC.true) refl refl refl)
 
 pub bounds-space-at-2 : goal.bounds-space-at-2
-bounds-space-at-2 c = omega (arith, place c, c.if-space-ne-SPACE.false)
+bounds-space-at-2 c = omega (arith, place c.args.at c.placed.ensures c.if-not-placed.false)
 
 pub fits_dual-requires : goal.fits_dual-requires
-fits_dual-requires c = (place c).below
+fits_dual-requires c = (place c.args.at c.placed.ensures c.if-not-placed.false).below
 
 pub returns-then-not-fits_dual : goal.returns-then-not-fits_dual
 returns-then-not-fits_dual c =
-    let n = c in
-    let p = n in
+    let a = c.args in
+    let here = place a.at c.placed.ensures c.if-not-placed.false in
     dual_refused _ _ 9 refl
-    (dual_number_lem _ _ (sized_true _ p.if-space-ne-SPACE.false) (is-placed p) (eq-eqb _ 0x09 n.if-space-at-ne-VENDOR_SPECIFIC.false)
-    (sym (fits-tested c) ∙ not-true _ c.if-not-fits_dual.true-raw) refl refl)
-
-pub overflow_add-at-3 : goal.overflow_add-at-3
-overflow_add-at-3 c = omega (arith, place c)
+    (dual_number_lem _ _ (sized_true _ c.if-space-ne-SPACE.false) (sym c.placed.ensures ∙ c.if-not-placed.false)
+    (eq-eqb _ 0x09 c.if-space-at-ne-VENDOR_SPECIFIC.false)
+    (fits_tested a.space.now a.at c.if-space-ne-SPACE.false here c.word-second.ensures c.fits_dual.ensures ∙ c.if-not-fits_dual.true) refl refl)
 
 pub returns-then-not-is_dual : goal.returns-then-not-is_dual
 returns-then-not-is_dual c =
-    let f = c in
-    let n = f in
-    let p = n in
+    let a = c.args in
+    let size = c.if-space-ne-SPACE.false in
+    let here = place a.at c.placed.ensures c.if-not-placed.false in
     dual_refused _ _ 8 refl
-    (dual_number_lem _ _ (sized_true _ p.if-space-ne-SPACE.false) (is-placed p) (eq-eqb _ 0x09 n.if-space-at-ne-VENDOR_SPECIFIC.false)
-    (sym (fits-tested f) ∙ not-false _ f.if-not-fits_dual.false-raw) (sym (dual-tested c) ∙ not-true _ c.if-not-is_dual.true-raw) refl)
-
-pub returns-then-vector-ne1 : goal.returns-then-vector-ne1
-returns-then-vector-ne1 c = dual_refused _ _ 10 refl (number c (not_one_set _ (small c) c.if-vector-ne1.true))
+    (dual_number_lem _ _ (sized_true _ size) (sym c.placed.ensures ∙ c.if-not-placed.false)
+    (eq-eqb _ 0x09 c.if-space-at-ne-VENDOR_SPECIFIC.false)
+    (fits_tested a.space.now a.at size here c.word-second.ensures c.fits_dual.ensures ∙ c.if-not-fits_dual.false)
+    (dual_tested a.space.now a.at size here c.word-second.ensures c.word-third.ensures c.is_dual.ensures ∙ c.if-not-is_dual.true) refl)
 
 pub alternate_of-requires : goal.alternate_of-requires
-alternate_of-requires c = (small c, one_set_lem _ (small c) c.if-vector-ne1.false)
+alternate_of-requires c =
+    let small : c.vector_of-vector.result < 256 = omega (arith, c.vector_of-vector.ensures) in
+    (small, one_set_lem _ small (omega arith))
 
 pub returns : goal.returns
 returns c =
-    let v = c in
-    rw (c.alternate_of.ensures ∙ ap₂ alternate_of (third v) (vector-is v))
-    (dual_found _ _ (number v (one_set_lem _ (small v) c.if-vector-ne1.false)))
+    let a = c.args in
+    let size = c.if-space-ne-SPACE.false in
+    let here = place a.at c.placed.ensures c.if-not-placed.false in
+    rw (c.alternate_of.ensures ∙ ap₂ alternate_of (third a.space.now a.at size here c.word-third.ensures) (vector_is a.space.now a.at size here c.word-third.ensures c.vector_of-vector.ensures))
+    (dual_found _ _
+    (number a.space.now a.at size here (sym c.placed.ensures ∙ c.if-not-placed.false) (eq-eqb _ 0x09 c.if-space-at-ne-VENDOR_SPECIFIC.false)
+    (fits_tested a.space.now a.at size here c.word-second.ensures c.fits_dual.ensures ∙ c.if-not-fits_dual.false)
+    (dual_tested a.space.now a.at size here c.word-second.ensures c.word-third.ensures c.is_dual.ensures ∙ c.if-not-is_dual.false)
+    c.word-third.ensures c.vector_of-vector.ensures (one_set_lem _ (omega (arith, c.vector_of-vector.ensures)) (omega arith))))

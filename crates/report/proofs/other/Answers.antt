@@ -1,13 +1,9 @@
 -- `report::other` meets its contract: the name, and that it is refused. Assumes nothing.
-use borrow.Author.Rules.{rules}
 use lib.Dec.{lit≤}
 use native.Mathlib.Omega.{arith}
 use Rattle.report.specs.Text.{ascii}
 use Rattle.report.proofs.Writing.{named_refused}
 use Rattle.report.proofs.other.Goals as goal
-
--- LOST slice-aggregate-append
--- slice-aggregate-append c = search rules
 
 pub returns : goal.returns
 returns c = named_refused (ascii "input") 1 (lit≤ tt) (omega (arith, c.requires)) c.append-named.ensures c.refused.ensures

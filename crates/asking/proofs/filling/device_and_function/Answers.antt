@@ -3,4 +3,4 @@ use Rattle.asking.proofs.Laws.{together}
 use Rattle.asking.proofs.filling.device_and_function.Goals as goal
 
 pub returns : goal.returns
-returns c = together c.args.device c.args.function c.requires.0 c.requires.1
+returns c = together c.args.device c.args.function c.requires.device_bound c.requires.function_bound

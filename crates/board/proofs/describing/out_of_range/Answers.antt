@@ -8,10 +8,10 @@ pub returns-then-description-gt7 : goal.returns-then-description-gt7
 returns-then-description-gt7 c = rw (sym c.device_over.ensures ∙ c.if-device_over.false, lt-ltb 7 _ c.if-description-gt7.true)
 
 pub returns-then-not-placed : goal.returns-then-not-placed
-returns-then-not-placed c = rw (sym c.device_over.ensures ∙ c.if-device_over.false, le-ltb 7 _ c.if-description-gt7.false, sym c.placed.ensures ∙ not-true _ c.if-not-placed.true-raw)
+returns-then-not-placed c = rw (sym c.device_over.ensures ∙ c.if-device_over.false, le-ltb 7 _ c.if-description-gt7.false, sym c.placed.ensures ∙ c.if-not-placed.true)
 
 pub returns-then-not-placed-2 : goal.returns-then-not-placed-2
-returns-then-not-placed-2 c = rw (sym c.device_over.ensures ∙ c.if-device_over.false, le-ltb 7 _ c.if-description-gt7.false, sym c.placed.ensures ∙ not-false _ c.if-not-placed.false-raw, sym c.placed-2.ensures ∙ not-true _ c.if-not-placed-2.true-raw)
+returns-then-not-placed-2 c = rw (sym c.device_over.ensures ∙ c.if-device_over.false, le-ltb 7 _ c.if-description-gt7.false, sym c.placed.ensures ∙ c.if-not-placed.false, sym c.placed-2.ensures ∙ c.if-not-placed-2.true)
 
 pub returns : goal.returns
-returns c = rw (sym c.device_over.ensures ∙ c.if-device_over.false, le-ltb 7 _ c.if-description-gt7.false, sym c.placed.ensures ∙ not-false _ c.if-not-placed.false-raw, sym c.placed-2.ensures ∙ not-false _ c.if-not-placed-2.false-raw, c.is_other_edition.ensures, or-false)
+returns c = rw (sym c.device_over.ensures ∙ c.if-device_over.false, le-ltb 7 _ c.if-description-gt7.false, sym c.placed.ensures ∙ c.if-not-placed.false, sym c.placed-2.ensures ∙ c.if-not-placed-2.false, c.is_other_edition.ensures, or-false)

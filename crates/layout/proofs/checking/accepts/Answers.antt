@@ -1,9 +1,8 @@
 -- `layout::checking::accepts` meets its contract. The loop's invariant: those that are left stand behind what has ended exactly if all are accepted. Assumes nothing.
-use Prim.Native.Nat.{◌-◌}
 use mathlib.Core.Bool.{and-false}
 use mathlib.Core.Path.{sym, ◌∙◌}
 use native.Mathlib.Omega.{arith}
-use borrow.Author.Tests.{eq-eqb, ne_eqb, not-true, not-false}
+use borrow.Author.Tests.{eq-eqb, ne_eqb}
 use lib.Dec.{eqb}
 use Rattle.layout.specs.Accepting.{offset_at}
 use Rattle.layout.specs.Inner.{accepts}
@@ -19,7 +18,7 @@ unfolding accepts
 returns-then-offsets-eq0 c = rw (none_first c.args.offsets.now c.if-offsets-eq0.true)
 
 pub overflow_cast-offsets : goal.overflow_cast-offsets
-overflow_cast-offsets c = omega (arith, c.shared_slice_known-2-1.given 0)
+overflow_cast-offsets c = omega (arith, c.type_inv.offsets 0)
 
 pub returns-then-offsets-ne-START : goal.returns-then-offsets-ne-START
 unfolding accepts
@@ -32,13 +31,13 @@ loop-place-init c = (omega arith, c.if-offsets-structures.false, rw (eq-eqb (off
 pub returns-then-not-may_stand : goal.returns-then-not-may_stand
 returns-then-not-may_stand c =
     let l = c.loop-place in
-    stands_not _ _ l.ended l.place l.invariant.1 c.loop-place-test.true (sym c.may_stand.ensures ∙ not-true _ c.if-not-may_stand.true-raw) ∙ l.invariant.2
+    stands_not _ _ l.ended l.place l.invariant.1 c.loop-place-test.true (sym c.may_stand.ensures ∙ c.if-not-may_stand.true) ∙ l.invariant.2
 
 pub overflow_cast-at : goal.overflow_cast-at
-overflow_cast-at c = omega (arith, c.shared_slice_known-in-loop-place-1.given c.loop-place.place)
+overflow_cast-at c = omega (arith, c.type_inv.offsets c.loop-place.place)
 
 pub ends_at-ended-requires : goal.ends_at-ended-requires
-ends_at-ended-requires c = omega (arith, c.shared_slice_known-in-loop-place-1.given c.loop-place.place)
+ends_at-ended-requires c = omega (arith, c.type_inv.offsets c.loop-place.place)
 
 pub loop-place-preserved : goal.loop-place-preserved
 loop-place-preserved c =
@@ -46,7 +45,7 @@ loop-place-preserved c =
       omega arith,
       l.invariant.1,
       rw c.ends_at-ended.ensures
-          (stands_on _ _ l.ended l.place l.invariant.1 c.loop-place-test.true (sym c.may_stand.ensures ∙ not-false _ c.if-not-may_stand.false-raw) ∙ l.invariant.2),
+          (stands_on _ _ l.ended l.place l.invariant.1 c.loop-place-test.true (sym c.may_stand.ensures ∙ c.if-not-may_stand.false) ∙ l.invariant.2),
     )
 
 pub returns : goal.returns

@@ -1,5 +1,5 @@
 -- `layout::planning::fit` meets its contract. The loop's invariant: those that are left fit from where it is exactly if all fit. Assumes nothing.
-use Prim.Native.Nat.{◌+◌, ◌-◌, ◌≤◌}
+use Prim.Native.Nat.{◌+◌, ◌≤◌}
 use mathlib.Core.Path.{◌∙◌}
 use native.Mathlib.Omega.{arith}
 use Rattle.layout.specs.Structures.{extent, structure_at}

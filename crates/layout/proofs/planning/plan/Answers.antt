@@ -1,6 +1,5 @@
 -- `layout::planning::plan` meets its contract: what is packed is the lowest proposal, and where it does not fit, there is none. Assumes nothing.
 use mathlib.Core.Path.{refl, sym, ◌∙◌}
-use borrow.Author.Tests.{not-true, not-false}
 use Rattle.layout.specs.Proposing.{Plans.misdescribed, Plans.roomless, Plans.unplaced, Plans.proposed}
 use Rattle.layout.specs.Inner.{packed_from}
 use Rattle.layout.proofs.Sound.{given}
@@ -17,16 +16,16 @@ returns-then-room-structures c = roomless (sym c.are_bad.ensures ∙ c.if-are_ba
 pub returns-then-not-fit : goal.returns-then-not-fit
 returns-then-not-fit c =
     let good = sym c.are_bad.ensures ∙ c.if-are_bad.false in
-    unplaced good c.if-room-structures.false (none_fits (given _ good) (sym c.fit.ensures ∙ not-true _ c.if-not-fit.true-raw))
+    unplaced good c.if-room-structures.false (none_fits (given _ good) (sym c.fit.ensures ∙ c.if-not-fit.true))
     (record { given = refl; kept = refl })
 
 pub propose-requires : goal.propose-requires
-propose-requires c = (c.if-room-structures.false, sym c.fit.ensures ∙ not-false _ c.if-not-fit.false-raw)
+propose-requires c = (c.if-room-structures.false, sym c.fit.ensures ∙ c.if-not-fit.false)
 
 pub returns : goal.returns
 returns c =
     let good = sym c.are_bad.ensures ∙ c.if-are_bad.false in
     let s = c.args.structures.now in
     proposed good c.if-room-structures.false (packed_from 0x100 s)
-    (packed_is_lowest (given _ good) (sym c.fit.ensures ∙ not-false _ c.if-not-fit.false-raw)) refl
+    (packed_is_lowest (given _ good) (sym c.fit.ensures ∙ c.if-not-fit.false)) refl
     (rw (packed_length 0x100 s) c.propose.ensures)

@@ -1,6 +1,4 @@
 -- `layout::planning::propose` meets its contract. The loop's invariant: so many offsets are in place, those that are left are packed from where it is, and they fit. Assumes nothing.
-use Prim.Native.Nat.{◌-◌}
-use mathlib.Core.Bool.{true}
 use mathlib.Core.Path.{refl, ◌∙◌}
 use native.Mathlib.Omega.{arith}
 use lib.ListN.{length-set}

@@ -1,5 +1,4 @@
 -- `layout::structures::are_bad` meets its contract. The loop's invariant: of the structures that are left one is bad exactly if one of all is. Assumes nothing.
-use Prim.Native.Nat.{◌-◌}
 use mathlib.Core.Path.{sym, ◌∙◌}
 use native.Mathlib.Omega.{arith}
 use borrow.Author.Tests.{eq-eqb, ne_eqb, lt-ltb}

@@ -7,4 +7,4 @@ pub returns : goal.returns
 returns c =
     let a = c.args in
     rw (c.high_byte-2.ensures, c.low_byte-2.ensures, c.high_byte.ensures, c.low_byte.ensures, c.upper_half-upper.ensures)
-    (header_bytes a.t1 a.next (omega (arith, c.high_byte.ensures)) c.requires.0 c.requires.1)
+    (header_bytes a.structure a.next (omega (arith, c.high_byte.ensures)) c.requires.0 c.requires.1)

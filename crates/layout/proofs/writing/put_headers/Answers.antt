@@ -15,7 +15,7 @@ pub loop-place-init : goal.loop-place-init
 loop-place-init c = (omega arith, sym (get_or-eq_default c.args.offsets.now 0 (omega arith)), sym (laid_none _ _ _ _ c.requires.each), c.requires.whole, omega arith)
 
 pub overflow_cast-at : goal.overflow_cast-at
-overflow_cast-at c = omega (arith, c.shared_slice_known-in-loop-place-1.given (c.loop-place.place - 1))
+overflow_cast-at c = omega (arith, c.type_inv.offsets (c.loop-place.place - 1))
 
 pub header_of-requires : goal.header_of-requires
 header_of-requires c = (c.requires.small (c.loop-place.place - 1) (omega (arith, c.requires.each)), c.loop-place.invariant.4)
@@ -27,12 +27,12 @@ loop-place-preserved c =
     let k : ℕ = l.place - 1 in
     let there = c.requires.inside k (omega arith) in
     let after =
-    puts_is l.space-1 (offset_at a.offsets.now k) _ c.put.ensures (rw c.header_of.ensures (omega arith))
-    ∙ ap (put l.space-1 (offset_at a.offsets.now k)) c.header_of.ensures in (
+    puts_is l.space (offset_at a.offsets.now k) _ c.put.ensures (rw c.header_of.ensures (omega arith))
+    ∙ ap (put l.space (offset_at a.offsets.now k)) c.header_of.ensures in (
       omega arith,
       refl,
-      after ∙ laid_next a.structures.now a.offsets.now a.space.now k l.place l.next l.space-1 (omega arith) (omega (arith, c.requires.each)) (omega arith) l.invariant.1 l.invariant.2,
-      ap length after ∙ put_length l.space-1 (offset_at a.offsets.now k) (four_of (header_word (structure_at a.structures.now k) l.next)) (omega arith) ∙ l.invariant.3,
+      after ∙ laid_next a.structures.now a.offsets.now a.space.now k l.place l.next l.space (omega arith) (omega (arith, c.requires.each)) (omega arith) l.invariant.1 l.invariant.2,
+      ap length after ∙ put_length l.space (offset_at a.offsets.now k) (four_of (header_word (structure_at a.structures.now k) l.next)) (omega arith) ∙ l.invariant.3,
       omega arith,
     )
 

@@ -1,5 +1,5 @@
 -- `layout::writing::put_headers` meets its contract. The loop's invariant: the headers from a place on are laid, and the next pointer is to the first of them. Assumes nothing.
-use Prim.Native.Nat.{◌-◌, ◌≤◌}
+use Prim.Native.Nat.{◌≤◌}
 use mathlib.Core.Path.{◌≡◌}
 use lib.ListN.{length, drop}
 use Rattle.layout.specs.Accepting.{offset_at}

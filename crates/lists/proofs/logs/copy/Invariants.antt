@@ -1,6 +1,6 @@
 -- `lists::logs::copy` meets its contract. The loop's invariant: the first `done` offsets are in place, and the rest is as it was.
 -- Assumes nothing.
-use Prim.Native.Nat.{◌-◌, ◌+◌, ◌≤◌}
+use Prim.Native.Nat.{◌-◌, ◌≤◌}
 use mathlib.Core.List.{◌++◌}
 use mathlib.Core.Path.{◌≡◌}
 use lib.ListN.{length, take, drop}

@@ -1,6 +1,6 @@
 -- `lists::marks::first_again` meets its contract. The loop's invariant: the words of the places that were passed are different, and they and no
 -- others are marked. Assumes nothing.
-use Prim.Native.Nat.{ℕ, ◌-◌, ◌<◌}
+use Prim.Native.Nat.{ℕ, ◌<◌}
 use mathlib.Core.List.{List}
 use native.Mathlib.Omega.{arith}
 use lib.ListN.{length}
@@ -16,7 +16,7 @@ pub loop-index-init : goal.loop-index-init
 loop-index-init c = (marked_none c.args.log.now, omega arith)
 
 pub overflow_cast-number : goal.overflow_cast-number
-overflow_cast-number c = omega (arith, c.shared_slice_known-1.given c.loop-index.index)
+overflow_cast-number c = omega (arith, c.type_inv.log c.loop-index.index)
 
 pub bounds-marks-number : goal.bounds-marks-number
 bounds-marks-number c = has-mark _ _ c.requires c.loop-index-test.true

@@ -13,9 +13,9 @@ unfolding compatible_next
 byte-pointer s at h = record { is = refl; small = omega arith }
 
 pub overflow_cast-result : goal.overflow_cast-result
-overflow_cast-result c = omega (arith, c.shared_slice_known-1.given (c.args.offset + 1))
+overflow_cast-result c = omega (arith, c.type_inv.space (c.args.offset + 1))
 
 pub returns : goal.returns
 returns c =
     let a = c.args in
-    byte-pointer a.space.now a.offset (omega (arith, c.shared_slice_known-1.given (a.offset + 1)))
+    byte-pointer a.space.now a.offset (omega (arith, c.type_inv.space (a.offset + 1)))

@@ -6,7 +6,7 @@ use native.Mathlib.Omega.{arith}
 use borrow.Author.Tests.{eq-eqb, ne_eqb}
 use lib.Bits.{bit_and, and_mask, mask_lt}
 use Rattle.words.specs.Bytes.{byte}
-use Rattle.words.specs.Fields.{bit, word, word_or_zero}
+use Rattle.words.specs.Fields.{bit, word_or_zero}
 use Rattle.words.proofs.Laws.{word_inside}
 use Rattle.lists.specs.Table.{compatible_start}
 use Rattle.lists.specs.Walks.{WholeSpace}
@@ -38,6 +38,5 @@ returns-then-space-eq0 c = empty c.args.space.now c.if-space-eq0.true
 
 pub returns : goal.returns
 returns c =
-    let a = c in
-    starts a.args.space.now c.word.result a.requires c.if-space-eq0.false c.word.ensures
-    (omega (arith, c.shared_slice_known-1.given 0x34))
+    starts c.args.space.now c.word.result c.requires c.if-space-eq0.false c.word.ensures
+    (omega (arith, c.type_inv.space 0x34))

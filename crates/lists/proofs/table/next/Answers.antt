@@ -4,18 +4,15 @@ use Rattle.lists.proofs.table.next.Goals as goal
 
 pub compatible_next-requires : goal.compatible_next-requires
 compatible_next-requires c =
-    let a = c in
-    (a.requires.0, inside_for a.args.position c.in-Compatible.is a.requires.1)
+    (c.requires.0, inside_for c.args.position c.in-Compatible.is c.requires.1)
 
 pub extended_next-requires : goal.extended_next-requires
 extended_next-requires c =
-    let a = c in
-    (a.requires.0, inside_for a.args.position c.in-Extended.is a.requires.1)
+    (c.requires.0, inside_for c.args.position c.in-Extended.is c.requires.1)
 
 pub extended_next-requires-in-Trusted : goal.extended_next-requires-in-Trusted
 extended_next-requires-in-Trusted c =
-    let a = c in
-    (a.requires.0, inside_for a.args.position c.in-Trusted.is a.requires.1)
+    (c.requires.0, inside_for c.args.position c.in-Trusted.is c.requires.1)
 
 pub returns-in-Compatible : goal.returns-in-Compatible
 returns-in-Compatible c = rw c.in-Compatible.is c.compatible_next.ensures

@@ -4,7 +4,7 @@ use mathlib.Core.List.{List}
 use mathlib.Core.Path.{◌≡◌, ◌∙◌}
 use native.Mathlib.Omega.{arith}
 use lib.Bits.{bit_and, and_mask, mask_lt}
-use Rattle.words.specs.Fields.{word, word_or_zero}
+use Rattle.words.specs.Fields.{word_or_zero}
 use Rattle.words.proofs.Laws.{word_inside}
 use Rattle.lists.specs.Table.{trusted_start}
 use Rattle.lists.specs.Walks.{WholeSpace}

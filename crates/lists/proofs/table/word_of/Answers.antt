@@ -15,6 +15,6 @@ word-there s at r e a b c d = record { is = e; small = omega arith }
 pub returns : goal.returns
 returns c =
     let a = c.args in
-    let bytes = c.shared_slice_known-1.given in
+    let bytes = c.type_inv.space in
     word-there a.space.now (4 * a.position) c.joined.result c.joined.ensures (omega (arith, bytes (4 * a.position)))
     (omega (arith, bytes (4 * a.position + 1))) (omega (arith, bytes (4 * a.position + 2))) (omega (arith, bytes (4 * a.position + 3)))

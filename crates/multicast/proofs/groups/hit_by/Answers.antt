@@ -9,13 +9,13 @@ use Rattle.multicast.proofs.groups.hit_by.Goals as goal
 
 pub returns-then-port-eq0 : goal.returns-then-port-eq0
 unfolding is_hit
-returns-then-port-eq0 c = rw (eq-eqb (enable c.args.t1) 0 c.if-port-eq0.true)
+returns-then-port-eq0 c = rw (eq-eqb (enable c.args.port) 0 c.if-port-eq0.true)
 
 pub returns-then-address-port : goal.returns-then-address-port
 unfolding is_hit
 returns-then-address-port c =
     let a = c.args in
-    rw (ne_eqb (enable a.t1) 0 c.if-port-eq0.false, lt-leb (base a.t1) a.address c.if-address-port.true)
+    rw (ne_eqb (enable a.port) 0 c.if-port-eq0.false, lt-leb (base a.port) a.address c.if-address-port.true)
 
 pub overflow_shr-group : goal.overflow_shr-group
 overflow_shr-group c = omega (arith, (record_fields _ c.requires).most)
@@ -24,7 +24,7 @@ pub returns-then-port-group : goal.returns-then-port-group
 unfolding is_hit
 returns-then-port-group c =
     let a = c.args in
-    rw (ne_eqb (enable a.t1) 0 c.if-port-eq0.false, le-leb (base a.t1) a.address c.if-address-port.false, lt-leb (group_of a.t1 a.address) (num_group a.t1) c.if-port-group.true)
+    rw (ne_eqb (enable a.port) 0 c.if-port-eq0.false, le-leb (base a.port) a.address c.if-address-port.false, lt-leb (group_of a.port a.address) (num_group a.port) c.if-port-group.true)
 
 pub overflow_cast-result : goal.overflow_cast-result
 overflow_cast-result c =
@@ -36,4 +36,4 @@ unfolding is_hit
 returns c =
     let a = c.args in
     let f = record_fields _ c.requires in
-    (rw (ne_eqb (enable a.t1) 0 c.if-port-eq0.false, le-leb (base a.t1) a.address c.if-address-port.false, le-leb (group_of a.t1 a.address) (num_group a.t1) c.if-port-group.false), refl, omega (arith, f.maximum, f.groups, c.if-port-group.false))
+    (rw (ne_eqb (enable a.port) 0 c.if-port-eq0.false, le-leb (base a.port) a.address c.if-address-port.false, le-leb (group_of a.port a.address) (num_group a.port) c.if-port-group.false), refl, omega (arith, f.maximum, f.groups, c.if-port-group.false))

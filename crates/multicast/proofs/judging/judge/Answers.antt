@@ -1,28 +1,26 @@
 -- `multicast::judge` meets its contract: each way out is a case of what is said of the address. Assumes nothing.
-use Prim.Native.Nat.{ℕ}
-use mathlib.Core.Bool.{false}
+use Prim.Native.Nat.{ℕ, ◌≤◌, ◌<◌}
+use mathlib.Core.Bool.{Bool, true, false}
+use mathlib.Core.List.{List}
 use mathlib.Core.Path.{◌≡◌, sym, subst, ◌∙◌}
-use borrow.Author.Tests.{not-true, not-false}
-use Rattle.multicast.specs.Judging.{port_at, is_bad}
+use lib.ListN.{length}
+use Rattle.multicast.specs.declared.groups.Hit.{Hit}
 use Rattle.multicast.specs.declared.groups.Hit.TheVariants.{Group}
 use Rattle.multicast.specs.Inner.{Hits}
+use Rattle.multicast.specs.Judging.{port_at, is_bad}
+use Rattle.multicast.specs.Records.{are_records}
 use Rattle.multicast.proofs.Judgments.{bad_long, bad_place, bad_record, good, judges_bad, judges_no_hit, judges_dropped, judges_leaves}
 use Rattle.multicast.proofs.Walks.{record_among}
 use Rattle.multicast.proofs.judging.judge.Goals as goal
 
 -- past the test of the records, the list is a good one
-is-good : (c : tie.Else3) → let a = c.before.before.before.before.args in is_bad a.ports.now a.entering ≡ false
-is-good c =
-    good _ _ c.before.before.before.if1.false c.before.before.if2.false (sym c.before.are-records.ensures ∙ not-false _ c.if3.false)
+is_good : (ports : List (List ℕ)) (entering : ℕ) {said : Bool} → length ports ≤ 32 → entering < length ports → said ≡ are_records ports → said ≡ true
+    → is_bad ports entering ≡ false
+is_good ports entering few there e passed = good ports entering few there (sym e ∙ passed)
 
 -- past the test of the address, a group is hit
-abbrev group : tie.After-known-told → ℕ
-group c = c.before.group.given.0.0
-
-hit : (c : tie.After-known-told)
-    → let a = c.before.before.before.before.before.before.before.before.before.args in
-    Hits (port_at a.ports.now a.entering) a.address (Group (group c))
-hit c = subst (Hits _ _) c.before.group.given.1 c.before.before.before.hit-by.ensures
+hit : (port : List ℕ) (address group : ℕ) {found : Hit} → found ≡ Group group → Hits port address found → Hits port address (Group group)
+hit port address group e h = subst (Hits port address) e h
 
 pub returns-then-ports-gt-MOST_PORTS : goal.returns-then-ports-gt-MOST_PORTS
 returns-then-ports-gt-MOST_PORTS c = judges_bad _ _ _ (bad_long _ _ c.if-ports-gt-MOST_PORTS.true)
@@ -31,37 +29,38 @@ pub returns-then-ports-entering : goal.returns-then-ports-entering
 returns-then-ports-entering c = judges_bad _ _ _ (bad_place _ _ c.if-ports-gt-MOST_PORTS.false c.if-ports-entering.true)
 
 pub returns-then-not-are_records : goal.returns-then-not-are_records
-returns-then-not-are_records c = judges_bad _ _ _ (bad_record _ _ c.if-ports-gt-MOST_PORTS.false c.if-ports-entering.false (sym c.are_records.ensures ∙ not-true _ c.if-not-are_records.true-raw))
+returns-then-not-are_records c =
+    judges_bad _ _ _ (bad_record _ _ c.if-ports-gt-MOST_PORTS.false c.if-ports-entering.false (sym c.are_records.ensures ∙ c.if-not-are_records.true))
 
 pub hit_by-requires : goal.hit_by-requires
 hit_by-requires c =
-    let g = c in
-    let a = g.args in
-    record_among a.ports.now a.entering (sym g.are_records.ensures ∙ not-false _ g.if-not-are_records.false-raw) g.if-ports-entering.false
+    record_among c.args.ports.now c.args.entering (sym c.are_records.ensures ∙ c.if-not-are_records.false) c.if-ports-entering.false
 
 pub returns-in_default : goal.returns-in_default
 returns-in_default c =
-    let h = c in
-    judges_no_hit _ _ _ (is-good h) (subst (Hits _ _) c.in_default.is h.hit_by.ensures)
+    judges_no_hit _ _ _ (is_good _ _ c.if-ports-gt-MOST_PORTS.false c.if-ports-entering.false c.are_records.ensures c.if-not-are_records.false)
+    (subst (Hits _ _) c.in_default.is c.hit_by.ensures)
 
 pub bit_of-requires : goal.bit_of-requires
-bit_of-requires c = (hit c).2
+bit_of-requires c = (hit (port_at c.args.ports.now c.args.entering) c.args.address c.in-Group.group c.in-Group.is c.hit_by.ensures).2
 
 pub returns-then-bit_of-eq1 : goal.returns-then-bit_of-eq1
 returns-then-bit_of-eq1 c =
-    let k = c in
-    let h = hit k in
-    judges_dropped _ _ _ (group k) (is-good k) h.0 h.1 (sym c.bit_of.ensures ∙ c.if-bit_of-eq1.true)
+    let h = hit (port_at c.args.ports.now c.args.entering) c.args.address c.in-Group.group c.in-Group.is c.hit_by.ensures in
+    judges_dropped _ _ _ c.in-Group.group
+    (is_good _ _ c.if-ports-gt-MOST_PORTS.false c.if-ports-entering.false c.are_records.ensures c.if-not-are_records.false)
+    h.0 h.1 (sym c.bit_of.ensures ∙ c.if-bit_of-eq1.true)
 
 pub leaving-leaving-requires : goal.leaving-leaving-requires
-leaving-leaving-requires c =
-    let k = c in
-    let g = k in
-    (g.if-ports-entering.false, g.if-ports-gt-MOST_PORTS.false, (hit k).2)
+leaving-leaving-requires c = (
+  c.if-ports-entering.false,
+  c.if-ports-gt-MOST_PORTS.false,
+  (hit (port_at c.args.ports.now c.args.entering) c.args.address c.in-Group.group c.in-Group.is c.hit_by.ensures).2,
+)
 
 pub returns : goal.returns
 returns c =
-    let e = c in
-    let k = e in
-    let h = hit k in
-    judges_leaves _ _ _ (group k) c.leaving-leaving.result (is-good k) h.0 h.1 (λ b. e.if-bit_of-eq1.false (e.bit_of.ensures ∙ b)) c.leaving-leaving.ensures
+    let h = hit (port_at c.args.ports.now c.args.entering) c.args.address c.in-Group.group c.in-Group.is c.hit_by.ensures in
+    judges_leaves _ _ _ c.in-Group.group c.leaving-leaving.result
+    (is_good _ _ c.if-ports-gt-MOST_PORTS.false c.if-ports-entering.false c.are_records.ensures c.if-not-are_records.false)
+    h.0 h.1 (λ b. c.if-bit_of-eq1.false (c.bit_of.ensures ∙ b)) c.leaving-leaving.ensures

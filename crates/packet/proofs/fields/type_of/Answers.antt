@@ -2,6 +2,7 @@
 use lib.Bits.{bit_and}
 use Prim.Native.Nat.{ℕ}
 use mathlib.Core.Path.{◌≡◌, refl, sym, ap, ◌∙◌}
+use native.Mathlib.Omega.{arith}
 use Rattle.packet.specs.Fields.{type_code, type_of}
 use Rattle.packet.proofs.Laws.{code_is, type_unknown}
 use Rattle.packet.proofs.fields.type_of.Goals as goal
@@ -35,5 +36,4 @@ unfolding type_of
 returns-in_default c =
     let first = c.args.first in
     let code : (k : ℕ) → (bit_and first 127 ≡ k → ⊥) → type_code first ≡ k → ⊥ = λ k h e. h (sym (code_is first _ refl) ∙ e) in
-    let r = c.in_default.in_default-own.rest in
-    sym (type_unknown (type_code first) (code _ r.0.0.0.0.0.1) (code _ r.0.0.0.0.1) (code _ r.0.0.0.1) (code _ r.0.0.1) (code _ r.0.1) (code _ r.1))
+    sym (type_unknown (type_code first) (code _ (omega arith)) (code _ (omega arith)) (code _ (omega arith)) (code _ (omega arith)) (code _ (omega arith)) (code _ (omega arith)))

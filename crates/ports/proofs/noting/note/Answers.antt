@@ -19,5 +19,5 @@ returns c =
         c.buses_of-its.ensures,
         c.placing-with.ensures,
       );
-      bytes = search (rules, c.well_formed.1.0);
+      bytes = search rules;
     }

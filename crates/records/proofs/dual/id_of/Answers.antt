@@ -19,7 +19,7 @@ pub returns-in_default : goal.returns-in_default
 unfolding known_pair
 returns-in_default c id h =
     rw (
-      ne_eqb c.args.vendor 0x8086 c.in_default.rest.0.1,
-      ne_eqb c.args.vendor 0x1ec0 c.in_default.rest.1,
+      ne_eqb c.args.vendor 0x8086 (λ e. omega arith),
+      ne_eqb c.args.vendor 0x1ec0 (λ e. omega arith),
       ne_eqb id 0x10000 (λ e. omega arith),
     )

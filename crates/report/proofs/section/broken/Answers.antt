@@ -8,12 +8,10 @@ use Rattle.report.proofs.section.broken.Goals as goal
 
 pub refused_at-requires : goal.refused_at-requires
 refused_at-requires c =
-    let a = c in
     let first = c.name-named in
-    omega (arith, a.requires, first.ensures.next, first.auto.1.0, name_length a.args.section)
+    omega (arith, c.requires, first.ensures.next, first.auto.text, name_length c.args.section)
 
 pub returns : goal.returns
 returns c =
-    let a = c in
-    named_refused_at (style a.args.section).name (number_of a.args.refusal) (name_length a.args.section) a.args.fault a.requires
+    named_refused_at (style c.args.section).name (number_of c.args.refusal) (name_length c.args.section) c.args.fault c.requires
     c.name-named.ensures c.refused_at.ensures

@@ -4,7 +4,7 @@ use Rattle.report.proofs.Lines.{compatible_line}
 use Rattle.report.proofs.section.compatible_entry.Goals as goal
 
 pub overflow_cast-id : goal.overflow_cast-id
-overflow_cast-id c = omega (arith, c.shared_slice_known-2-1.given c.args.at)
+overflow_cast-id c = omega (arith, c.type_inv.space c.args.at)
 
 pub returns : goal.returns
 returns c =

@@ -1,15 +1,14 @@
 -- `report::section::entries` meets its contract. The loop's invariant: the lines of the offsets passed are written. Assumes nothing.
-use Prim.Native.Nat.{◌-◌}
 use native.Mathlib.Omega.{arith}
 use Rattle.report.proofs.Adding.{added_none}
 use Rattle.report.proofs.Writing.{line_fits, line_more, all_written, lines_length}
 use Rattle.report.proofs.section.entries.Goals as goal
 
 pub loop-done-init : goal.loop-done-init
-loop-done-init c = let a = c in (omega arith, a.requires, added_none a.args.text.now a.args.from)
+loop-done-init c = (omega arith, c.requires, added_none c.args.text.now c.args.from)
 
 pub overflow_cast-offsets : goal.overflow_cast-offsets
-overflow_cast-offsets c = omega (arith, c.shared_slice_known-in-loop-done-1.given c.loop-done.done)
+overflow_cast-offsets c = omega (arith, c.type_inv.offsets c.loop-done.done)
 
 pub entry-place-requires : goal.entry-place-requires
 entry-place-requires c =
@@ -22,7 +21,7 @@ loop-done-smaller c = omega arith
 pub loop-done-preserved : goal.loop-done-preserved
 loop-done-preserved c =
     let l = c.loop-done in
-    (omega arith, l.invariant.1, line_more l.invariant.1 l.done l.place l.text-1 (omega arith) l.invariant.2 c.entry-place.ensures)
+    (omega arith, l.invariant.1, line_more l.invariant.1 l.done l.place l.text (omega arith) l.invariant.2 c.entry-place.ensures)
 
 pub shape_of-text : goal.shape_of-text
 shape_of-text c = let l = c.loop-done in lines_length l.invariant.1 (all_written l.invariant.1 l.done (omega arith) l.invariant.2)

@@ -7,10 +7,9 @@ use Rattle.report.proofs.section.extended_entry.Goals as goal
 
 pub returns : goal.returns
 returns c =
-    let a = c in
     rw (
-      extended_line a.args.space.now a.args.at,
-      ← (c.word-header.ensures ∙ word_inside a.args.space.now a.args.at (omega (arith, a.requires))),
+      extended_line c.args.space.now c.args.at,
+      ← (c.word-header.ensures ∙ word_inside c.args.space.now c.args.at (omega (arith, c.requires))),
       ← c.hex_digit.ensures,
       ← c.hex_digit-2.ensures,
       ← c.hex_digit-3.ensures,

@@ -9,31 +9,31 @@ use Rattle.report.proofs.section.write.Goals as goal
 pub slice_bounds-listed-end : goal.slice_bounds-listed-end
 slice_bounds-listed-end c =
     let walk = c.walk-walked in
-    walked_fits c.requires c.kind.ensures walk.ensures walk.auto.1.1.0 c.in_default.is
+    walked_fits c.requires c.kind.ensures walk.ensures walk.auto.room c.in_default.is
 
 pub slice_bounds-listed-end-in_default : goal.slice_bounds-listed-end-in_default
 slice_bounds-listed-end-in_default c =
     let walk = c.walk-walked in
-    sym (length-take-le walk.result.count walk.new.1.1.0
-    (walked_fits c.requires c.kind.ensures walk.ensures walk.auto.1.1.0 c.in_default.is))
+    sym (length-take-le walk.result.count walk.new.room
+    (walked_fits c.requires c.kind.ensures walk.ensures walk.auto.room c.in_default.is))
 
 pub listed-requires : goal.listed-requires
 listed-requires c =
     let walk = c.walk-walked in
-    walked_chained c.requires c.kind.ensures walk.ensures walk.auto.1.1.0 c.in_default.is
-    (λ at. omega (arith, c.shared_slice_known-1.given at))
+    walked_chained c.requires c.kind.ensures walk.ensures walk.auto.room c.in_default.is
+    (λ at. omega (arith, c.type_inv.space at))
 
 pub returns-in_default : goal.returns-in_default
 returns-in_default c =
     let walk = c.walk-walked in
-    walked_listed c.requires c.kind.ensures walk.ensures walk.auto.1.1.0 c.in_default.is
+    walked_listed c.requires c.kind.ensures walk.ensures walk.auto.room c.in_default.is
     c.listed.ensures
 
 pub broken-requires : goal.broken-requires
-broken-requires c = let a = c in omega (arith, a.requires.fits, name_room a.args.section)
+broken-requires c = omega (arith, c.requires.fits, name_room c.args.section)
 
 pub returns : goal.returns
 returns c =
     let walk = c.walk-walked in
-    walked_broken c.requires c.kind.ensures walk.ensures walk.auto.1.1.0 c.in-Refused.is
+    walked_broken c.requires c.kind.ensures walk.ensures walk.auto.room c.in-Refused.is
     c.broken.ensures

@@ -4,5 +4,4 @@ use Rattle.report.proofs.text.append.Goals as goal
 
 pub returns : goal.returns
 returns c =
-    let a = c in
-    added_put a.args.text.now a.args.place a.args.bytes.now c.put.ensures a.requires
+    added_put c.args.text.now c.args.place c.args.bytes.now c.put.ensures c.requires

@@ -14,7 +14,7 @@ returns-then-turned c =
     let b = s.args.leaving.now in
     rw c.if-turned.true
     (ap (λ l. set l 0 (bit_and (byte p 0) 254)) (put_over b p _ _ c.put.ensures s.requires.fits)
-    ∙ turned_over p b s.requires.faultless (s.requires.type1 c.if-turned.true) (omega (arith, c.shared_slice_known-then-turned-1.given 0)))
+    ∙ turned_over p b s.requires.faultless (s.requires.type1 c.if-turned.true) (omega (arith, c.type_inv.packet 0)))
 
 pub returns-else-turned : goal.returns-else-turned
 returns-else-turned c =
