@@ -1,6 +1,6 @@
 -- `desk::input::keep_rest` is safe and ends. The loop's invariant: the piece keeps its length, and what is moved lies in it. The
 -- measure is what is left to move. Assumes nothing.
-use Rattle.std.proofs.Common.{◌-◌, refl, arith, length-set}
+use Rattle.std.proofs.Common.{refl, arith, length-set}
 use Rattle.desk.proofs.input.keep_rest.Goals as goal
 
 pub loop-done-init : goal.loop-done-init

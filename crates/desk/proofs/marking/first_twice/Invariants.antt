@@ -1,5 +1,5 @@
 -- `desk::marking::first_twice` is safe and ends. Assumes nothing.
-use Rattle.std.proofs.Common.{◌-◌, length, rules}
+use Rattle.std.proofs.Common.{◌-◌, length}
 use Rattle.desk.proofs.marking.first_twice.Given as goal
 
 abbrev pub invariant-loop-at : goal.invariant-loop-at
