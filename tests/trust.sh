@@ -68,6 +68,7 @@ elif [ "$(grep -c '^logic=proved ' $verdict 2>/dev/null)" = 6 ] && [ "$(wc -l <$
 else
     echo "FAILED the library: $verdict, which ./library writes, has not six verdicts"
 fi
+if grep -qF "$(cat kit.txt)" README.md; then echo 'ok README.md names the kit of kit.txt'; else echo "FAILED README.md does not name the kit of kit.txt, $(cat kit.txt)"; fi
 if [ "$(rt version)" = "$(cat kit.txt)" ]; then
     echo "ok the kit is that of kit.txt, $(cat kit.txt)"
 else
