@@ -1085,7 +1085,7 @@ printf 'line 2: has 4,000 characters or more; none of it is read\nas expected\nl
 } | answers "lines of any length" 1
 
 # Binary noise: an answer for every line that says anything, and an end.
-head -c 300000 target/bin/desk | desk >"$work/out" 2>&1
+head -c 300000 crates/desk/out/desk | desk >"$work/out" 2>&1
 status=$?
 if [ "$status" -eq 1 ] && tail -n 1 "$work/out" | grep -q '^checks 0, as expected 0, lines not understood [1-9][0-9]*$' &&
     ! LC_ALL=C grep -q '[^ -~]' "$work/out"; then

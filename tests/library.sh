@@ -1,10 +1,9 @@
 # The library as C and C++ hosts use it: ./library builds and installs it, programs link it, those of docs/LIBRARY.md as they stand there.
-# Each program is compiled by cc and by the kit's clang. On a processor other than x86-64 the C program is also run as an x86-64 one, against
-# the archive that the kit itself writes. Where a tool is missing, what needs it is skipped, or failed where CI is set.
+# Each program is compiled by cc and by the kit's clang. Where a tool is missing, what needs it is skipped, or failed where CI is set.
 . tests/common/host_tools.bash
 page=docs/LIBRARY.md
 least=242
-here=$(uname -m)-unknown-linux-gnu
+here=x86_64-unknown-linux-gnu
 
 # needs ARCHIVE: what the page says the archive needs of the C library
 needs() {
@@ -50,10 +49,10 @@ objects() {
 in_c() {
     needs "$archive"
     try 'first_day compiles with cc' cc "${c[@]}" -O1 -I "$built" hosts/c/*.c "$archive" -o "$work/first_day" &&
-        first_day "first_day on $(uname -m), by cc" "$work/first_day"
+        first_day "first_day, by cc" "$work/first_day"
     try "first_day compiles with the kit's clang" objects "$work/clang" "$here" &&
         try "first_day links with what the kit's clang made" cc "$work"/clang/*.o "$archive" -o "$work/first_day" &&
-        first_day "first_day on $(uname -m), by the kit's clang" "$work/first_day"
+        first_day "first_day, by the kit's clang" "$work/first_day"
 }
 
 # A program that uses nothing of the header gets no warning either, also where a compiler warns of every constant that is not used.
@@ -334,10 +333,9 @@ options() {
 
 # A second build, in another folder, from the same sources and the same proofs; and one by a kit that has not proved all.
 built_again() {
-    local copy="$work/another folder" part
-    mkdir -p "$copy/target"
-    cp -R crates crates.txt library VERSION hosts "$copy/"
-    for part in rlib stamp log; do [ ! -d target/$part ] || cp -pR target/$part "$copy/target/"; done
+    local copy="$work/another folder"
+    mkdir -p "$copy"
+    tar -c --exclude=crates/*/out --exclude=hosts/target crates crates.txt library VERSION hosts | tar -x -C "$copy"
     # A shell leaves the tilde behind an = as it is.
     try './library builds in another folder' env HOME="$work" "$copy/library" '--prefix=~/home' &&
         try './library --prefix=~/.. installs in the home folder' cmp "$copy/$archive" "$work/home/lib/libthawribbon.a" &&
@@ -346,23 +344,10 @@ built_again() {
     printf '#!/bin/sh\necho "logic=open functions=17"\n' >"$work/fake/rt"
     chmod +x "$work/fake/rt"
     ends './library wants a verdict that all is proved' 1 'does not say that all is proved' \
-        env PATH="$work/fake:$PATH" RATTLE_HOME="${kit%/on/*}" "$copy/library"
-}
-
-on_x86_64() {
-    local target=x86_64-unknown-linux-gnu
-    try 'rt staticlib thawribbon' rt staticlib thawribbon &&
-        try 'rt staticlib tandem' rt staticlib tandem &&
-        try 'rt staticlib backplane' rt staticlib backplane &&
-        try 'rt staticlib tester' rt staticlib tester &&
-        try 'rt staticlib offload' rt staticlib offload &&
-        try 'rt staticlib workshop' rt staticlib workshop &&
-        needs target/staticlib/libthawribbon.a &&
-        try 'first_day compiles for x86-64' objects "$work/x86-64" $target &&
-        try 'first_day links for x86-64' "$kit/bin/rattle-link" --target $target --toolchain "$tools" -o "$work/first_day.x86-64" \
-            "$work"/x86-64/*.o target/staticlib/lib{thawribbon,tandem,backplane,tester,offload,workshop}.a &&
-        first_day 'first_day on x86-64' "$tools/bin/qemu-x86_64" "$tools/lib/ld-linux-x86-64.so.2" --library-path "$tools/lib" \
-            "$work/first_day.x86-64"
+        env PATH="$work/fake:$PATH" "$copy/library"
+    printf '#!/bin/sh\necho aarch64\n' >"$work/fake/uname"
+    chmod +x "$work/fake/uname"
+    ends './library says that the kit compiles for x86-64 alone' 2 'compiles for x86_64 and no other processor' env PATH="$work/fake:$PATH" "$copy/library"
 }
 
 options
@@ -387,5 +372,4 @@ page_notices
 header_example
 header_and_rules
 installed
-[ "$(uname -m)" = x86_64 ] || on_x86_64
 exit 0

@@ -81,14 +81,12 @@ all_run() {
 
 # is_built: there is an archive that is newer than what it is made from
 is_built() {
-    [ -f "$archive" ] && [ -z "$(find crates library VERSION hosts/native-clang hosts/static.sh hosts/include -type f -newer "$archive" | head -n 1)" ]
+    [ -f "$archive" ] && [ -z "$(find crates crates.txt library VERSION hosts/static.sh hosts/include -name out -prune -o -type f -newer "$archive" -print | head -n 1)" ]
 }
 
 # The kit's own clang is the second compiler, so that there always is one. The kit has no C headers: the first compiler is asked where its
 # own are.
-kit=$(readlink -f "$(command -v rt)")
-kit=${RATTLE_HOME:-$(dirname "$(dirname "$kit")")}/on/$(uname -m)
-tools=$kit/toolchain
+tools=$(dirname "$(dirname "$(readlink -f "$(command -v rt)")")")/toolchain
 
 # kit_clang LANGUAGE TARGET WORD..: the kit's clang, with the headers that cc has for c, and c++ for c++
 kit_clang() {
