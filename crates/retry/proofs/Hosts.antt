@@ -62,8 +62,9 @@ again : (a : Parts) (new : List ℕ) (d : Board) (first : Asked a new d) (second
 again a new d first second size =
     ap₂ (λ (x : Board) (n : ℕ). serve x (packet_of a new) n) (held_is a new d first) size ∙ twice d (packet_of a new) (length first.reply)
 
-pub asked_again : AskedAgain
-asked_again a new d first second size =
+same_again : (a : Parts) (new : List ℕ) (d : Board) (first : Asked a new d) (second : Asked a new (held first)) → length second.reply ≡ length first.reply
+    → SameAgain a new d first second
+same_again a new d first second size =
     let e = again a new d first second size in
     let same : take second.served.length second.replied ≡ take first.served.length first.replied =
     replied_is a new (held first) second ∙ ap (λ (o : Outcome). o.written) e ∙ sym (replied_is a new d first) in
@@ -74,8 +75,11 @@ asked_again a new d first second size =
       left = held_is a new (held first) second ∙ ap (λ (o : Outcome). o.after) e ∙ sym (held_is a new d first);
     }
 
+pub asked_again : AskedAgain
+asked_again = same_again
+
 pub second_means_landed : SecondMeansLanded
 second_means_landed a new d well first second size c says =
-    let s = asked_again a new d first second size in
+    let s = same_again a new d first second size in
     let m = (successful_means_landed a new d well first).says c (sym s.heard ∙ says) in
     (m.0, m.1, subst (λ (x : Board). c.completer ≡ completer_of x) (sym s.left) m.2, subst (λ (x : Board). Means d x a new c.said) (sym s.left) m.3)

@@ -224,7 +224,7 @@ turned s =
       target = sym s.target;
       bus = sym s.bus;
       device = sym s.device;
-      function = sym s.function;
+      function = cc;
       offset = sym s.offset;
       «data» = sym s.«data»;
     }
