@@ -10,7 +10,7 @@ checked=(--config profile.dev.opt-level=1)
 # The tests that there are, neither more nor fewer. The build with debug assertions has two more, which see that it has them.
 release_tests='lib 276, main 2, wrong_subjects 944'
 checked_tests='lib 278, main 2, wrong_subjects 944'
-least=1000000
+most=6000000
 few=200000
 archive=target/library/libthawribbon.a
 page=docs/SECOND.md
@@ -82,7 +82,7 @@ seed=(${THAWRIBBON_SEED:+--seed "$THAWRIBBON_SEED"})
 build=("${checked[@]}")
 compared 'with debug assertions and overflow checks' "$few" --cases "$few" "${seed[@]}"
 build=("${release[@]}")
-if compared 'random packets, spaces, ports, requests, completions, addresses, layouts and boards of two functions' "$least" "${seed[@]}"; then
+if compared 'random packets, spaces, ports, requests, completions, addresses, layouts and boards of two functions' "$most" --cases "$most" "${seed[@]}"; then
     if [ -n "$classes" ] && grep -q -x "$classes" "$work/out"; then
         echo "ok second, $classes, as $page says"
     else

@@ -71,7 +71,7 @@ pub behind_four : Answers (of 4 ∷ of 3836 ∷ []) 0 × Answers (of 4 ∷ of 38
 unfolding are_bad is_bad
 behind_four = (fits (of 4 ∷ of 3836 ∷ []) refl (lit≤ tt), exceeds (of 4 ∷ of 3837 ∷ []) refl (lit< tt))
 
--- 4 stays 4, and 5 to 8 round to the same: behind each of these there are as many bytes (for any structures: proofs/Packing: same-rounded)
+-- 4 stays 4, and 5 to 8 round to the same: behind each of these there are as many bytes (for any structures: proofs/Packing: same_rounded)
 pub rounds : (rounded_up 4 ≡ 4) × (rounded_up 5 ≡ 8) × (rounded_up 6 ≡ 8) × (rounded_up 7 ≡ 8) × (rounded_up 8 ≡ 8)
 rounds = (refl, refl, refl, refl, refl)
 

@@ -124,9 +124,9 @@ module _ {structures : List (List ℕ)} {offsets s after : List ℕ} (wide : Six
   pub begins : word after 0x100 ≡ 0 → ⊥
   begins z =
       let gave = given structures laid.0 in
-      let first-there = laid.1.first in
+      let first_there = laid.1.first in
       let id = (fields wide laid 0 (omega (arith, laid.1.each, gave.some))).id in
-      (gave.sound 0 gave.some).named (sym id ∙ ap (λ (n : ℕ). bits 15 0 n) (ap (word after) first-there ∙ z))
+      (gave.sound 0 gave.some).named (sym id ∙ ap (λ (n : ℕ). bits 15 0 n) (ap (word after) first_there ∙ z))
 
   pub laid_chain : HasChain (describe Extended) after offsets
   laid_chain =

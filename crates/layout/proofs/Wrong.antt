@@ -2,8 +2,8 @@
 -- are not bad. Of checkers: an overlap tested by the starts of neighbours only, or not at all, so that offsets may be equal; the end of the last one not looked at; offsets beyond the
 -- structures; and one that turns an acceptable proposal away, for a gap, for neighbours that touch, or for an end at 1000h. Of planners: one that does not round, one that gives 14 where there
 -- is a layout, and one that proposes where there is none. Of writers: the last pointer left as it was, headers written before the checker was asked, and other bytes cleared.
--- Two that are no faults by themselves: a planner that rounds the last length too gives the right answers (proofs/Packing: last-rounded-too), and so does a checker that lets
--- offsets be equal and looks for overlaps, since equal offsets overlap (equal-overlap). Assumes nothing.
+-- Two that are no faults by themselves: a planner that rounds the last length too gives the right answers (proofs/Packing: last_rounded_too), and so does a checker that lets
+-- offsets be equal and looks for overlaps, since equal offsets overlap (equal_overlap). Assumes nothing.
 use Prim.Native.Nat.{ℕ, zero, suc, ◌+◌, ◌%◌, ◌≤◌, ◌<◌}
 use mathlib.Core.Bool.{false}
 use mathlib.Core.List.{List, [], ◌∷◌}

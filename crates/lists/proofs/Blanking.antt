@@ -87,16 +87,16 @@ module _ (s : List ℕ) (at : ℕ) (aligned : at % 4 ≡ 0) (below : at < 4096) 
 
   -- "keeping its pointer", and that of every other word
   kept : (o i : ℕ) → o % 4 ≡ 0 → 2 ≤ i → i < 4 → byte (blanked_at s at) (o + i) ≡ byte s (o + i)
-  kept o i word-there low high = go (ltb o at) refl
+  kept o i word_there low high = go (ltb o at) refl
     where
       go : (less : Bool) → ltb o at ≡ less → byte (blanked_at s at) (o + i) ≡ byte s (o + i)
       go true e = put_before s at (0x00 ∷ 0x00 ∷ []) inside (o + i) (omega (arith, ltb-true o at e))
       go false e = put_after s at (0x00 ∷ 0x00 ∷ []) inside (o + i) (omega (arith, ltb-false o at e))
 
   pointer_kept : Bytes s → (o : ℕ) → o % 4 ≡ 0 → bits 31 20 (word s o) ≡ bits 31 20 (word (blanked_at s at) o)
-  pointer_kept b o word-there =
+  pointer_kept b o word_there =
       let small : (i : ℕ) → byte (blanked_at s at) i < 256 = λ i. omega (arith, lowers i, b i) in
-      rw (kept o 2 word-there (lit≤ tt) (lit≤ tt), kept o 3 word-there (lit≤ tt) (lit≤ tt))
+      rw (kept o 2 word_there (lit≤ tt) (lit≤ tt), kept o 3 word_there (lit≤ tt) (lit≤ tt))
       (pointer_of (byte s o) (byte s (o + 1)) (byte s (o + 2)) (byte s (o + 3)) (byte (blanked_at s at) o) (byte (blanked_at s at) (o + 1))
       (b o) (b (o + 1)) (small o) (small (o + 1)))
 

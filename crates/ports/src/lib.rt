@@ -2,7 +2,7 @@
 // A switch's ports: which of a list's ports has a bus, and whether the list is a good one at all. Promised for every list and bus:
 // specs/Choice.antt, over specs/Ports.antt in the words of the first change request of document 02.
 // `choose` is lent the list, as a slice of ports. Where the ports stand in something else, `begin`, a `note` for each and `conclude` make the
-// same choice of them one by one, on plain numbers (proofs/Noted.antt: noted-is-choice); `choose` itself goes that way.
+// same choice of them one by one, on plain numbers (proofs/Noted.antt: noted_is_choice); `choose` itself goes that way.
 
 mod sets; // sets.rt: sets of the 256 buses
 mod choosing; // choosing.rt: the walk over the lent list

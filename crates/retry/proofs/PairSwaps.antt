@@ -127,8 +127,8 @@ module _ (pair : Pair) (p q : List ℕ) (m n : ℕ) (same : SameWrite p q) (both
   unfolding seen
   pair_joins r k enables fits =
       let w = board_joins (board role pair) p q m n same at_board r k enables fits in
-      let own-r = also_for pair.edition _ p r enables.same.target enables.same.function fits.0 whose.own in
-      let three = first_serves role pair whose.well r p k m own-r whose.own in
+      let own_r = also_for pair.edition _ p r enables.same.target enables.same.function fits.0 whose.own in
+      let three = first_serves role pair whose.well r p k m own_r whose.own in
       record {
         left =
             ap (λ (o : PairOutcome). o.after) three ∙ ap (λ (b : Board). with_side role pair (side_of b)) w.left ∙ ap (λ (o : PairOutcome). o.after) (sym two);

@@ -149,14 +149,14 @@ module _ (ports : List Port) (boards : Boards) (p q : List ℕ) (m n : Sizes) (s
   -- ---- one with both sets of enables
 
   -- a write with the same parts and no fault goes the same way
-  module _ (r : List ℕ) (size : ℕ) (same-r : SameWrite p r) (room : 20 ≤ size) (faultless : packet_number r ≡ 0) where
+  module _ (r : List ℕ) (size : ℕ) (same_r : SameWrite p r) (room : 20 ≤ size) (faultless : packet_number r ≡ 0) where
     bus_r : bus_of p ≡ bus_of r
     unfolding request_of
-    bus_r = same-r.bus
+    bus_r = same_r.bus
 
     target_r : target_in p ≡ target_in r
     unfolding request_of
-    target_r = same-r.target
+    target_r = same_r.target
 
     may_r : MayLeave ports r size place
     unfolding place

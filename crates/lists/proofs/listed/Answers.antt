@@ -8,11 +8,11 @@ use Rattle.answers.specs.declared.Answer.TheVariants.{Done}
 use Rattle.lists.specs.Walks.{Lists}
 use Rattle.lists.proofs.listed.Goals as goal
 
-front-listed : (log : List ℕ) {room after : List ℕ} (count : ℕ) → count ≤ length log → after ≡ take count log ++ drop count room
+front_listed : (log : List ℕ) {room after : List ℕ} (count : ℕ) → count ≤ length log → after ≡ take count log ++ drop count room
     → Lists (take count log) room (record { answer = Done; place = 0; count = count }) after
-front-listed log count h e =
+front_listed log count h e =
     record { given = refl; counted = sym (length-take-le count log h); whole = refl; listed = rw (length-take-le count log h) e }
 
 pub returns : goal.returns
 returns c =
-    front-listed c.args.log.now c.args.count c.requires.0 c.copy.ensures
+    front_listed c.args.log.now c.args.count c.requires.0 c.copy.ensures

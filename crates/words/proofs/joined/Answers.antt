@@ -7,8 +7,8 @@ use lib.Bits.{bit_or, or_shifted}
 use Rattle.words.proofs.joined.Goals as goal
 
 -- a number that leaves the lowest k bits free, and one that fits in them
-or-below : (k high low : ℕ) → high % 2 ^ k ≡ 0 → low < 2 ^ k → bit_or high low ≡ high + low
-or-below k high low free fits =
+or_below : (k high low : ℕ) → high % 2 ^ k ≡ 0 → low < 2 ^ k → bit_or high low ≡ high + low
+or_below k high low free fits =
     let whole : high / 2 ^ k * 2 ^ k ≡ high = sym (add-zero _) ∙ ap (λ (x : ℕ). high / 2 ^ k * 2 ^ k + x) (sym free) ∙ div-add-mod' high (2 ^ k) in
     ap (λ (x : ℕ). bit_or x low) (sym whole) ∙ or_shifted (high / 2 ^ k) k low fits ∙ ap (λ (x : ℕ). x + low) whole
 
@@ -20,9 +20,9 @@ join : (first second third fourth : ℕ) → first < 256 → second < 256 → th
     ≡ first + 256 * second + 65536 * third + 16777216 * fourth
 join first second third fourth a b c d =
     rw (inside (fourth * 16777216) (omega arith), inside (third * 65536) (omega arith), inside (second * 256) (omega arith))
-    (rw (or-below 24 (fourth * 16777216) (third * 65536) (omega arith) (omega arith))
-    (rw (or-below 16 (fourth * 16777216 + third * 65536) (second * 256) (omega arith) (omega arith))
-    (rw (or-below 8 (fourth * 16777216 + third * 65536 + second * 256) first (omega arith) (omega arith))
+    (rw (or_below 24 (fourth * 16777216) (third * 65536) (omega arith) (omega arith))
+    (rw (or_below 16 (fourth * 16777216 + third * 65536) (second * 256) (omega arith) (omega arith))
+    (rw (or_below 8 (fourth * 16777216 + third * 65536 + second * 256) first (omega arith) (omega arith))
     (omega arith))))
 
 pub returns : goal.returns

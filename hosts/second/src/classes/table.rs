@@ -370,7 +370,7 @@ pub const TABLE: [Line; 278] = [
         16,
         5,
     ),
-    numbered(Group::BelowPlaces, "walks: 11 told at every offset, each list", 2030, 1),
+    numbered(Group::BelowPlaces, "walks: 11 told at every offset, each list", 2030, 2),
     numbered(
         Group::BelowOffsets,
         "walks: 11 for a pointer to every offset below the floor",
@@ -994,7 +994,7 @@ pub const TABLE: [Line; 278] = [
     ),
     named(Group::PlanRooms, "plan_layout: rooms for 0 and for 2", PLAN_ROOMS, 2),
     numbered(Group::PlanCounts, "plan_layout: plans of 1 to 960 structures", 960, 2),
-    numbered(Group::NoLayoutCounts, "plan_layout: 14 for 2 to 960 structures", 959, 1),
+    numbered(Group::NoLayoutCounts, "plan_layout: 14 for 2 to 960 structures", 959, 2),
     numbered(
         Group::PlanSums,
         "plan_layout: sums around 3,840, numbers of structures",

@@ -1,5 +1,5 @@
 -- `board::out_of_range` meets its contract: the first cause that is there decides. Assumes nothing.
-use borrow.Author.Tests.{lt-ltb, le-ltb, not-true, not-false}
+use borrow.Author.Tests.{lt-ltb, le-ltb}
 use mathlib.Core.Bool.{or-false}
 use mathlib.Core.Path.{sym, ◌∙◌}
 use Rattle.board.proofs.describing.out_of_range.Goals as goal

@@ -9,8 +9,8 @@ use Rattle.lists.proofs.Marking.{word_at, marked_none, marked_more, found_again,
 use Rattle.lists.proofs.marks.first_again.Goals as goal
 
 -- the word at hand has a mark of its own
-has-mark : (log : List ℕ) (index : ℕ) → Words log → index < length log → word_at log index < 1024
-has-mark log index words h = omega (arith, words.inside index h)
+has_mark : (log : List ℕ) (index : ℕ) → Words log → index < length log → word_at log index < 1024
+has_mark log index words h = omega (arith, words.inside index h)
 
 pub loop-index-init : goal.loop-index-init
 loop-index-init c = (marked_none c.args.log.now, omega arith)
@@ -19,7 +19,7 @@ pub overflow_cast-number : goal.overflow_cast-number
 overflow_cast-number c = omega (arith, c.type_inv.log c.loop-index.index)
 
 pub bounds-marks-number : goal.bounds-marks-number
-bounds-marks-number c = has-mark _ _ c.requires c.loop-index-test.true
+bounds-marks-number c = has_mark _ _ c.requires c.loop-index-test.true
 
 pub returns-then-marks-number : goal.returns-then-marks-number
 returns-then-marks-number c =
@@ -27,12 +27,12 @@ returns-then-marks-number c =
     found_again i.0 c.requires i.1 c.if-marks-number.true c.loop-index-test.true
 
 pub bounds-marks-number-in-loop-index : goal.bounds-marks-number-in-loop-index
-bounds-marks-number-in-loop-index c = has-mark _ _ c.requires c.loop-index-test.true
+bounds-marks-number-in-loop-index c = has_mark _ _ c.requires c.loop-index-test.true
 
 pub loop-index-preserved : goal.loop-index-preserved
 loop-index-preserved c =
     let i = c.loop-index.invariant in
-    (marked_more i.0 (has-mark _ _ c.requires c.loop-index-test.true) c.if-marks-number.false, omega arith)
+    (marked_more i.0 (has_mark _ _ c.requires c.loop-index-test.true) c.if-marks-number.false, omega arith)
 
 pub returns : goal.returns
 returns c =

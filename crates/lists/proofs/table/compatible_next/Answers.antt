@@ -8,9 +8,9 @@ use Rattle.lists.specs.Table.{compatible_next}
 use Rattle.lists.specs.Inner.{Raw}
 use Rattle.lists.proofs.table.compatible_next.Goals as goal
 
-byte-pointer : (s : List ℕ) (at : ℕ) → byte s (at + 1) < 256 → Raw (compatible_next s at) (byte s (at + 1))
+byte_pointer : (s : List ℕ) (at : ℕ) → byte s (at + 1) < 256 → Raw (compatible_next s at) (byte s (at + 1))
 unfolding compatible_next
-byte-pointer s at h = record { is = refl; small = omega arith }
+byte_pointer s at h = record { is = refl; small = omega arith }
 
 pub overflow_cast-result : goal.overflow_cast-result
 overflow_cast-result c = omega (arith, c.type_inv.space (c.args.offset + 1))
@@ -18,4 +18,4 @@ overflow_cast-result c = omega (arith, c.type_inv.space (c.args.offset + 1))
 pub returns : goal.returns
 returns c =
     let a = c.args in
-    byte-pointer a.space.now a.offset (omega (arith, c.type_inv.space (a.offset + 1)))
+    byte_pointer a.space.now a.offset (omega (arith, c.type_inv.space (a.offset + 1)))

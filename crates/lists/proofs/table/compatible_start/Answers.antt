@@ -13,12 +13,12 @@ use Rattle.lists.specs.Walks.{WholeSpace}
 use Rattle.lists.specs.Inner.{Raw}
 use Rattle.lists.proofs.table.compatible_start.Goals as goal
 
-bit-four : (n : ℕ) → bit_and (n / 16) 1 ≡ bit 4 n
-bit-four n = and_mask (n / 16) 1
+bit_four : (n : ℕ) → bit_and (n / 16) 1 ≡ bit 4 n
+bit_four n = and_mask (n / 16) 1
 
 empty : (s : List ℕ) → bit_and (byte s 0x06 / 16) 1 ≡ 0 → Raw (compatible_start s) 0
 unfolding compatible_start
-empty s h = record { is = rw (eq-eqb (bit 4 (byte s 0x06)) 0 (sym (bit-four (byte s 0x06)) ∙ h)); small = omega arith }
+empty s h = record { is = rw (eq-eqb (bit 4 (byte s 0x06)) 0 (sym (bit_four (byte s 0x06)) ∙ h)); small = omega arith }
 
 -- the low byte of the word that begins with it
 low_byte : (s : List ℕ) (n : ℕ) → WholeSpace s → n ≡ word_or_zero s 0x34 → byte s 0x34 < 256 → bit_and n 0xff ≡ byte s 0x34
@@ -29,7 +29,7 @@ starts : (s : List ℕ) (n : ℕ) → WholeSpace s → (bit_and (byte s 0x06 / 1
 unfolding compatible_start
 starts s n size h e k =
     record {
-      is = low_byte s n size e k ∙ rw (ne_eqb (bit 4 (byte s 0x06)) 0 (λ z. h (bit-four (byte s 0x06) ∙ z)));
+      is = low_byte s n size e k ∙ rw (ne_eqb (bit 4 (byte s 0x06)) 0 (λ z. h (bit_four (byte s 0x06) ∙ z)));
       small = omega (arith, mask_lt n 8);
     }
 

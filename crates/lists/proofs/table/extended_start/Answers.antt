@@ -12,14 +12,14 @@ use Rattle.lists.proofs.Pointers.{extended_none, extended_some}
 use Rattle.lists.proofs.table.extended_start.Goals as goal
 
 -- the word that the code tests
-word-there : (s : List ℕ) (n : ℕ) → WholeSpace s → n ≡ word_or_zero s 0x100 → n ≡ word s 0x100
-word-there s n size e = e ∙ word_inside s 0x100 (omega arith)
+word_there : (s : List ℕ) (n : ℕ) → WholeSpace s → n ≡ word_or_zero s 0x100 → n ≡ word s 0x100
+word_there s n size e = e ∙ word_inside s 0x100 (omega arith)
 
 empty : (s : List ℕ) (n : ℕ) → WholeSpace s → n ≡ word_or_zero s 0x100 → n ≡ 0 → Raw (extended_start s) 0
-empty s n size e h = record { is = sym (extended_none s (sym (word-there s n size e) ∙ h)); small = omega arith }
+empty s n size e h = record { is = sym (extended_none s (sym (word_there s n size e) ∙ h)); small = omega arith }
 
 starts : (s : List ℕ) (n : ℕ) → WholeSpace s → n ≡ word_or_zero s 0x100 → (n ≡ 0 → ⊥) → Raw (extended_start s) 0x100
-starts s n size e h = record { is = sym (extended_some s (λ z. h (word-there s n size e ∙ z))); small = omega arith }
+starts s n size e h = record { is = sym (extended_some s (λ z. h (word_there s n size e ∙ z))); small = omega arith }
 
 pub returns-then-word-eq0 : goal.returns-then-word-eq0
 returns-then-word-eq0 c =
