@@ -133,7 +133,7 @@ head -c 4096 /dev/zero | listing >"$work/out"
 same 'listing of zeros' "$work/empty" $?
 
 # Standard output that takes nothing.
-listing <samples/full.space | true
+listing <samples/full.space 2>"$work/errors" | true
 ended 'listing into a closed pipe' "${PIPESTATUS[0]}"
 said="listing: standard output does not take it"
 listing <samples/full.space >/dev/full 2>"$work/errors"
