@@ -1,5 +1,5 @@
 -- Document 01, "Answer numbers", and document 02, 3/13 and 8/13 to 10/13: the number that each answer stands for. Assumes nothing.
-use Rattle.std.specs.Prelude.{ℕ}
+use Rattle.std.specs.Prelude.{ℕ, Result, Ok, Err}
 use Rattle.answers.specs.declared.Refusal.{Refusal}
 use Rattle.answers.specs.declared.Refusal.TheVariants.{BadDescription, NoRoom, ShortPacket, UnknownType, WrongLength, WrongField, OtherStructure, WrongExtent, NotOneFunction, BelowFloor, ComesBack, WrongGroups, NoLayout, NotAccepted}
 use Rattle.answers.specs.declared.Answer.{Answer}
@@ -32,3 +32,8 @@ number_of NotAccepted = 18
 abbrev pub answer_of : Answer → ℕ
 answer_of Done = 0
 answer_of (Refused refusal) = number_of refusal
+
+-- the same of a result, whatever it holds
+abbrev pub answered : {A : Type 0} → Result A Refusal → ℕ
+answered (Ok value) = 0
+answered (Err refusal) = number_of refusal
