@@ -9,14 +9,12 @@ pub(crate) fn first_again(log: &[u16]) -> usize
     ensures { FirstAgain log.now result }
 {
     let mut marks = [false; WORDS];
-    let mut index = 0;
-    while index < log.len() {
-        let number = (log[index] >> 2) as usize;
+    for (index, at) in log.iter().enumerate() {
+        let number = (*at >> 2) as usize;
         if marks[number] {
             return index;
         }
         marks[number] = true;
-        index += 1;
     }
-    index
+    log.len()
 }

@@ -2,6 +2,7 @@
 -- others are marked. Assumes nothing.
 use Prim.Native.Nat.{ℕ, ◌<◌}
 use mathlib.Core.List.{List}
+use mathlib.Core.Path.{◌≡◌}
 use native.Mathlib.Omega.{arith}
 use lib.ListN.{length}
 use Rattle.lists.specs.Inner.{Words}
@@ -13,7 +14,7 @@ has_mark : (log : List ℕ) (index : ℕ) → Words log → index < length log �
 has_mark log index words h = omega (arith, words.inside index h)
 
 pub loop-index-init : goal.loop-index-init
-loop-index-init c = (marked_none c.args.log.now, omega arith)
+loop-index-init c = marked_none c.args.log.now
 
 pub overflow_cast-number : goal.overflow_cast-number
 overflow_cast-number c = omega (arith, c.type_inv.log c.loop-index.index)
@@ -24,7 +25,7 @@ bounds-marks-number c = has_mark _ _ c.requires c.loop-index-test.true
 pub returns-then-marks-number : goal.returns-then-marks-number
 returns-then-marks-number c =
     let i = c.loop-index.invariant in
-    found_again i.0 c.requires i.1 c.if-marks-number.true c.loop-index-test.true
+    found_again i c.requires (omega arith) c.if-marks-number.true c.loop-index-test.true
 
 pub bounds-marks-number-in-loop-index : goal.bounds-marks-number-in-loop-index
 bounds-marks-number-in-loop-index c = has_mark _ _ c.requires c.loop-index-test.true
@@ -32,9 +33,9 @@ bounds-marks-number-in-loop-index c = has_mark _ _ c.requires c.loop-index-test.
 pub loop-index-preserved : goal.loop-index-preserved
 loop-index-preserved c =
     let i = c.loop-index.invariant in
-    (marked_more i.0 (has_mark _ _ c.requires c.loop-index-test.true) c.if-marks-number.false, omega arith)
+    marked_more i (has_mark _ _ c.requires c.loop-index-test.true) c.if-marks-number.false
 
 pub returns : goal.returns
 returns c =
-    let i = c.loop-index.invariant in
-    none_again i.0 c.requires i.1 (omega arith)
+    let e : c.loop-index.index ≡ length c.args.log.now = omega arith in
+    rw e at (none_again c.loop-index.invariant c.requires (omega arith) e)

@@ -1,4 +1,4 @@
--- `lists::table::compatible_next` meets its contract: the byte behind the ID lies in the space. Assumes nothing.
+-- `lists::table::Compatible::next` meets its contract: the byte behind the ID lies in the space. Assumes nothing.
 use Prim.Native.Nat.{ℕ, ◌+◌, ◌<◌}
 use mathlib.Core.List.{List}
 use mathlib.Core.Path.{refl}
@@ -6,7 +6,7 @@ use native.Mathlib.Omega.{arith}
 use Rattle.words.specs.Bytes.{byte}
 use Rattle.lists.specs.Table.{compatible_next}
 use Rattle.lists.specs.Inner.{Raw}
-use Rattle.lists.proofs.table.compatible_next.Goals as goal
+use Rattle.lists.proofs.table.CompatibleList.next.Goals as goal
 
 byte_pointer : (s : List ℕ) (at : ℕ) → byte s (at + 1) < 256 → Raw (compatible_next s at) (byte s (at + 1))
 unfolding compatible_next
