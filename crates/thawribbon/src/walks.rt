@@ -4,16 +4,22 @@ ghost use Rattle.lists.specs.declared.Kind.TheVariants.{Compatible, Extended, Tr
 ghost use Rattle.thawribbon.specs.Walks.{told_walk, HostWalks};
 
 use super::HostWalked;
-use lists::{Kind, Walked};
+use lists::{Kind, Refused};
 
-fn told_walk(walked: Walked) -> HostWalked
+fn told_walk(walked: Result<usize, Refused>) -> HostWalked
     ensures { result ≡ told_walk walked }
 {
-    let answer = walked.answer;
-    HostWalked {
-        count: walked.count,
-        number: answer.number(),
-        place: walked.place,
+    match walked {
+        Ok(count) => HostWalked {
+            count,
+            number: 0,
+            place: 0,
+        },
+        Err(refused) => HostWalked {
+            count: 0,
+            number: refused.refusal.number(),
+            place: refused.place,
+        },
     }
 }
 
