@@ -3,10 +3,9 @@ ghost use Rattle.std.specs.Prelude.{◌≡◌, ◌⊎◌, ◌≤◌, ◌<◌};
 ghost use Rattle.lists.specs.Table.{describe};
 ghost use Rattle.lists.specs.Inner.{offset_of, Leads, Underway, Chases};
 
-use crate::table;
-use crate::table::List;
+use crate::table::{self, List};
 
-// Where a pointer leads: "the next offset, the end, or a fault". No Option of a Result is as plain as the three.
+// Where a pointer leads: "the next offset, the end, or a fault". A Result of an Option is no plainer than the three.
 #[derive(Clone, Copy)]
 pub(crate) enum Step {
     Next(usize),

@@ -2,12 +2,12 @@
 ghost use Rattle.std.specs.Prelude.{◌≡◌, ◌*◌, ◌≤◌, ◌<◌};
 ghost use Rattle.lists.specs.declared.Kind.{Kind};
 ghost use Rattle.lists.specs.declared.Kind.TheVariants as kinds;
-ghost use Rattle.lists.specs.Table.{describe, compatible_start, extended_start, trusted_start, extended_next};
+ghost use Rattle.lists.specs.Table.{describe, extended_next};
 ghost use Rattle.lists.specs.Chain.{dropped, first, follows};
 ghost use Rattle.lists.specs.Walks.{WholeSpace};
 ghost use Rattle.lists.specs.Inner.{offset_of, Raw, Counted, Whole};
 
-// A row of the table. What is generic in it is compiled for each of the three.
+// A row of the table. What is generic in it is compiled for each of the three. The floor and the maximum are functions: a constant has no contract.
 pub(crate) trait List {
     ghost kind: { Kind };
 
@@ -39,6 +39,7 @@ pub(crate) trait List {
 }
 
 // The position of the list's first header, or 0.
+#[tactic(auto, using(crate::proofs::Pointers::counted_from), unfolding(crate::specs::Chain::first))]
 pub(crate) fn first<L: List>(space: &[u8]) -> usize
     requires { WholeSpace space.now }
     ensures { Counted L.kind (first (describe L.kind) space.now) result }
@@ -47,6 +48,7 @@ pub(crate) fn first<L: List>(space: &[u8]) -> usize
 }
 
 // The position that the header at a position points to, or 0.
+#[tactic(auto, using(crate::proofs::Pointers::counted_from), unfolding(crate::specs::Chain::follows))]
 pub(crate) fn follow<L: List>(space: &[u8], position: usize) -> usize
     requires { WholeSpace space.now × (offset_of L.kind position ≤ 0xffc) }
     ensures { Counted L.kind (follows (describe L.kind) space.now (offset_of L.kind position)) result }
@@ -87,23 +89,16 @@ impl List for Compatible {
     }
 
     fn start(space: &[u8]) -> u32 {
-        compatible_start(space)
+        if (space[STATUS] >> CAPABILITIES) & 1 == 0 {
+            return 0;
+        }
+        // Taken out of its word: from a byte, the compiler would carry a byte through the chase, and widen it at every step.
+        words::word(space, COMPATIBLE_START) & 0xff
     }
 
     fn next(space: &[u8], offset: usize) -> usize {
         space[offset + 1] as usize
     }
-}
-
-fn compatible_start(space: &[u8]) -> u32
-    requires { WholeSpace space.now }
-    ensures { Raw (compatible_start space.now) result }
-{
-    if (space[STATUS] >> CAPABILITIES) & 1 == 0 {
-        return 0;
-    }
-    // Taken out of its word: from a byte, the compiler would carry a byte through the chase, and widen it at every step.
-    words::word(space, COMPATIBLE_START) & 0xff
 }
 
 // The extended list: its first header has a fixed offset, and a word of 0 there says that there is none.
@@ -135,22 +130,15 @@ impl List for Extended {
     }
 
     fn start(space: &[u8]) -> u32 {
-        extended_start(space)
+        if words::word(space, EXTENDED_START) == 0 {
+            return 0;
+        }
+        EXTENDED_START as u32
     }
 
     fn next(space: &[u8], position: usize) -> usize {
         extended_next(space, position)
     }
-}
-
-fn extended_start(space: &[u8]) -> u32
-    requires { WholeSpace space.now }
-    ensures { Raw (extended_start space.now) result }
-{
-    if words::word(space, EXTENDED_START) == 0 {
-        return 0;
-    }
-    EXTENDED_START as u32
 }
 
 // The trusted list: a word points to its first header.
@@ -182,19 +170,12 @@ impl List for Trusted {
     }
 
     fn start(space: &[u8]) -> u32 {
-        trusted_start(space)
+        words::word(space, TRUSTED_START) & 0xfff
     }
 
     fn next(space: &[u8], position: usize) -> usize {
         extended_next(space, position)
     }
-}
-
-fn trusted_start(space: &[u8]) -> u32
-    requires { WholeSpace space.now }
-    ensures { Raw (trusted_start space.now) result }
-{
-    words::word(space, TRUSTED_START) & 0xfff
 }
 
 // The pointer in the header at a position of the extended or the trusted list.
@@ -205,7 +186,7 @@ fn extended_next(space: &[u8], position: usize) -> usize
     (word_of(space, position) >> 20) as usize
 }
 
-// The word at a position that counts words.
+// The word at a position that counts words. `words::word` would test at every header whether it lies in the space.
 fn word_of(space: &[u8], position: usize) -> u32
     requires { WholeSpace space.now × (4 * position ≤ 0xffc) }
     ensures { Whole space.now (4 * position) result }

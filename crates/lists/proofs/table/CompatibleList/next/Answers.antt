@@ -1,4 +1,4 @@
--- `lists::table::Compatible::next` meets its contract: the byte behind the ID lies in the space. Assumes nothing.
+-- the pointer in a header of `lists::table::Compatible` meets its contract: the byte behind the ID lies in the space. Assumes nothing.
 use Prim.Native.Nat.{ℕ, ◌+◌, ◌<◌}
 use mathlib.Core.List.{List}
 use mathlib.Core.Path.{refl}
