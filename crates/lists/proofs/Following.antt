@@ -3,7 +3,7 @@ use Prim.Native.Nat.{ℕ, ◌+◌, ◌≤◌, ◌<◌}
 use mathlib.Core.List.{List}
 use mathlib.Core.Logic.{◌⊎◌, ⊎_elim}
 use mathlib.Core.Logic.◌⊎◌.{inl, inr}
-use mathlib.Core.Path.{◌≡◌, refl, sym, ap, subst, ◌∙◌}
+use mathlib.Core.Path.{◌≡◌, sym, ap, subst, ◌∙◌}
 use native.Mathlib.Numerals.{add-one}
 use native.Mathlib.Omega.{arith}
 use borrow.Author.Count.{below_more}
@@ -13,18 +13,11 @@ use Rattle.lists.specs.Table.{describe}
 use Rattle.lists.specs.Chain.{HasChain, first, follows}
 use Rattle.lists.specs.Breaks.{met}
 use Rattle.lists.specs.declared.Kind.{Kind}
-use Rattle.lists.specs.declared.Kind.TheVariants.{Compatible, Extended, Trusted}
 use Rattle.lists.specs.declared.chase.Step.TheVariants.{Next, End}
 use Rattle.std.specs.Prelude.{Ok}
 use Rattle.lists.specs.Walks.{WholeSpace}
 use Rattle.lists.specs.Inner.{offset_of, Underway, Waits, Leads, Chases, Counted}
 use Rattle.lists.proofs.Course.{leading_none, leading_more, chain_of, logged_trail}
-
--- position 0 is that of the end
-offset_zero : (kind : Kind) → offset_of kind 0 ≡ 0
-offset_zero Compatible = refl
-offset_zero Extended = refl
-offset_zero Trusted = refl
 
 -- ---- the start
 

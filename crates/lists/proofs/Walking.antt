@@ -1,13 +1,13 @@
 -- Laws of the walk's answers: what each way out of it promises, from what the chase told. Assumes nothing.
 use Prim.Native.Nat.{ℕ, zero, suc, ◌≤◌, ◌<◌}
-use mathlib.Core.List.{List, ◌++◌}
+use mathlib.Core.List.{List}
 use mathlib.Core.Logic.{⊎_elim}
 use mathlib.Core.Logic.◌⊎◌.{inr}
 use mathlib.Core.Path.{◌≡◌, refl, sym, ap, subst, ◌∙◌}
 use native.Mathlib.Nat.{eq-or-lt_of_le}
 use native.Mathlib.Omega.{arith}
 use lib.Dec.{lit≤}
-use lib.ListN.{length, take, get_or, get_or-append}
+use lib.ListN.{length, take, get_or}
 use lib.Seq.{length-take-le, get_or-take}
 use Rattle.answers.specs.Numbers.{number_of}
 use Rattle.std.specs.Prelude.{Err}
@@ -53,27 +53,6 @@ module _ {list : ListRule} {s log : List ℕ} {count : ℕ} (f : Followed list s
   unfolding holder
   last_holder zero h = refl
   last_holder (suc k) h = logged_in k h
-
--- a chase goes on in a longer log that begins with its own
-pub underway_longer : {kind : Kind} {s short log : List ℕ} {pointer : ℕ} (count most : ℕ) (rest : List ℕ)
-    → Underway kind s short (length short) pointer → length short ≡ count → log ≡ take count short ++ rest → count ≤ most
-    → most ≤ length log → Underway kind s (take most log) count pointer
-underway_longer {kind} {s} {short} {log} {pointer} count most rest u size e h k =
-    let f = subst (λ (n : ℕ). Followed (describe kind) s short n) size u.followed in
-    let front : length (take count short) ≡ count = length-take-le count short f.fits in
-    record {
-      space = u.space;
-      followed =
-          record {
-            fits = omega (arith, length-take-le most log k);
-            leading = f.leading;
-            logged = λ i small.
-                get_or-take most log i 0 (omega arith) ∙ ap (λ (l : List ℕ). get_or l i 0) e
-                ∙ get_or-append (take count short) rest 0 i (omega arith) ∙ logged_in f i small;
-          };
-      here = u.here ∙ ap (met (describe kind) s) size;
-      inside = u.inside;
-    }
 
 -- ---- what broke
 

@@ -50,6 +50,7 @@ fn moved_up(waiting: usize, last: usize, count: usize) -> usize
 // number, from which the next header is loaded without another step between, and in the compatible list the offset of the byte before its pointer. A list
 // that goes round comes by the position that waits, so that a short round is noticed early; a chain that ends pays two comparisons a header for it, and no
 // mark. No `for` over the log: a chain may end where it is full.
+#[tactic(auto, using(crate::proofs::Following::chase_ends))]
 pub(crate) fn chase<L: List>(
     space: &[u8],
     log: &mut [u16],

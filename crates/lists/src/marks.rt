@@ -4,6 +4,7 @@ ghost use Rattle.lists.specs.Inner.{Words, FirstAgain};
 const WORDS: usize = 1024;
 
 // The index in a log of the first offset that stands before it already, or the log's length where there is none.
+#[tactic(auto, using(crate::proofs::Marking::marked_more, crate::proofs::Marking::found_again, crate::proofs::Marking::none_again))]
 pub(crate) fn first_again(log: &[u16]) -> usize
     requires { Words log.now }
     ensures { FirstAgain log.now result }

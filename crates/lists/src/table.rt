@@ -96,6 +96,7 @@ impl List for Compatible {
         words::word(space, COMPATIBLE_START) & 0xff
     }
 
+    #[tactic(auto, unfolding(crate::specs::Table::compatible_next))]
     fn next(space: &[u8], offset: usize) -> usize {
         space[offset + 1] as usize
     }
@@ -179,6 +180,7 @@ impl List for Trusted {
 }
 
 // The pointer in the header at a position of the extended or the trusted list.
+#[tactic(auto, using(crate::proofs::Pointers::whole_pointer))]
 fn extended_next(space: &[u8], position: usize) -> usize
     requires { WholeSpace space.now × (4 * position ≤ 0xffc) }
     ensures { Raw (extended_next space.now (4 * position)) result }
