@@ -14,11 +14,10 @@ use Rattle.answers.specs.declared.Answer.{Answer}
 use Rattle.words.specs.Bytes.{byte}
 use Rattle.words.specs.Fields.{bits, word}
 use Rattle.lists.specs.declared.Kind.TheVariants.{Compatible, Extended}
-use Rattle.lists.specs.declared.Walked.{Walked}
 use Rattle.lists.specs.Table.{describe, compatible_start, compatible_next, extended_next}
 use Rattle.lists.specs.Chain.{Legal, Legal.ends, Legal.goes, HasChain, dropped, first, follows}
 use Rattle.lists.specs.Breaks.{met}
-use Rattle.lists.specs.Walks.{Roomy, Lists, Walks, Walks.misdescribed, Walks.roomless, Walks.broken, Walks.listed}
+use Rattle.lists.specs.Walks.{Roomy, Lists, Walks, Walks.misdescribed, Walks.roomless, Walks.broken, Walks.listed, Walked}
 use Rattle.lists.proofs.Breaking.{breaks_carried, breaks_unending}
 use Rattle.lists.proofs.FirstWord.{first_some}
 use Rattle.lists.proofs.Maxima.{met_within}

@@ -11,8 +11,7 @@ use Rattle.answers.specs.Numbers.{answer_of}
 use Rattle.answers.specs.declared.Answer.{Answer}
 use Rattle.words.specs.Fields.{word}
 use Rattle.lists.specs.declared.Kind.TheVariants.{Extended}
-use Rattle.lists.specs.declared.Walked.{Walked}
-use Rattle.lists.specs.Walks.{Roomy, Lists, Walks}
+use Rattle.lists.specs.Walks.{Roomy, Lists, Walks, Walked}
 use Rattle.layout.specs.Structures.{identity, version, structure_at, are_bad}
 use Rattle.layout.specs.Accepting.{offset_at, Acceptable, Checks, Checks.misdescribed, Checks.unaccepted, Checks.accepted}
 use Rattle.layout.specs.Proposing.{Plans, Plans.misdescribed, Plans.roomless, Plans.unplaced, Plans.proposed}

@@ -1,4 +1,4 @@
--- `lists::table::extended_start` meets its contract: by the whole word at 100h. Assumes nothing.
+-- the start of `lists::table::Extended` meets its contract: by the whole word at 100h. Assumes nothing.
 use Prim.Native.Nat.{ℕ}
 use mathlib.Core.List.{List}
 use mathlib.Core.Path.{◌≡◌, sym, ◌∙◌}
@@ -9,7 +9,7 @@ use Rattle.lists.specs.Table.{extended_start}
 use Rattle.lists.specs.Walks.{WholeSpace}
 use Rattle.lists.specs.Inner.{Raw}
 use Rattle.lists.proofs.Pointers.{extended_none, extended_some}
-use Rattle.lists.proofs.table.extended_start.Goals as goal
+use Rattle.lists.proofs.table.ExtendedList.start.Goals as goal
 
 -- the word that the code tests
 word_there : (s : List ℕ) (n : ℕ) → WholeSpace s → n ≡ word_or_zero s 0x100 → n ≡ word s 0x100

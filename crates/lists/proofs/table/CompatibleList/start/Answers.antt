@@ -1,4 +1,4 @@
--- `lists::table::compatible_start` meets its contract: by the bit that says whether there is a list. Assumes nothing.
+-- the start of `lists::table::Compatible` meets its contract: by the bit that says whether there is a list. Assumes nothing.
 use Prim.Native.Nat.{ℕ, ◌/◌, ◌<◌}
 use mathlib.Core.List.{List}
 use mathlib.Core.Path.{◌≡◌, sym, ◌∙◌}
@@ -11,7 +11,7 @@ use Rattle.words.proofs.Laws.{word_inside}
 use Rattle.lists.specs.Table.{compatible_start}
 use Rattle.lists.specs.Walks.{WholeSpace}
 use Rattle.lists.specs.Inner.{Raw}
-use Rattle.lists.proofs.table.compatible_start.Goals as goal
+use Rattle.lists.proofs.table.CompatibleList.start.Goals as goal
 
 bit_four : (n : ℕ) → bit_and (n / 16) 1 ≡ bit 4 n
 bit_four n = and_mask (n / 16) 1

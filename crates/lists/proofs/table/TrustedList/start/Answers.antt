@@ -1,4 +1,4 @@
--- `lists::table::trusted_start` meets its contract: the low twelve bits of the word. Assumes nothing.
+-- the start of `lists::table::Trusted` meets its contract: the low twelve bits of the word. Assumes nothing.
 use Prim.Native.Nat.{ℕ}
 use mathlib.Core.List.{List}
 use mathlib.Core.Path.{◌≡◌, ◌∙◌}
@@ -9,7 +9,7 @@ use Rattle.words.proofs.Laws.{word_inside}
 use Rattle.lists.specs.Table.{trusted_start}
 use Rattle.lists.specs.Walks.{WholeSpace}
 use Rattle.lists.specs.Inner.{Raw}
-use Rattle.lists.proofs.table.trusted_start.Goals as goal
+use Rattle.lists.proofs.table.TrustedList.start.Goals as goal
 
 starts : (s : List ℕ) (n : ℕ) → WholeSpace s → n ≡ word_or_zero s 0x004 → Raw (trusted_start s) (bit_and n 0xfff)
 unfolding trusted_start
