@@ -1,10 +1,9 @@
--- `layout::writing::header_of` meets its contract: the bytes by halves are those of the header. Assumes nothing.
+-- `layout::writing::header_of` meets its contract: the fields have no bit in common. Assumes nothing.
 use native.Mathlib.Omega.{arith}
-use Rattle.layout.proofs.Headers.{header_bytes}
+use Rattle.layout.proofs.Headers.{header_bits}
 use Rattle.layout.proofs.writing.header_of.Goals as goal
 
 pub returns : goal.returns
 returns c =
     let a = c.args in
-    rw (c.high_byte-2.ensures, c.low_byte-2.ensures, c.high_byte.ensures, c.low_byte.ensures, c.upper_half-upper.ensures)
-    (header_bytes a.structure a.next (omega (arith, c.high_byte.ensures)) c.requires.0 c.requires.1)
+    rw (c.to_le_bytes.ensures, c.from.ensures, c.from-2.ensures, c.from-3.ensures, header_bits a.structure.id a.structure.version a.next (omega arith) c.requires.0 c.requires.1)
