@@ -69,7 +69,7 @@ BelowAsWas =
 abbrev pub Laid : List Structure → List ℕ → List ℕ → List ℕ → Type 0
 Laid structures offsets s after = (are_bad structures ≡ false) × Acceptable structures offsets × (length s ≡ 4096) × Written structures offsets s after
 
-laid_by : {structures : List Structure} {offsets s : List ℕ} {r : Refusal} {after : List ℕ} → Writes structures offsets s r after → answered r ≡ 0
+laid_by : {structures : List Structure} {offsets s : List ℕ} {r : Result ⊤ Refusal} {after : List ℕ} → Writes structures offsets s r after → answered r ≡ 0
     → Laid structures offsets s after
 laid_by (misdescribed cause a) z = absurd (omega (arith, a.given))
 laid_by (unaccepted whole good n a) z = absurd (omega (arith, a.given))

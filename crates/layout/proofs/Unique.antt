@@ -4,17 +4,17 @@ use mathlib.Core.Bool.{Bool, true, false}
 use mathlib.Core.List.{List, [], ◌∷◌, ◌++◌}
 use mathlib.Core.Logic.{◌⊎◌, ⊎_elim}
 use mathlib.Core.Logic.◌⊎◌.{inl, inr}
-use mathlib.Core.Path.{◌≡◌, sym, ap, ◌∙◌}
+use mathlib.Core.Path.{◌≡◌, refl, sym, ap, ◌∙◌}
 use native.Mathlib.Omega.{arith}
 use borrow.Author.Tests.{ltb-true, ltb-false}
 use lib.Dec.{ltb}
 use lib.ListN.{length, drop}
 use lib.Seq.{ext_get_or}
 use Rattle.std.specs.Bool.{⊤}
-use Rattle.std.specs.Prelude.{Result}
+use Rattle.std.specs.Prelude.{Result, Ok, Err}
 use Rattle.answers.specs.Numbers.{answered}
 use Rattle.answers.specs.declared.Refusal.{Refusal}
-use Rattle.answers.proofs.Unique.{answer_tells}
+use Rattle.answers.proofs.Unique.{number_tells, number_positive}
 use Rattle.words.specs.Bytes.{byte, four}
 use Rattle.words.proofs.Laws.{four_at}
 use Rattle.layout.specs.declared.Structure.{Structure}
@@ -40,8 +40,14 @@ WriteUnique =
     → Writes structures offsets s q m → (r ≡ q) × (l ≡ m)
 
 -- two answers with the same number, and a number that two answers can't both have
-same : {r q : Refusal} {n : ℕ} → answered r ≡ n → answered q ≡ n → r ≡ q
-same {r} {q} e f = answer_tells r q (e ∙ sym f)
+answered_tells : (r q : Result ⊤ Refusal) → answered r ≡ answered q → r ≡ q
+answered_tells (Ok a) (Ok b) e = refl
+answered_tells (Ok a) (Err q) e = absurd (number_positive q (sym e))
+answered_tells (Err r) (Ok b) e = absurd (number_positive r e)
+answered_tells (Err r) (Err q) e = ap Err (number_tells r q e)
+
+same : {r q : Result ⊤ Refusal} {n : ℕ} → answered r ≡ n → answered q ≡ n → r ≡ q
+same {r} {q} e f = answered_tells r q (e ∙ sym f)
 
 pub unlike : {b : Bool} → b ≡ true → b ≡ false → ⊥
 unlike e f = let z : ◌≡◌ {A = Bool} true false = sym e ∙ f in let n : ◌≡◌ {A = ℕ} 0 1 = cc in omega arith
@@ -69,7 +75,7 @@ lowest_unique {a = a} {b = b} x y =
     let high = y.lowest a x.acceptable k (omega arith) in
     omega arith)
 
-refused_same : {n : ℕ} {lent l m : List ℕ} {r q : Refusal} → Refuses n lent r l → Refuses n lent q m → (r ≡ q) × (l ≡ m)
+refused_same : {n : ℕ} {lent l m : List ℕ} {r q : Result ⊤ Refusal} → Refuses n lent r l → Refuses n lent q m → (r ≡ q) × (l ≡ m)
 refused_same a b = (same a.given b.given, a.kept ∙ sym b.kept)
 
 pub plan_unique : PlanUnique

@@ -125,7 +125,7 @@ NoOtherByteChanged =
 
 -- ---- the theorems
 
-accepted_is : {structures : List Structure} {offsets : List ℕ} {r : Refusal} → Checks structures offsets r → answered r ≡ 0
+accepted_is : {structures : List Structure} {offsets : List ℕ} {r : Result ⊤ Refusal} → Checks structures offsets r → answered r ≡ 0
     → Acceptable structures offsets
 accepted_is {structures} {offsets} {r} c z = ((check_number structures offsets r c).zero.0 z).1
 
