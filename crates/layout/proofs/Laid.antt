@@ -12,7 +12,6 @@ use lib.Dec.{ltb}
 use lib.ListN.{length}
 use Rattle.std.specs.Bool.{⊤}
 use Rattle.std.specs.Prelude.{Ok, Err}
-use Rattle.answers.specs.Numbers.{answered}
 use Rattle.answers.specs.declared.Refusal.{Refusal}
 use Rattle.answers.proofs.Unique.{number_positive}
 use Rattle.words.specs.Bytes.{byte, four, put}

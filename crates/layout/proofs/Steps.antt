@@ -1,11 +1,11 @@
 -- Laws of the loops over structures and offsets: what is left to look at behind one more, and at the end. Assumes nothing.
 use Prim.Native.Nat.{ℕ, suc, ◌+◌, ◌≤◌, ◌<◌}
-use mathlib.Core.Bool.{true, false, ◌&&◌, ◌||◌, or-false, and-false}
+use mathlib.Core.Bool.{true, false, ◌&&◌, or-false, and-false}
 use mathlib.Core.List.{List, [], ◌∷◌, ◌++◌}
 use mathlib.Core.Logic.{◌⊎◌}
 use mathlib.Core.Logic.◌⊎◌.{inl, inr}
 use mathlib.Core.Path.{◌≡◌, refl, sym, ap, ap₂, subst, ◌∙◌}
-use native.Mathlib.Nat.{add-zero, zero-add}
+use native.Mathlib.Nat.{zero-add}
 use native.Mathlib.Numerals.{add-one}
 use native.Mathlib.Omega.{arith}
 use borrow.Author.Tests.{eq-eqb, ne_eqb, le-ltb, le-leb, lt-leb, leb-true}
@@ -16,7 +16,7 @@ use lib.Seq.{append_snoc, drop-cons, drop-length, take-length, get_or-append_sea
 use Rattle.words.specs.Bytes.{put}
 use Rattle.words.proofs.Laws.{and_both, put_length}
 use Rattle.layout.specs.declared.Structure.{Structure}
-use Rattle.layout.specs.Structures.{extent, none, structure_at, is_bad, one_bad, are_bad}
+use Rattle.layout.specs.Structures.{extent, none, structure_at, one_bad, are_bad}
 use Rattle.layout.specs.Accepting.{offset_at}
 use Rattle.layout.specs.Proposing.{rounded_up}
 use Rattle.layout.specs.Laying.{four_of, header_word}

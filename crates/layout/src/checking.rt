@@ -20,11 +20,13 @@ pub fn check(structures: &[Structure], offsets: &[u16]) -> Result<(), Refusal>
     Ok(())
 }
 
-// Whether a structure may stand at an offset: a multiple of 4, where all before it have ended, and it ends by 1000h.
-fn may_stand(structure: Structure, ended: usize, at: u16) -> bool
-    ensures { result ≡ may_stand ended (extent structure) at }
-{
-    at % 4 == 0 && ended <= usize::from(at) && structure.ends_at(at) <= words::SPACE
+impl Structure {
+    // Whether it may stand at an offset: a multiple of 4, where all before it have ended, and it ends by 1000h.
+    fn may_stand(self, ended: usize, at: u16) -> bool
+        ensures { result ≡ may_stand ended (extent self) at }
+    {
+        at.is_multiple_of(4) && ended <= usize::from(at) && self.ends_at(at) <= words::SPACE
+    }
 }
 
 // One offset a structure, the first at 100h, and each where it may stand.
@@ -36,7 +38,7 @@ fn accepts(structures: &[Structure], offsets: &[u16]) -> bool
     }
     let mut ended = usize::from(START);
     for (structure, at) in structures.iter().zip(offsets) {
-        if !may_stand(*structure, ended, *at) {
+        if !structure.may_stand(ended, *at) {
             return false;
         }
         ended = structure.ends_at(*at);

@@ -19,8 +19,7 @@ impl Structure {
     {
         self.id == 0
             || HIGHEST_VERSION < self.version
-            || self.length < SHORTEST
-            || LONGEST < self.length
+            || !(SHORTEST..=LONGEST).contains(&self.length)
     }
 
     // Where it ends if it stands at an offset: the first byte behind it.

@@ -7,11 +7,7 @@ use super::{Structure, checking};
 use answers::Refusal;
 
 // Writes the header of each structure at its offset: its ID, its version, and a pointer to the next one, which is 0 in the last.
-pub fn write(
-    structures: &[Structure],
-    offsets: &[u16],
-    space: &mut [u8],
-) -> Result<(), Refusal>
+pub fn write(structures: &[Structure], offsets: &[u16], space: &mut [u8]) -> Result<(), Refusal>
     ensures { Writes structures.now offsets.now space.old result space.new }
 {
     if space.len() != words::SPACE {
@@ -22,13 +18,15 @@ pub fn write(
     Ok(())
 }
 
-// The bytes of a header: ID 15:0, version 19:16, next 31:20.
-fn header_of(structure: Structure, next: u16) -> [u8; 4]
-    requires { (structure.version ≤ 15) × (next ≤ 0xfff) }
-    ensures { result ≡ four_of (header_word structure next) }
-{
-    let word = u32::from(next) << 20 | u32::from(structure.version) << 16 | u32::from(structure.id);
-    word.to_le_bytes()
+impl Structure {
+    // The bytes of its header: ID 15:0, version 19:16, next 31:20.
+    fn header(self, next: u16) -> [u8; 4]
+        requires { (self.version ≤ 15) × (next ≤ 0xfff) }
+        ensures { result ≡ four_of (header_word self next) }
+    {
+        let word = u32::from(next) << 20 | u32::from(self.version) << 16 | u32::from(self.id);
+        word.to_le_bytes()
+    }
 }
 
 // From the last to the first, so that each knows the one behind it.
@@ -38,7 +36,7 @@ fn put_headers(structures: &[Structure], offsets: &[u16], space: &mut [u8])
 {
     let mut next = 0;
     for (structure, at) in structures.iter().rev().zip(offsets.iter().rev()) {
-        words::put(space, usize::from(*at), &header_of(*structure, next));
+        words::put(space, usize::from(*at), &structure.header(next));
         next = *at;
     }
 }

@@ -1,16 +1,16 @@
 -- `layout::checking::accepts` meets its contract. The loop's invariant: those that are left stand behind what has ended exactly if all are accepted. Assumes nothing.
 use Rattle.std.proofs.Common.{◌≡◌, sym, ap, ◌∙◌, length, arith, rules}
-use Rattle.std.proofs.lemmas.Grind.{common_steps}
 use Rattle.layout.specs.Accepting.{offset_at}
-use Rattle.layout.proofs.Steps.{uneven, refused_count, refused_first, accepted_first, stands_not, stands_on, all_stand}
+use Rattle.layout.proofs.Steps.{refused_count, refused_first, accepted_first, stands_not, stands_on, all_stand}
 use Rattle.layout.proofs.checking.accepts.Goals as goal
 use Rattle.layout.proofs.checking.accepts.Goals.{then-offsets-structures-via-then-offsets-structures, then-offsets-structures-via-else-offsets-structures+then-ne}
 
 pub returns-then-offsets-structures : goal.returns-then-offsets-structures
 returns-then-offsets-structures c =
     elim c.then-offsets-structures.branch [
-      then-offsets-structures-via-then-offsets-structures w ↦ refused_count _ _ w.if-offsets-structures.true
-      | then-offsets-structures-via-else-offsets-structures+then-ne w ↦ (let other : offset_at c.args.offsets.now 0 ≡ 0x100 → ⊥ = search rules in refused_first _ _ other) ]
+      | then-offsets-structures-via-then-offsets-structures w ↦ refused_count _ _ w.if-offsets-structures.true
+      | then-offsets-structures-via-else-offsets-structures+then-ne w ↦ (let other : offset_at c.args.offsets.now 0 ≡ 0x100 → ⊥ = search rules in refused_first _ _ other)
+    ]
 
 pub loop-structure-init : goal.loop-structure-init
 loop-structure-init c =

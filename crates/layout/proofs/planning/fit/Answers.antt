@@ -1,24 +1,15 @@
 -- `layout::planning::fit` meets its contract. The loop's invariant: those that are left fit from where it is exactly if all fit. Assumes nothing.
 use Prim.Native.Nat.{◌+◌, ◌≤◌}
-use mathlib.Core.Path.{refl, ◌∙◌}
+use mathlib.Core.Path.{◌∙◌}
 use native.Mathlib.Omega.{arith}
 use Rattle.layout.specs.Structures.{extent, structure_at}
 use Rattle.layout.proofs.Steps.{fits_on, fits_not, all_fit}
 use Rattle.layout.proofs.planning.fit.Goals as goal
 
-pub loop-structure-init : goal.loop-structure-init
-loop-structure-init c = (omega arith, refl)
-
 pub returns-then-ends_at-gt-SPACE : goal.returns-then-ends_at-gt-SPACE
 returns-then-ends_at-gt-SPACE c =
     let l = c.loop-structure in
     fits_not _ l.at l.structure-index c.loop-structure-test.true (omega (arith, c.ends_at.ensures)) ∙ l.invariant.1
-
-pub rounded_up-at-requires : goal.rounded_up-at-requires
-rounded_up-at-requires c = omega (arith, c.ends_at.ensures)
-
-pub overflow_add-at : goal.overflow_add-at
-overflow_add-at c = omega (arith, c.ends_at.ensures, c.rounded_up-at.ensures)
 
 pub loop-structure-preserved : goal.loop-structure-preserved
 loop-structure-preserved c =

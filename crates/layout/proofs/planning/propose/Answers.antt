@@ -1,13 +1,8 @@
 -- `layout::planning::propose` meets its contract. The loop's invariant: so many offsets are in place, those that are left are packed from where it is, and they fit. Assumes nothing.
-use mathlib.Core.Path.{refl, ◌∙◌}
+use mathlib.Core.Path.{◌∙◌}
 use native.Mathlib.Omega.{arith}
-use lib.Seq.{paste-zero}
-use Rattle.layout.specs.Inner.{packed_from}
 use Rattle.layout.proofs.Steps.{fits_on, fitting, packed_here, packed_on, packed_length, proposed_next, proposed_all}
 use Rattle.layout.proofs.planning.propose.Goals as goal
-
-pub loop-place-init : goal.loop-place-init
-loop-place-init c = (c.requires.0, c.requires.1, refl, paste-zero c.args.room.now 0 (packed_from 0x100 c.args.structures.now))
 
 pub rounded_up-at-requires : goal.rounded_up-at-requires
 rounded_up-at-requires c = let l = c.loop-place in omega (arith, fitting _ l.at l.place c.loop-place-test.true l.invariant.1)

@@ -1,8 +1,8 @@
 -- `layout::writing::put_headers` meets its contract. The loop's invariant: the headers behind those that are left are laid, and the next pointer is to the first of them. Assumes nothing.
-use Rattle.std.proofs.Common.{◌≡◌, ap, ◌∙◌, rules, arith, ℕ}
+use Rattle.std.proofs.Common.{◌≡◌, ap, ◌∙◌, rules, arith}
 use Rattle.words.specs.Bytes.{put}
 use Rattle.words.proofs.Laws.{puts_is}
-use Rattle.layout.proofs.Steps.{none_laid, last_version, last_inside, laid_on, all_laid}
+use Rattle.layout.proofs.Steps.{none_laid, last_inside, laid_on}
 use Rattle.layout.proofs.writing.put_headers.Goals as goal
 
 pub loop-structure-init : goal.loop-structure-init
@@ -11,9 +11,6 @@ loop-structure-init c =
     let offsets : c.into_iter-structure-iterator.result.b.iter.rest.now ≡ c.args.offsets.now = search rules in
     rw (structures, offsets) (none_laid c.requires)
 
-pub header_of-requires : goal.header_of-requires
-header_of-requires c = let s = c.in-Some.ensures.steps in (last_version c.requires c.loop-structure.invariant _ _ _ _ s.0 s.1, c.loop-structure.invariant.low)
-
 pub loop-structure-preserved : goal.loop-structure-preserved
 loop-structure-preserved c =
     let l = c.loop-structure in
@@ -21,7 +18,4 @@ loop-structure-preserved c =
     let at = c.in-Some.at.now in
     let inside = last_inside c.requires l.invariant _ _ _ _ s.0 s.1 in
     laid_on c.requires l.invariant _ _ _ _ s.0 s.1
-    (puts_is l.space at _ (rw c.from.ensures at c.put.ensures) (rw c.header_of.ensures (omega (arith, inside, l.invariant.whole))) ∙ ap (put l.space at) c.header_of.ensures)
-
-pub returns : goal.returns
-returns c = all_laid c.requires _ _ c.loop-structure.invariant (search rules)
+    (puts_is l.space at _ (rw c.from.ensures at c.put.ensures) (rw c.header.ensures (omega (arith, inside, l.invariant.whole))) ∙ ap (put l.space at) c.header.ensures)
