@@ -7,8 +7,7 @@ use mathlib.Core.Path.{◌≡◌, refl, ap}
 use native.Mathlib.Omega.{arith}
 use lib.Dec.{lit<, lit≤}
 use lib.ListN.{length, replicate}
-use Rattle.std.specs.Bool.{⊤}
-use Rattle.std.specs.Prelude.{Result}
+use Rattle.std.specs.Prelude.{⊤, Result}
 use Rattle.answers.specs.Numbers.{answered}
 use Rattle.answers.specs.declared.Refusal.{Refusal}
 use Rattle.layout.specs.declared.Structure.{Structure}

@@ -3,23 +3,19 @@
 use Prim.Native.Nat.{ℕ, zero, suc, ◌+◌, ◌≤◌, ◌<◌}
 use mathlib.Core.Bool.{false}
 use mathlib.Core.List.{List, [], ◌∷◌}
-use mathlib.Core.Logic.◌⊎◌.{inr}
 use mathlib.Core.Path.{◌≡◌, refl, sym, ap, ◌∙◌}
 use native.Mathlib.Nat.{add-zero}
 use native.Mathlib.Omega.{arith}
 use borrow.Author.Tests.{ltb-true, ltb-false}
 use lib.Dec.{ltb}
 use lib.ListN.{length}
-use Rattle.std.specs.Bool.{⊤}
-use Rattle.std.specs.Prelude.{Ok, Err}
-use Rattle.answers.specs.declared.Refusal.{Refusal}
-use Rattle.answers.proofs.Unique.{number_positive}
+use Rattle.std.specs.Prelude.{⊤, Ok}
 use Rattle.words.specs.Bytes.{byte, four, put}
 use Rattle.words.proofs.Laws.{put_length, put_there, put_before, put_after, four_elsewhere}
 use Rattle.layout.specs.declared.Structure.{Structure}
 use Rattle.layout.specs.Structures.{extent, structure_at, are_bad}
 use Rattle.layout.specs.Accepting.{offset_at, Acceptable, Checks, Checks.misdescribed, Checks.unaccepted, Checks.accepted}
-use Rattle.layout.specs.Laying.{header_word, four_of, next_at, InHeader, Written, Writes, Writes.misdescribed, Writes.unaccepted}
+use Rattle.layout.specs.Laying.{header_word, four_of, next_at, InHeader, Written, Writes.misdescribed, Writes.unaccepted}
 use Rattle.layout.specs.Inner.{laid, MayBeLaid}
 use Rattle.layout.proofs.Sound.{Given, tested}
 use Rattle.layout.proofs.Orderly.{Orderly, others_of, acceptable_orderly}
@@ -114,16 +110,7 @@ module _ {structures : List Structure} {offsets : List ℕ} (s : List ℕ) (g : 
         others = laid_others s structures offsets headers_inside;
       }
 
--- ---- what the checker has said
-
--- it refused
-pub refused_writes : {structures : List Structure} {offsets s : List ℕ} {refusal : Refusal} → length s ≡ 4096 → Checks structures offsets (Err refusal)
-    → Writes structures offsets s (Err refusal) s
-refused_writes whole (misdescribed bad e) = misdescribed (inr bad) (record { given = e; kept = refl })
-refused_writes whole (unaccepted good n e) = unaccepted whole good n (record { given = e; kept = refl })
-refused_writes {refusal = refusal} whole (accepted good a e) = absurd (number_positive refusal e)
-
--- it accepted
+-- ---- what the checker has said: it accepted
 pub accepted_by : {structures : List Structure} {offsets : List ℕ} {unit : ⊤} → Checks structures offsets (Ok unit)
     → (are_bad structures ≡ false) × Acceptable structures offsets
 accepted_by (misdescribed bad e) = absurd (omega (arith, e))

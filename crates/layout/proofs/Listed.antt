@@ -9,8 +9,7 @@ use native.Mathlib.Omega.{arith}
 use borrow.Author.Tests.{ltb-true, ltb-false}
 use lib.Dec.{ltb, lit≤}
 use lib.ListN.{length, get_or-eq_default}
-use Rattle.std.specs.Bool.{⊤}
-use Rattle.std.specs.Prelude.{Result}
+use Rattle.std.specs.Prelude.{⊤, Result}
 use Rattle.answers.specs.Numbers.{answered}
 use Rattle.answers.specs.declared.Refusal.{Refusal}
 use Rattle.words.specs.Bytes.{byte}

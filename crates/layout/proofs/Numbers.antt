@@ -8,8 +8,7 @@ use mathlib.Core.Logic.◌⊎◌.{inl, inr}
 use mathlib.Core.Path.{◌≡◌, sym, ◌∙◌}
 use native.Mathlib.Omega.{arith}
 use lib.ListN.{length}
-use Rattle.std.specs.Bool.{⊤}
-use Rattle.std.specs.Prelude.{Result}
+use Rattle.std.specs.Prelude.{⊤, Result}
 use Rattle.answers.specs.Numbers.{answered}
 use Rattle.answers.specs.declared.Refusal.{Refusal}
 use Rattle.layout.specs.declared.Structure.{Structure}

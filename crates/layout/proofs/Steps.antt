@@ -16,7 +16,7 @@ use lib.Seq.{append_snoc, drop-cons, drop-length, take-length, get_or-append_sea
 use Rattle.words.specs.Bytes.{put}
 use Rattle.words.proofs.Laws.{and_both, put_length}
 use Rattle.layout.specs.declared.Structure.{Structure}
-use Rattle.layout.specs.Structures.{extent, none, structure_at, one_bad, are_bad}
+use Rattle.layout.specs.Structures.{extent, no_structure, structure_at, one_bad, are_bad}
 use Rattle.layout.specs.Accepting.{offset_at}
 use Rattle.layout.specs.Proposing.{rounded_up}
 use Rattle.layout.specs.Laying.{four_of, header_word}
@@ -84,7 +84,7 @@ module _ (structures : List Structure) (at place : ℕ) where
       ≡ leb (at + extent (structure_at structures place)) 0x1000
       && fits_from (at + rounded_up (extent (structure_at structures place))) (drop (suc place) structures)
   unfolding fits_from
-  fits_next here = ap (fits_from at) (drop-cons structures place none here)
+  fits_next here = ap (fits_from at) (drop-cons structures place no_structure here)
 
   pub fits_on : place < length structures → at + extent (structure_at structures place) ≤ 0x1000
       → fits_from (at + rounded_up (extent (structure_at structures place))) (drop (place + 1) structures) ≡ fits_from at (drop place structures)
@@ -105,7 +105,7 @@ module _ (structures : List Structure) (at place : ℕ) where
   packed_next : place < length structures
       → packed_from at (drop place structures) ≡ at ∷ packed_from (at + rounded_up (extent (structure_at structures place))) (drop (suc place) structures)
   unfolding packed_from
-  packed_next here = ap (packed_from at) (drop-cons structures place none here)
+  packed_next here = ap (packed_from at) (drop-cons structures place no_structure here)
 
   -- of the offsets that are packed, the first from a place on, and those behind
   module _ (offsets : List ℕ) (same : length offsets ≡ length structures) (here : place < length structures)
@@ -182,12 +182,6 @@ module _ {structures : List Structure} {offsets lent : List ℕ} (m : MayBeLaid 
     same_on : length offsets_left ≡ length structures_left
     same_on = omega (arith, b.same, ap length last, ap length there, length-append structures_left (structure ∷ []), length-append offsets_left (at ∷ []))
 
-    pub last_version : structure.version ≤ 15
-    last_version =
-        subst (λ (s : Structure). s.version ≤ 15)
-        (ap (λ (l : List Structure). structure_at l (length structures_left)) structured_on ∙ get_or-append_seam structures_left structure b.done none)
-        (m.small (length structures_left) (omega (arith, ap length structured_on, length-append structures_left (structure ∷ b.done))))
-
     pub last_inside : at + 4 ≤ 4096
     last_inside =
         subst (λ (n : ℕ). n + 4 ≤ 4096)
@@ -209,10 +203,3 @@ module _ {structures : List Structure} {offsets lent : List ℕ} (m : MayBeLaid 
           whole = ap length e ∙ put_length space at (four_of (header_word structure next)) (omega (arith, b.whole, last_inside)) ∙ b.whole;
           laid_so = e ∙ ap₂ (λ (l : List ℕ) (n : ℕ). put l at (four_of (header_word structure n))) b.laid_so b.points;
         }
-
-  pub all_laid : (ahead : List Structure) (left : List ℕ) {space : List ℕ} {next : ℕ} → LaidBehind structures offsets ahead left lent space next
-      → (length ahead ≡ 0) ⊎ (length left ≡ 0) → space ≡ laid structures offsets lent
-  all_laid [] [] b end = b.laid_so ∙ sym (ap₂ (λ (l : List Structure) (n : List ℕ). laid l n lent) b.structured b.offset)
-  all_laid [] (at ∷ left) b end = absurd (omega (arith, b.same))
-  all_laid (structure ∷ ahead) left b (inl z) = absurd (omega (arith, z))
-  all_laid (structure ∷ ahead) left b (inr z) = absurd (omega (arith, b.same, z))

@@ -7,8 +7,7 @@ use mathlib.Core.Path.{◌≡◌, sym, ap, subst, ◌∙◌}
 use native.Mathlib.Omega.{arith}
 use lib.ListN.{length, take, drop}
 use lib.Seq.{take_at}
-use Rattle.std.specs.Bool.{⊤}
-use Rattle.std.specs.Prelude.{Result}
+use Rattle.std.specs.Prelude.{⊤, Result}
 use Rattle.answers.specs.Numbers.{answered}
 use Rattle.answers.specs.declared.Refusal.{Refusal}
 use Rattle.words.specs.Fields.{word}

@@ -1,5 +1,5 @@
 -- Document 02, 10/13: "a separate small checker decides". Which proposals it accepts, and what `check` promises. Assumes nothing.
-use Rattle.std.specs.Prelude.{Result, ⊤, ℕ, ◌+◌, ◌%◌, ◌≤◌, ◌<◌, true, false, List, ◌≡◌, length, get_or}
+use Rattle.std.specs.Prelude.{ℕ, ◌+◌, ◌%◌, ◌≤◌, ◌<◌, true, false, List, ◌≡◌, length, get_or, Result, ⊤}
 use Rattle.answers.specs.Numbers.{answered}
 use Rattle.answers.specs.declared.Refusal.{Refusal}
 use Rattle.layout.specs.declared.Structure.{Structure}

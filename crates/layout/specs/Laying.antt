@@ -1,5 +1,5 @@
 -- Document 02, 10/13: "An accepted layout is then written as headers into a lent space, changing header words only". What `write` promises. Assumes nothing.
-use Rattle.std.specs.Prelude.{Result, ⊤, ℕ, suc, ◌+◌, ◌*◌, ◌/◌, ◌%◌, ◌^◌, ◌≤◌, ◌<◌, true, false, List, [], ◌∷◌, ◌⊎◌, ◌≡◌, length}
+use Rattle.std.specs.Prelude.{ℕ, suc, ◌+◌, ◌*◌, ◌/◌, ◌%◌, ◌^◌, ◌≤◌, ◌<◌, true, false, List, [], ◌∷◌, ◌⊎◌, ◌≡◌, length, Result, ⊤}
 use Rattle.answers.specs.Numbers.{answered}
 use Rattle.answers.specs.declared.Refusal.{Refusal}
 use Rattle.words.specs.Bytes.{byte, four}

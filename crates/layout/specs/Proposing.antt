@@ -1,5 +1,5 @@
 -- Document 02, 10/13: "a planner proposes offsets". Which proposal it is, when there is none, and what `plan` promises. Assumes nothing.
-use Rattle.std.specs.Prelude.{Result, ⊤, ℕ, ◌+◌, ◌*◌, ◌/◌, ◌≤◌, ◌<◌, true, false, List, [], ◌∷◌, ◌++◌, ◌≡◌, length, drop}
+use Rattle.std.specs.Prelude.{ℕ, ◌+◌, ◌*◌, ◌/◌, ◌≤◌, ◌<◌, true, false, List, [], ◌∷◌, ◌++◌, ◌≡◌, length, drop, Result, ⊤}
 use Rattle.answers.specs.Numbers.{answered}
 use Rattle.answers.specs.declared.Refusal.{Refusal}
 use Rattle.layout.specs.declared.Structure.{Structure}

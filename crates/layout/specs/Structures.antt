@@ -4,7 +4,7 @@ use Rattle.std.specs.List.{list_any}
 use Rattle.answers.specs.Checks.{any}
 use Rattle.layout.specs.declared.Structure.{Structure}
 
--- a structure has three numbers; the extent is its length in bytes
+-- a structure is three numbers, in the order in which the request names them; the extent is its length in bytes
 abbrev pub identity : Structure → ℕ
 identity structure = structure.id
 
@@ -15,11 +15,11 @@ abbrev pub extent : Structure → ℕ
 extent structure = structure.length
 
 -- structure k of those given; past the end none, whose numbers read as 0
-abbrev pub none : Structure
-none = record { id = 0; version = 0; length = 0 }
+abbrev pub no_structure : Structure
+no_structure = record { id = 0; version = 0; length = 0 }
 
 abbrev pub structure_at : List Structure → ℕ → Structure
-structure_at structures k = get_or structures k none
+structure_at structures k = get_or structures k no_structure
 
 -- "Bad [..] versions or lengths: 1", and "ID 0000h is refused with 1"
 unfoldable pub is_bad : Structure → Bool
