@@ -28,10 +28,9 @@ returns-then-not-may_stand c =
 pub loop-structure-preserved : goal.loop-structure-preserved
 loop-structure-preserved c =
     let l = c.loop-structure in
-    let s = c.in-Some.ensures.steps in (
-      omega (arith, l.invariant.0, ap length s.0, ap length s.1),
-      rw c.ends_at-ended.ensures (stands_on l.ended s.0 s.1 (sym c.may_stand.ensures ∙ c.if-not-may_stand.false) ∙ l.invariant.1),
-    )
+    let s = c.in-Some.ensures.steps in
+    let on = stands_on l.ended s.0 s.1 (sym c.may_stand.ensures ∙ c.if-not-may_stand.false) ∙ l.invariant.1 in
+    (omega (arith, l.invariant.0, ap length s.0, ap length s.1), cc)
 
 pub returns : goal.returns
 returns c = let l = c.loop-structure in all_stand l.ended _ _ l.invariant.0 (search rules) ∙ l.invariant.1
