@@ -14,7 +14,7 @@ use Rattle.words.specs.Bytes.{four_or_zero}
 use Rattle.words.proofs.Laws.{four_inside}
 use Rattle.packet.specs.declared.Request.{Request}
 use Rattle.packet.specs.Fields.{data_of}
-use Rattle.packet.specs.declared.Decoded.TheVariants.{Asks}
+use Rattle.std.specs.Prelude.{Ok}
 use Rattle.packet.specs.Request.{is_trusted, number_under, request_of, DecodesUnder}
 use Rattle.packet.proofs.Laws.{offset_inside, write_long, sound_under}
 use Rattle.packet.specs.declared.Status.{Status}
@@ -119,7 +119,7 @@ module _ (d : Board) (p reply : List ℕ) where
 -- ---- a packet without a fault, on a well-described board with room for the reply
 
 module _ (d : Description) (kept : Capture) (o or om t tr tm p reply : List ℕ) (well : badly_described (lent d kept o or om t tr tm) ≡ false)
-    (room : 16 ≤ length reply) (q : Request) (asks : DecodesUnder d.edition p (Asks q)) where
+    (room : 16 ≤ length reply) (q : Request) (asks : DecodesUnder d.edition p (Ok q)) where
   sized : (s : Space) → WellSpace s → q.offset + 4 ≤ 4096 → Sized s q
   sized s w inside = record { whole_bytes = w.bytes; whole_rules = w.rules; whole_marks = w.marks; inside = inside }
 

@@ -11,7 +11,7 @@ ghost use Rattle.board.specs.Inner.{Ready, refusing};
 use super::{Description, Served, access, completing, describing};
 use answers::{Answer, Refusal};
 use capture::Capture;
-use packet::{Decoded, Request, Status};
+use packet::{Request, Status};
 
 const REPLY: usize = 16;
 
@@ -134,8 +134,8 @@ pub fn serve(
         return refuse(kept, Refusal::NoRoom);
     }
     match packet::decode_under(description.edition, packet) {
-        Decoded::Refused(refusal) => refuse(kept, refusal),
-        Decoded::Asks(request) => respond_to(
+        Err(refusal) => refuse(kept, refusal),
+        Ok(request) => respond_to(
             description,
             kept,
             ordinary,

@@ -20,16 +20,16 @@ returns-then-reply-lt-REPLY c =
 pub respond_to-requires : goal.respond_to-requires
 respond_to-requires c =
     let a = c.args in
-    let known = ready a.description a.kept a.ordinary.now a.ordinary_rules.now a.ordinary_marks.now a.trusted.now a.trusted_rules.now a.trusted_marks.now a.packet.now a.reply.now (sym c.is_badly_described.ensures ∙ c.if-is_badly_described.false) c.if-reply-lt-REPLY.false _ (subst (DecodesUnder a.description.edition a.packet.now) c.in-Asks.is c.decode_under.ensures) in
+    let known = ready a.description a.kept a.ordinary.now a.ordinary_rules.now a.ordinary_marks.now a.trusted.now a.trusted_rules.now a.trusted_marks.now a.packet.now a.reply.now (sym c.is_badly_described.ensures ∙ c.if-is_badly_described.false) c.if-reply-lt-REPLY.false _ (subst (DecodesUnder a.description.edition a.packet.now) c.in-Ok.is c.decode_under.ensures) in
     record { ready = known.0; in_bounds = known.1 }
 
-pub returns-in-Refused : goal.returns-in-Refused
-returns-in-Refused c =
+pub returns-in-Err : goal.returns-in-Err
+returns-in-Err c =
     let a = c.args in
     let d = (lent a.description a.kept a.ordinary.now a.ordinary_rules.now a.ordinary_marks.now a.trusted.now a.trusted_rules.now a.trusted_marks.now) in
-    refused_seen d a.packet.now a.reply.now _ _ (packet_number d a.packet.now a.reply.now (sym c.is_badly_described.ensures ∙ c.if-is_badly_described.false) c.if-reply-lt-REPLY.false ∙ subst (DecodesUnder a.description.edition a.packet.now) c.in-Refused.is c.decode_under.ensures) c.refuse-in-Refused.ensures
+    refused_seen d a.packet.now a.reply.now _ _ (packet_number d a.packet.now a.reply.now (sym c.is_badly_described.ensures ∙ c.if-is_badly_described.false) c.if-reply-lt-REPLY.false ∙ subst (DecodesUnder a.description.edition a.packet.now) c.in-Err.is c.decode_under.ensures) c.refuse-in-Err.ensures
 
-pub returns-in-Asks : goal.returns-in-Asks
-returns-in-Asks c =
+pub returns-in-Ok : goal.returns-in-Ok
+returns-in-Ok c =
     let a = c.args in
-    served_seen a.description a.kept a.ordinary.now a.ordinary_rules.now a.ordinary_marks.now a.trusted.now a.trusted_rules.now a.trusted_marks.now a.packet.now a.reply.now (sym c.is_badly_described.ensures ∙ c.if-is_badly_described.false) c.if-reply-lt-REPLY.false _ (subst (DecodesUnder a.description.edition a.packet.now) c.in-Asks.is c.decode_under.ensures) c.respond_to.result _ _ _ c.respond_to.ensures
+    served_seen a.description a.kept a.ordinary.now a.ordinary_rules.now a.ordinary_marks.now a.trusted.now a.trusted_rules.now a.trusted_marks.now a.packet.now a.reply.now (sym c.is_badly_described.ensures ∙ c.if-is_badly_described.false) c.if-reply-lt-REPLY.false _ (subst (DecodesUnder a.description.edition a.packet.now) c.in-Ok.is c.decode_under.ensures) c.respond_to.result _ _ _ c.respond_to.ensures
