@@ -1,7 +1,7 @@
 -- Laws of routing, for the proofs of this crate: what leaves and what is written of it, and the number by the first check that applies. Assumes
 -- nothing.
 use Prim.Native.Nat.{ℕ, zero, suc, ◌+◌, ◌*◌, ◌≤◌, ◌<◌}
-use mathlib.Core.Bool.{Bool, true, false, not, cond, ◌&&◌, true≢false}
+use mathlib.Core.Bool.{Bool, true, false, cond, ◌&&◌, true≢false}
 use mathlib.Core.List.Memᴰ
 use mathlib.Core.List.{List, [], ◌∷◌, ◌++◌}
 use mathlib.Core.Logic.{◌⊎◌, ⊎_elim}
@@ -20,29 +20,17 @@ use Rattle.words.specs.Fields.{bit}
 use Rattle.words.proofs.Laws.{puts_is}
 use Rattle.packet.specs.declared.Target.{Target}
 use Rattle.packet.specs.declared.Target.TheVariants.{Type0, Type1, Trusted}
-use Rattle.std.specs.Prelude.{Option, Some, None, Ok, Err}
+use Rattle.std.specs.Prelude.{Some, None, Ok, Err}
 use Rattle.packet.specs.declared.Request.{Request}
 use Rattle.packet.specs.Fields.{known, type_code, type_of, digest}
 use Rattle.packet.specs.Request.{typed, unknown, writes_of, target_of, packet_checks, packet_number, request_of}
 use Rattle.packet.proofs.Laws.{positive, whole_is}
-use Rattle.ports.specs.declared.Port.{Port}
 use Rattle.ports.specs.declared.Exit.{Exit}
-use Rattle.ports.specs.Choice.{Choice, list_refused}
+use Rattle.ports.specs.Choice.{Choice}
 use Rattle.router.specs.declared.Verdict.TheVariants.{Leaves, Unsupported}
-use Rattle.router.specs.Routing.{bus_of, target_in, is_type0, is_type1, is_bad, barred_at, router_checks, route_number, type0_code, as_type0, turns, leaving_by, Outcome, leaves_by, refused, by_number, decide}
-use Rattle.router.specs.Promise.{Seen, told, over, shows}
+use Rattle.router.specs.Routing.{bus_of, target_in, is_type0, is_type1, is_bad, barred_at, router_checks, route_number, type0_code, as_type0, turns, leaving_by, leaves_by, refused, by_number, decide}
+use Rattle.router.specs.Promise.{told, over, shows}
 use Rattle.router.specs.Inner.{Ready, left, Faultless, passes_by, passes}
-
--- ---- small ones
-
-pub byte_past : (p : List ℕ) (i : ℕ) → length p ≤ i → byte p i ≡ 0
-byte_past [] i h = refl
-byte_past (x ∷ p) zero h = absurd (omega arith)
-byte_past (x ∷ p) (suc i) h = byte_past p i (omega arith)
-
-pub not_twice : (b : Bool) → b ≡ not (not b)
-not_twice true = refl
-not_twice false = refl
 
 -- ---- a packet without a fault
 

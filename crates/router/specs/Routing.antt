@@ -1,6 +1,6 @@
 -- Document 02, 1/13, "Route for the backplane": routing, as one function from the ports, the packet and the buffer's size to the number, and the port and
 -- the bytes by which it leaves. Assumes nothing.
-use Rattle.std.specs.Prelude.{ℕ, zero, suc, ◌+◌, ◌*◌, Bool, true, false, not, ◌&&◌, cond, List, [], ◌∷◌, ◌++◌, Option, Some, None, Ok, Err, eqb, ltb}
+use Rattle.std.specs.Prelude.{ℕ, zero, suc, ◌+◌, ◌*◌, Bool, true, false, not, ◌&&◌, cond, List, [], ◌∷◌, ◌++◌, Some, None, Ok, Err, eqb, ltb}
 use Rattle.answers.specs.Checks.{Check, check, first_that_applies}
 use Rattle.words.specs.Bytes.{byte}
 use Rattle.words.specs.Fields.{bit}

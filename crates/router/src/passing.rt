@@ -1,6 +1,6 @@
 // A request without a fault: whether it may leave, by which port, and what is then written.
 ghost use Rattle.std.specs.Prelude.{◌≡◌};
-ghost use Rattle.router.specs.Routing.{barred_at, turns};
+ghost use Rattle.router.specs.Routing.{is_type0, barred_at, turns};
 ghost use Rattle.router.specs.Promise.{told, shows};
 ghost use Rattle.router.specs.Inner.{Ready, left, Faultless, passes_by, passes};
 
@@ -8,6 +8,12 @@ use super::Verdict;
 use answers::Refusal;
 use packet::{Request, Target};
 use ports::{Exit, Port};
+
+fn is_type_0(request: Request) -> bool
+    ensures { result ≡ is_type0 request.target }
+{
+    request.target == Target::Type0
+}
 
 // A trusted request, at a port that does not support TCS routing.
 fn is_barred(request: Request, port: Port) -> bool
@@ -20,7 +26,7 @@ fn is_barred(request: Request, port: Port) -> bool
 fn turns(request: Request, port: Port) -> bool
     ensures { result ≡ turns request.target request.bus port }
 {
-    matches!(request.target, Target::Type1) && request.bus == port.secondary
+    request.target == Target::Type1 && request.bus == port.secondary
 }
 
 // Writes what leaves: the packet, with the type code of Type 0 where it turns into that. The code's lowest bit tells the types apart.
@@ -35,7 +41,12 @@ fn leave(turned: bool, packet: &[u8], leaving: &mut [u8])
 }
 
 // Routes a request that is not of Type 0 by the port that has its bus: refused if it is barred there, else it leaves.
-fn pass_by(exit: Exit, request: Request, packet: &[u8], leaving: &mut [u8]) -> Result<Verdict, Refusal>
+fn pass_by(
+    exit: Exit,
+    request: Request,
+    packet: &[u8],
+    leaving: &mut [u8],
+) -> Result<Verdict, Refusal>
     requires { Faultless packet.now request leaving.old }
     ensures { told result leaving.new ≡ shows (passes_by exit packet.now) leaving.old }
 {
@@ -50,11 +61,16 @@ fn pass_by(exit: Exit, request: Request, packet: &[u8], leaving: &mut [u8]) -> R
 }
 
 // Routes a request without a fault: Type 0 is for no port, and what has no port is unsupported.
-pub(super) fn pass(exit: Option<Exit>, request: Request, packet: &[u8], leaving: &mut [u8]) -> Result<Verdict, Refusal>
+pub(super) fn pass(
+    exit: Option<Exit>,
+    request: Request,
+    packet: &[u8],
+    leaving: &mut [u8],
+) -> Result<Verdict, Refusal>
     requires { Faultless packet.now request leaving.old }
     ensures { told result leaving.new ≡ shows (passes (Ok exit) packet.now) leaving.old }
 {
-    if matches!(request.target, Target::Type0) {
+    if is_type_0(request) {
         return Err(Refusal::UnknownType);
     }
     match exit {
