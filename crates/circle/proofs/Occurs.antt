@@ -9,11 +9,10 @@ use native.Mathlib.Nat.{le_of_eq}
 use lib.ListN.{length, take, drop, replicate}
 use lib.Seq.{take_at, take-length, drop-length}
 use borrow.Author.Tests.{le-ltb}
+use Rattle.std.specs.Prelude.{Ok}
 use Rattle.answers.specs.declared.Answer.TheVariants.{Done}
 use Rattle.answers.specs.Checks.{any}
 use Rattle.asking.specs.declared.Parts.{Parts}
-use Rattle.asking.specs.declared.Written.TheVariants.{Bytes}
-use Rattle.asking.specs.declared.Heard.TheVariants.{Says}
 use Rattle.asking.specs.Writing.{outside, whole_of, write_number, packet_of, Writes}
 use Rattle.asking.specs.Reading.{read_number, completion_of, Reads}
 use Rattle.asking.proofs.Numbers.{packet_length, served_shown}
@@ -30,7 +29,7 @@ use Rattle.circle.proofs.NightShift.{Asked}
 -- the statement
 abbrev pub AnyMayBeAsked : Type 0
 AnyMayBeAsked =
-    (a : Parts) (new : List ℕ) (d : Board) → any (outside a) ≡ false → WellDescribed d → (s : Asked a new d) × (s.heard ≡ Says (meant d (packet_of a new) 16))
+    (a : Parts) (new : List ℕ) (d : Board) → any (outside a) ≡ false → WellDescribed d → (s : Asked a new d) × (s.heard ≡ Ok (meant d (packet_of a new) 16))
 
 nothing_behind : (l : List ℕ) → l ++ drop (length l) l ≡ l
 nothing_behind l = ap (λ (x : List ℕ). l ++ x) (drop-length l) ∙ append-nil l
@@ -40,7 +39,7 @@ module _ (a : Parts) (new : List ℕ) (inside : any (outside a) ≡ false) where
   p = packet_of a new
 
   -- a buffer that just holds the request
-  writes_it : Writes a new p (Bytes (length p)) p
+  writes_it : Writes a new p (Ok (length p)) p
   writes_it =
       let n : write_number a (length p) ≡ 0 = rw (inside, le-ltb (length p) (whole_of a) (le_of_eq (sym (packet_length a new)))) in
       sym (served_shown a new p n ∙ ap (λ (x : List ℕ). record { number = 0; count = length p; buffer = x }) (nothing_behind p))
@@ -71,7 +70,7 @@ module _ (a : Parts) (new : List ℕ) (inside : any (outside a) ≡ false) where
           reply = over o.written reply;
         }
 
-    reads_it : Reads (take served.length (over o.written reply)) (Says (completion_of o.written))
+    reads_it : Reads (take served.length (over o.written reply)) (Ok (completion_of o.written))
     unfolding served
     reads_it =
         let t : take (length o.written) (over o.written reply) ≡ o.written = take_at o.written (drop (length o.written) reply) _ refl in
@@ -81,7 +80,7 @@ module _ (a : Parts) (new : List ℕ) (inside : any (outside a) ≡ false) where
     it_is =
         record {
           buffer = p;
-          written = Bytes (length p);
+          written = Ok (length p);
           sent = p;
           writes = writes_it;
           accepted = refl;
@@ -93,11 +92,11 @@ module _ (a : Parts) (new : List ℕ) (inside : any (outside a) ≡ false) where
           serves =
               subst (λ (x : List ℕ). Serves d x reply served o.after.ordinary.bytes o.after.trusted.bytes (over o.written reply))
               (sym (take-length p)) serves_it;
-          heard = Says (completion_of o.written);
+          heard = Ok (completion_of o.written);
           reads = reads_it;
         }
 
 pub any_may_be_asked : AnyMayBeAsked
 unfolding it_is
 any_may_be_asked a new d inside well =
-    (it_is a new inside d well, ap Says (replies_read_back d (packet_of a new) 16 (served_it a new inside d well)).same)
+    (it_is a new inside d well, ap Ok (replies_read_back d (packet_of a new) 16 (served_it a new inside d well)).same)

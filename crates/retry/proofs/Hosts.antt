@@ -6,13 +6,13 @@ use mathlib.Core.List.{List}
 use mathlib.Core.Path.{◌≡◌, sym, ap, ap₂, ◌∙◌, subst}
 use lib.ListN.{length, take}
 use lib.Seq.{take-append_seam}
+use Rattle.std.specs.Prelude.{Ok}
 use Rattle.board.specs.Description.{Board, WellDescribed}
 use Rattle.board.specs.Serving.{Outcome, completer_of, serve}
 use Rattle.board.specs.Promise.{Seen, shows, Serves}
 use Rattle.board.proofs.Keeps.{call_holds}
 use Rattle.asking.specs.declared.Parts.{Parts}
 use Rattle.asking.specs.declared.Completion.{Completion}
-use Rattle.asking.specs.declared.Heard.TheVariants.{Says}
 use Rattle.asking.specs.Writing.{packet_of, told_written}
 use Rattle.asking.specs.Reading.{Reads}
 use Rattle.asking.proofs.Numbers.{served_packet}
@@ -35,7 +35,7 @@ AskedAgain =
 abbrev pub SecondMeansLanded : Type 0
 SecondMeansLanded =
     (a : Parts) (new : List ℕ) (d : Board) → WellDescribed d → (first : Asked a new d) (second : Asked a new (held first)) → length second.reply ≡ length first.reply
-    → (c : Completion) → second.heard ≡ Says c
+    → (c : Completion) → second.heard ≡ Ok c
     → (c.requester ≡ a.requester) × (c.tag ≡ a.tag) × (c.completer ≡ completer_of (held second)) × Means d (held second) a new c.said
 
 -- ---- one request, served

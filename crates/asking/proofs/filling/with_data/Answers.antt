@@ -3,12 +3,11 @@ use mathlib.Core.List.{◌++◌}
 use mathlib.Core.Path.{◌≡◌, sym, ap, ◌∙◌}
 use lib.ListN.{length}
 use Rattle.words.specs.Bytes.{four}
-use Rattle.words.proofs.Laws.{listed_from}
-use Rattle.words.proofs.Laws as laws
+use Rattle.words.proofs.Laws.{listed, listed_from}
 use Rattle.asking.proofs.filling.with_data.Goals as goal
 
 pub returns : goal.returns
-unfolding laws.listed
+unfolding listed
 returns c =
     let a = c.copy_from_slice.ensures in
     let b = c.copy_from_slice-2.ensures in
