@@ -36,11 +36,10 @@ use Rattle.asking.specs.Writing.{outside, asks_write, packet_of, told_written, W
 use Rattle.asking.specs.Reading.{read_number, Reads}
 use Rattle.asking.proofs.Numbers.{served_packet}
 use Rattle.circle.proofs.Asked.{asked, packet_number_lem, request_is, data_is}
-use Rattle.board.specs.declared.Served.{Served}
 use Rattle.board.specs.Description.{Space, doubly_marked, Board, WellDescribed}
 use Rattle.board.specs.Access.{unsupported, read_word, shown_word}
 use Rattle.board.specs.Serving.{Outcome, completer_of, respond, serve_number, refused, serve}
-use Rattle.board.specs.Promise.{Seen, after_call, shows, Serves}
+use Rattle.board.specs.Promise.{Served, count_of, Seen, after_call, shows, Serves}
 use Rattle.board.proofs.Outcomes.{respond_unsupported, respond_write}
 use Rattle.board.proofs.Refusals.{outcome_number}
 use Rattle.board.proofs.Laws.{Well, well_described}
@@ -72,7 +71,7 @@ pub record Asked (a : Parts) (new : List ℕ) (d : Board) : Type 0 where
   pub replied : List ℕ
   pub serves : Serves d (take (told_written written sent).count sent) reply served ordinary trusted replied
   pub heard : Result Completion Refusal
-  pub reads : Reads (take served.length replied) heard
+  pub reads : Reads (take (count_of served.answer) replied) heard
 
 -- the board that is then held
 abbrev pub held : {a : Parts} {new : List ℕ} {d : Board} → Asked a new d → Board
@@ -240,11 +239,11 @@ module _ (a : Parts) (new : List ℕ) (d : Board) (well : WellDescribed d) (s : 
   held_is = call_holds d packet s.reply s.served s.ordinary s.trusted s.replied called
 
   -- the bytes that are read are those that the board wrote
-  taken : take s.served.length s.replied ≡ (serve d packet room).written
+  taken : take (count_of s.served.answer) s.replied ≡ (serve d packet room).written
   unfolding shows
   taken =
-      ap (take s.served.length) (ap (λ (x : Seen). x.reply) called)
-      ∙ take_at (serve d packet room).written _ s.served.length (sym (ap (λ (x : Seen). x.count) called))
+      ap (take (count_of s.served.answer)) (ap (λ (x : Seen). x.reply) called)
+      ∙ take_at (serve d packet room).written _ (count_of s.served.answer) (sym (ap (λ (x : Seen). x.count) called))
 
   read_by : Reads (serve d packet room).written s.heard
   read_by = subst (λ (x : List ℕ). Reads x s.heard) taken s.reads

@@ -10,16 +10,14 @@ use lib.ListN.{length, take, drop, replicate}
 use lib.Seq.{take_at, take-length, drop-length}
 use borrow.Author.Tests.{le-ltb}
 use Rattle.std.specs.Prelude.{Ok}
-use Rattle.answers.specs.declared.Answer.TheVariants.{Done}
 use Rattle.answers.specs.Checks.{any}
 use Rattle.asking.specs.declared.Parts.{Parts}
 use Rattle.asking.specs.Writing.{outside, whole_of, write_number, packet_of, Writes}
 use Rattle.asking.specs.Reading.{read_number, completion_of, Reads}
 use Rattle.asking.proofs.Numbers.{packet_length, served_shown}
-use Rattle.board.specs.declared.Served.{Served}
 use Rattle.board.specs.Description.{Board, WellDescribed}
 use Rattle.board.specs.Serving.{Outcome, serve}
-use Rattle.board.specs.Promise.{over, shows, Serves}
+use Rattle.board.specs.Promise.{Served, count_of, over, shows, Serves}
 use Rattle.board.proofs.Refusals.{outcome_number}
 use Rattle.circle.specs.Replies.{meant}
 use Rattle.circle.proofs.Asked.{packet_number_lem}
@@ -55,7 +53,7 @@ module _ (a : Parts) (new : List ℕ) (inside : any (outside a) ≡ false) where
     served_it = outcome_number d p 16 ∙ rw (well, packet_number_lem a new inside d.description.edition)
 
     served : Served
-    served = record { answer = Done; length = length o.written; capture = o.after.capture }
+    served = record { answer = Ok (length o.written); capture = o.after.capture }
 
     serves_it : Serves d p reply served o.after.ordinary.bytes o.after.trusted.bytes (over o.written reply)
     unfolding shows served reply
@@ -70,7 +68,7 @@ module _ (a : Parts) (new : List ℕ) (inside : any (outside a) ≡ false) where
           reply = over o.written reply;
         }
 
-    reads_it : Reads (take served.length (over o.written reply)) (Ok (completion_of o.written))
+    reads_it : Reads (take (count_of served.answer) (over o.written reply)) (Ok (completion_of o.written))
     unfolding served
     reads_it =
         let t : take (length o.written) (over o.written reply) ≡ o.written = take_at o.written (drop (length o.written) reply) _ refl in

@@ -9,7 +9,7 @@ use lib.Seq.{take-append_seam}
 use Rattle.std.specs.Prelude.{Ok}
 use Rattle.board.specs.Description.{Board, WellDescribed}
 use Rattle.board.specs.Serving.{Outcome, completer_of, serve}
-use Rattle.board.specs.Promise.{Seen, shows, Serves}
+use Rattle.board.specs.Promise.{count_of, Seen, shows, Serves}
 use Rattle.board.proofs.Keeps.{call_holds}
 use Rattle.asking.specs.declared.Parts.{Parts}
 use Rattle.asking.specs.declared.Completion.{Completion}
@@ -50,7 +50,7 @@ module _ (a : Parts) (new : List ℕ) (d : Board) (s : Asked a new d) where
   held_is : held s ≡ (serve d (packet_of a new) (length s.reply)).after
   held_is = call_holds d (packet_of a new) s.reply s.served s.ordinary s.trusted s.replied serves_it
 
-  replied_is : take s.served.length s.replied ≡ (serve d (packet_of a new) (length s.reply)).written
+  replied_is : take (count_of s.served.answer) s.replied ≡ (serve d (packet_of a new) (length s.reply)).written
   unfolding shows
   replied_is =
       ap (λ (x : Seen). take x.count x.reply) serves_it ∙ take-append_seam (serve d (packet_of a new) (length s.reply)).written _
@@ -66,11 +66,11 @@ same_again : (a : Parts) (new : List ℕ) (d : Board) (first : Asked a new d) (s
     → SameAgain a new d first second
 same_again a new d first second size =
     let e = again a new d first second size in
-    let same : take second.served.length second.replied ≡ take first.served.length first.replied =
+    let same : take (count_of second.served.answer) second.replied ≡ take (count_of first.served.answer) first.replied =
     replied_is a new (held first) second ∙ ap (λ (o : Outcome). o.written) e ∙ sym (replied_is a new d first) in
     record {
       heard =
-          read_completion_unique (take first.served.length first.replied) second.heard first.heard
+          read_completion_unique (take (count_of first.served.answer) first.replied) second.heard first.heard
           (subst (λ (c : List ℕ). Reads c second.heard) same second.reads) first.reads;
       left = held_is a new (held first) second ∙ ap (λ (o : Outcome). o.after) e ∙ sym (held_is a new d first);
     }
