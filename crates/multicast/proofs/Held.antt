@@ -11,6 +11,7 @@ use lib.Pow.{pow_mono, pow_pos}
 use lib.Dec.{eqb}
 use lib.ListN.{length}
 use Rattle.words.specs.Fields.{bit}
+use Rattle.multicast.specs.declared.Record.{Record}
 use Rattle.multicast.specs.Capability.{receive}
 use Rattle.multicast.specs.Judging.{port_at, is_member}
 use Rattle.multicast.specs.Inner.{member_bit, HoldsFrom, Spans, Gathers, SetOf}
@@ -30,7 +31,7 @@ most_down count place set t h small l =
     one_more : count - place ≡ suc (count - (place + 1))
     one_more = omega arith
 
-module _ (ports : List (List ℕ)) (entering group : ℕ) where
+module _ (ports : List Record) (entering group : ℕ) where
   pub member_entering : (k : ℕ) → k < length ports → k ≡ entering → 0 ≡ member_bit ports entering group k
   unfolding is_member
   member_entering k h e = rw (lt-ltb k (length ports) h, eq-eqb k entering e)
@@ -80,7 +81,7 @@ module _ (ports : List (List ℕ)) (entering group : ℕ) where
 
 -- ---- what is gathered
 
-module _ (ports : List (List ℕ)) (to group above : ℕ) where
+module _ (ports : List Record) (to group above : ℕ) where
   pub gathers_none : above < 2 ^ (length ports - to) → Gathers ports to to group above above
   gathers_none h = ((λ entering apart s. s), h)
 
@@ -104,20 +105,20 @@ module _ (ports : List (List ℕ)) (to group above : ℕ) where
           wide a b l m = omega arith
 
 -- a place is left out: the set above it, and a 0 for it
-module _ (ports : List (List ℕ)) (entering group set : ℕ) (h : entering < length ports) where
+module _ (ports : List Record) (entering group set : ℕ) (h : entering < length ports) where
   pub holds_entering : HoldsFrom ports entering group (entering + 1) set → HoldsFrom ports entering group entering (set * 2)
   holds_entering s =
       subst (HoldsFrom ports entering group entering) (omega arith) (holds_down ports entering group entering set 0 h (member_entering ports entering group entering h refl) s)
 
 -- ---- twice: the places above the one that is entered by, and, with a 0 for that, those below
 
-narrow : (ports : List (List ℕ)) (entering above : ℕ) → entering < length ports → length ports ≤ 32 → above < 2 ^ (length ports - (entering + 1)) → above < 2 ^ 31
+narrow : (ports : List Record) (entering above : ℕ) → entering < length ports → length ports ≤ 32 → above < 2 ^ (length ports - (entering + 1)) → above < 2 ^ 31
 narrow ports entering above h few l = wide (2 ^ (length ports - (entering + 1))) (2 ^ 31) l (pow_mono {i = length ports - (entering + 1)} {j = 31} (omega arith))
   where
     wide : (a b : ℕ) → above < a → a ≤ b → above < b
     wide a b l m = omega arith
 
-module _ (ports : List (List ℕ)) (entering group : ℕ) (h : entering < length ports) (few : length ports ≤ 32) where
+module _ (ports : List Record) (entering group : ℕ) (h : entering < length ports) (few : length ports ≤ 32) where
   pub gathered_start : group ≤ 63 → Spans ports (entering + 1) (length ports) group 0
   gathered_start small = record { ordered = omega arith; inside = le_refl (length ports); few = few; small = small; fits = pow_pos (length ports - length ports) }
 

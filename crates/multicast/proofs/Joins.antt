@@ -6,11 +6,8 @@ use native.Mathlib.Nat.{mod-eq_of_lt}
 use native.Mathlib.Omega.{arith}
 use lib.Bits.{bit_and, bit_or, and_mask, and_high, or_shifted}
 use Rattle.words.specs.Fields.{bits, bit}
+use Rattle.multicast.specs.declared.Record.{Record}
 use Rattle.multicast.specs.Capability.{half_of, long_of, record_of}
-
-pub half_joins : (low high : ℕ) → low < 256 → high < 256 → bit_or (high * 256 % 65536) low ≡ half_of low high
-half_joins low high l h =
-    ap (λ (x : ℕ). bit_or x low) (mod-eq_of_lt {n = high * 256} {m = 65536} (omega arith)) ∙ or_shifted high 8 low l ∙ omega arith
 
 pub long_joins : (low high : ℕ) → low < 4294967296 → high < 4294967296
     → bit_or (high * 4294967296 % 18446744073709551616) low ≡ long_of low high
@@ -28,7 +25,8 @@ top_bit : (n : ℕ) → n < 65536 → bit 15 n ≡ n / 32768
 top_bit n h = omega arith
 
 pub record_made : (maximum control window receive block_all : ℕ) → control < 65536
-    → (bit_and maximum 63 ∷ bit_and control 63 ∷ control / 32768 ∷ bit_and window 63 ∷ bit_and window 0xfffffffffffff000 ∷ receive ∷ block_all ∷ [])
-    ≡ record_of maximum control window receive block_all
+    → ◌≡◌ {A = Record}
+    (record { max_group = bit_and maximum 63; num_group = bit_and control 63; enable = control / 32768; index = bit_and window 63; base = bit_and window 0xfffffffffffff000; receive = receive; block_all = block_all })
+    (record_of maximum control window receive block_all)
 record_made maximum control window receive block_all h =
     rw (six_bits maximum, six_bits control, top_bit control h, six_bits window, base_bits window)

@@ -1,21 +1,14 @@
-// The walks over the lent list: whether each is a record that the reading gives, and which ports a group leaves by.
+// What is asked of each port of the lent list: whether it has a record that the reading gives, and whether a group leaves by it.
 ghost use Rattle.std.specs.Prelude.{◌≡◌, ◌≤◌, ◌<◌, length};
 ghost use Rattle.multicast.specs.Records.{are_records};
 ghost use Rattle.multicast.specs.Inner.{Spans, Gathers, SetOf};
 
-use super::{RECEIVE, Record, fields, groups};
+use crate::{Record, groups};
 
 pub(crate) fn are_records(ports: &[Record]) -> bool
     ensures { result ≡ are_records ports.now }
 {
-    let mut place = 0;
-    while place < ports.len() {
-        if !fields::is_record(ports[place]) {
-            return false;
-        }
-        place += 1;
-    }
-    true
+    ports.iter().all(|port| port.is_record())
 }
 
 // The Receive bits of the ports from one place up to another: each is put below those of the places above it, which the set has already.
@@ -27,8 +20,7 @@ fn gather(ports: &[Record], from: usize, to: usize, group: u8, above: u32) -> u3
     let mut place = to;
     while from < place {
         place -= 1;
-        let port = ports[place];
-        set = set << 1 | groups::bit_of(port[RECEIVE], group);
+        set = set << 1 | groups::bit_of(ports[place].receive, group);
     }
     set
 }
