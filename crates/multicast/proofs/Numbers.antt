@@ -6,7 +6,7 @@ use mathlib.Core.Path.{◌≡◌, sym, ap, subst, ◌∙◌}
 use native.Mathlib.Omega.{arith}
 use borrow.Author.Tests.{ne_eqb}
 use Rattle.answers.proofs.Checks.{First, Positive, gives_first, gives_one_of}
-use Rattle.std.specs.Prelude.{Result, Ok, Err}
+use Rattle.std.specs.Prelude.{Result}
 use Rattle.answers.specs.declared.Refusal.{Refusal}
 use Rattle.multicast.specs.declared.Record.{Record}
 use Rattle.multicast.specs.Capability.{CapabilityTold, tells_capability, capability_checks, capability_number, no_fields, capability_says}

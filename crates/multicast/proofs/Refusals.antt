@@ -10,7 +10,7 @@ use native.Mathlib.Omega.{arith}
 use borrow.Author.Tests.{eqb-false}
 use lib.ListN.{length}
 use Rattle.answers.specs.declared.Refusal.TheVariants.{BadDescription}
-use Rattle.std.specs.Prelude.{Result, Ok, Err}
+use Rattle.std.specs.Prelude.{Result, Err}
 use Rattle.answers.specs.declared.Refusal.{Refusal}
 use Rattle.multicast.specs.declared.Record.{Record}
 use Rattle.multicast.specs.declared.Judged.{Judged}

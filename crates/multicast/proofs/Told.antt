@@ -1,11 +1,11 @@
 -- Laws of what document 02, 8/13, says of a capability: what each test of the code tells, the number that is then given, and what is said with that number.
 -- Assumes nothing.
 use Prim.Native.Nat.{ℕ, ◌+◌}
-use mathlib.Core.Bool.{Bool, false}
+use mathlib.Core.Bool.{Bool}
 use mathlib.Core.List.{List, [], ◌∷◌}
 use mathlib.Core.Path.{◌≡◌}
 use borrow.Author.Tests.{ne_eqb}
-use lib.Dec.{eqb, leb}
+use lib.Dec.{leb}
 use Rattle.std.specs.Prelude.{Err}
 use Rattle.answers.proofs.Unique.{number_positive}
 use Rattle.answers.specs.declared.Refusal.{Refusal}

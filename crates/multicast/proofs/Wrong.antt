@@ -10,7 +10,7 @@ use native.Mathlib.Nat.{mod_self, sub-zero}
 use native.Mathlib.Omega.{arith}
 use borrow.Author.Tests.{le-leb, lt-leb, eqb-true, eqb-false}
 use lib.Pow.{pow_pos, shl-shr}
-use Rattle.std.specs.Prelude.{Result, Ok, Err}
+use Rattle.std.specs.Prelude.{Result, Ok}
 use Rattle.answers.specs.declared.Refusal.{Refusal}
 use Rattle.words.specs.Fields.{bit}
 use Rattle.multicast.specs.declared.Record.{Record}

@@ -1,6 +1,6 @@
 // The numbers of a record by shift and mask, and which of them do not go together.
 ghost use Rattle.std.specs.Prelude.{◌≡◌};
-ghost use Rattle.multicast.specs.Capability.{is_multicast, record_of, long_of, clashes};
+ghost use Rattle.multicast.specs.Capability.{is_multicast, record_of, clashes};
 ghost use Rattle.multicast.specs.Records.{is_record};
 
 use crate::Record;
@@ -24,13 +24,6 @@ pub(crate) fn is_multicast(header: u32) -> bool
     ensures { result ≡ is_multicast header }
 {
     header & 0xffff == MULTICAST && (header >> 16) & 0xf == VERSION
-}
-
-// Two words are one of 64 bits, the lower address first.
-pub(crate) fn long(low: u32, high: u32) -> u64
-    ensures { result ≡ long_of low high }
-{
-    (high as u64) << 32 | low as u64
 }
 
 // The registers at +4 and +6, of 16 bits, and those at +8, +10h and +18h, of 64.

@@ -52,5 +52,7 @@ fn long_at(space: &[u8], at: usize) -> u64
     requires { at + 8 ≤ length space.now }
     ensures { result ≡ long space.now at }
 {
-    fields::long(words::word(space, at), words::word(space, at + 4))
+    let [a, b, c, d] = words::four(space, at);
+    let [e, f, g, h] = words::four(space, at + 4);
+    u64::from_le_bytes([a, b, c, d, e, f, g, h])
 }

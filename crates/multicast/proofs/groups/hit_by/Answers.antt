@@ -13,9 +13,9 @@ unfolding is_hit
 returns-then-port-eq0 c =
     let port = c.args.port.now in
     elim c.then-port-eq0.branch [
-      then-port-eq0-via-then-port-eq0 w ↦ rw (eq-eqb (enable port) 0 w.if-port-eq0.true)
-    | then-port-eq0-via-else-port-eq0+then-address-port w ↦
-        rw (ne_eqb (enable port) 0 w.if-port-eq0.false, lt-leb (base port) c.args.address w.if-address-port.true)
+      | then-port-eq0-via-then-port-eq0 w ↦ rw (eq-eqb (enable port) 0 w.if-port-eq0.true)
+      | then-port-eq0-via-else-port-eq0+then-address-port w ↦
+          rw (ne_eqb (enable port) 0 w.if-port-eq0.false, lt-leb (base port) c.args.address w.if-address-port.true)
     ]
 
 pub overflow_shr-group : goal.overflow_shr-group

@@ -27,11 +27,11 @@ pub returns-then-ports-gt-MOST_PORTS : goal.returns-then-ports-gt-MOST_PORTS
 returns-then-ports-gt-MOST_PORTS c =
     judges_bad _ _ _
     (elim c.then-ports-gt-MOST_PORTS.branch [
-      then-ports-gt-MOST_PORTS-via-then-ports-gt-MOST_PORTS w ↦ bad_long c.args.ports.now c.args.entering w.if-ports-gt-MOST_PORTS.true
-    | then-ports-gt-MOST_PORTS-via-else-ports-gt-MOST_PORTS+then-ports-entering w ↦
-        bad_place c.args.ports.now c.args.entering w.if-ports-gt-MOST_PORTS.false w.if-ports-entering.true
-    | then-ports-gt-MOST_PORTS-via-else-ports-gt-MOST_PORTS+else-ports-entering+then-not-are_records w ↦
-        bad_record c.args.ports.now c.args.entering w.if-ports-gt-MOST_PORTS.false w.if-ports-entering.false (sym w.are_records.ensures ∙ w.if-not-are_records.true)
+      | then-ports-gt-MOST_PORTS-via-then-ports-gt-MOST_PORTS w ↦ bad_long c.args.ports.now c.args.entering w.if-ports-gt-MOST_PORTS.true
+      | then-ports-gt-MOST_PORTS-via-else-ports-gt-MOST_PORTS+then-ports-entering w ↦
+          bad_place c.args.ports.now c.args.entering w.if-ports-gt-MOST_PORTS.false w.if-ports-entering.true
+      | then-ports-gt-MOST_PORTS-via-else-ports-gt-MOST_PORTS+else-ports-entering+then-not-are_records w ↦
+          bad_record c.args.ports.now c.args.entering w.if-ports-gt-MOST_PORTS.false w.if-ports-entering.false (sym w.are_records.ensures ∙ w.if-not-are_records.true)
     ])
 
 pub hit_by-requires : goal.hit_by-requires

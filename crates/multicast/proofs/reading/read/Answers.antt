@@ -40,10 +40,10 @@ pub returns-then-space-ne-SPACE : goal.returns-then-space-ne-SPACE
 returns-then-space-ne-SPACE c =
     capability_refused c.args.space.now c.args.at BadDescription
     (elim c.then-space-ne-SPACE.branch [
-      then-space-ne-SPACE-via-then-space-ne-SPACE w ↦
-        capability_number_lem _ _ (sized_is _ (ne_eqb _ 4096 w.if-space-ne-SPACE.true)) refl refl refl refl
-    | then-space-ne-SPACE-via-else-space-ne-SPACE+then-not-placed w ↦
-        capability_number_lem _ _ (sized_is _ (eq-eqb _ 4096 w.if-space-ne-SPACE.false)) (sym w.placed.ensures ∙ w.if-not-placed.true) refl refl refl
+      | then-space-ne-SPACE-via-then-space-ne-SPACE w ↦
+          capability_number_lem _ _ (sized_is _ (ne_eqb _ 4096 w.if-space-ne-SPACE.true)) refl refl refl refl
+      | then-space-ne-SPACE-via-else-space-ne-SPACE+then-not-placed w ↦
+          capability_number_lem _ _ (sized_is _ (eq-eqb _ 4096 w.if-space-ne-SPACE.false)) (sym w.placed.ensures ∙ w.if-not-placed.true) refl refl refl
     ])
 
 pub returns-then-not-is_multicast : goal.returns-then-not-is_multicast
