@@ -25,11 +25,14 @@ module _ (d beside : Board) (p reply : List ℕ) where
   unfolding shows besides
   beside_bad_seen b = rw b
 
-  -- what the one function served, and what is then left of its spaces
-  pub beside_served : (r : Served) (o t after left_o left_t : List ℕ) → badly_described beside ≡ false → Serves d p reply r o t after
-      → left_o ≡ o → left_t ≡ t → ServesBeside d beside p reply r left_o left_t after
+  pub beside_served : (r : Served) (o t after : List ℕ) → badly_described beside ≡ false → Serves d p reply r o t after → ServesBeside d beside p reply r o t after
   unfolding besides
-  beside_served r o t after left_o left_t b e first second = rw (b, first, second) e
+  beside_served r o t after b e = rw b e
+
+-- what a function served as a board of its own, and what is then left of its spaces
+pub own_served : (d : Board) (p reply : List ℕ) (r : Served) (o t after left_o left_t : List ℕ) → Serves d p reply r o t after → left_o ≡ o
+    → left_t ≡ t → Serves d p reply r left_o left_t after
+own_served d p reply r o t after left_o left_t e first second = rw (first, second) e
 
 -- ---- the three ways through `serve`
 

@@ -1,5 +1,7 @@
 // Serving a packet on a board of two functions: one of them serves it as a board of its own, and the other is only looked at.
 ghost use Rattle.std.specs.Prelude.{◌≡◌};
+ghost use Rattle.board.specs.Description.{badly_described};
+ghost use Rattle.board.specs.Promise.{Serves};
 ghost use Rattle.pair.specs.Pair.{described, board_of, forgotten_both};
 ghost use Rattle.pair.specs.Promise.{lent_side, held_side, lent_pair, PairServes};
 ghost use Rattle.pair.specs.Inner.{ServesBeside};
@@ -21,48 +23,72 @@ impl Function {
     }
 }
 
-// One function serves the packet as a board of its own, unless the other, which is only looked at, is badly described.
-fn serve_beside(
-    edition: u32,
-    side: &mut Side,
-    beside: &mut Side,
-    packet: &[u8],
-    reply: &mut [u8],
-) -> Result<usize, Refusal>
-    ensures same_ordinary { side.new.ordinary.ghost_name ≡ side.old.ordinary.ghost_name }
-    ensures same_trusted { side.new.trusted.ghost_name ≡ side.old.trusted.ghost_name }
-    ensures same_ordinary_beside { beside.new.ordinary.ghost_name ≡ beside.old.ordinary.ghost_name }
-    ensures same_trusted_beside { beside.new.trusted.ghost_name ≡ beside.old.trusted.ghost_name }
-    ensures serves { ServesBeside (board_of edition (lent_side side.old)) (board_of edition (lent_side beside.old)) packet.now reply.old (record { answer = result; capture = side.new.capture }) side.new.ordinary.now side.new.trusted.now reply.new }
-    ensures holds { lent_side side.new ≡ held_side (lent_side side.old) side.new.capture side.new.ordinary.now side.new.trusted.now }
-    ensures holds_beside { lent_side beside.new ≡ lent_side beside.old }
-{
-    let other = Board {
-        description: beside.function.described(edition),
-        capture: beside.capture,
-        ordinary: beside.ordinary,
-        ordinary_rules: beside.ordinary_rules,
-        ordinary_marks: beside.ordinary_marks,
-        trusted: beside.trusted,
-        trusted_rules: beside.trusted_rules,
-        trusted_marks: beside.trusted_marks,
-    };
-    if other.is_badly_described() {
-        return Err(Refusal::BadDescription);
+// A board is made of a side in two places: that a method hands one out, with the two buffers that can be written lent on, isn't covered by the
+// proofs.
+impl Side<'_> {
+    // Whether it is badly described as a board of its own. It is only looked at.
+    fn is_badly_described(&mut self, edition: u32) -> bool
+        ensures same_ordinary { self.new.ordinary.ghost_name ≡ self.old.ordinary.ghost_name }
+        ensures same_trusted { self.new.trusted.ghost_name ≡ self.old.trusted.ghost_name }
+        ensures unchanged { lent_side self.new ≡ lent_side self.old }
+        ensures bad { result ≡ badly_described (board_of edition (lent_side self.old)) }
+    {
+        let board = Board {
+            description: self.function.described(edition),
+            capture: self.capture,
+            ordinary: self.ordinary,
+            ordinary_rules: self.ordinary_rules,
+            ordinary_marks: self.ordinary_marks,
+            trusted: self.trusted,
+            trusted_rules: self.trusted_rules,
+            trusted_marks: self.trusted_marks,
+        };
+        board.is_badly_described()
     }
-    let mut board = Board {
-        description: side.function.described(edition),
-        capture: side.capture,
-        ordinary: side.ordinary,
-        ordinary_rules: side.ordinary_rules,
-        ordinary_marks: side.ordinary_marks,
-        trusted: side.trusted,
-        trusted_rules: side.trusted_rules,
-        trusted_marks: side.trusted_marks,
-    };
-    let answer = board.serve(packet, reply);
-    side.capture = board.capture;
-    answer
+
+    // Serves a packet as a board of its own.
+    fn serve(&mut self, edition: u32, packet: &[u8], reply: &mut [u8]) -> Result<usize, Refusal>
+        ensures same_ordinary { self.new.ordinary.ghost_name ≡ self.old.ordinary.ghost_name }
+        ensures same_trusted { self.new.trusted.ghost_name ≡ self.old.trusted.ghost_name }
+        ensures serves { Serves (board_of edition (lent_side self.old)) packet.now reply.old (record { answer = result; capture = self.new.capture }) self.new.ordinary.now self.new.trusted.now reply.new }
+        ensures holds { lent_side self.new ≡ held_side (lent_side self.old) self.new.capture self.new.ordinary.now self.new.trusted.now }
+    {
+        let mut board = Board {
+            description: self.function.described(edition),
+            capture: self.capture,
+            ordinary: self.ordinary,
+            ordinary_rules: self.ordinary_rules,
+            ordinary_marks: self.ordinary_marks,
+            trusted: self.trusted,
+            trusted_rules: self.trusted_rules,
+            trusted_marks: self.trusted_marks,
+        };
+        let answer = board.serve(packet, reply);
+        self.capture = board.capture;
+        answer
+    }
+
+    // Serves a packet, unless the other function, which is only looked at, is badly described.
+    fn serve_beside(
+        &mut self,
+        other: &mut Side,
+        edition: u32,
+        packet: &[u8],
+        reply: &mut [u8],
+    ) -> Result<usize, Refusal>
+        ensures same_ordinary { self.new.ordinary.ghost_name ≡ self.old.ordinary.ghost_name }
+        ensures same_trusted { self.new.trusted.ghost_name ≡ self.old.trusted.ghost_name }
+        ensures same_other_ordinary { other.new.ordinary.ghost_name ≡ other.old.ordinary.ghost_name }
+        ensures same_other_trusted { other.new.trusted.ghost_name ≡ other.old.trusted.ghost_name }
+        ensures serves { ServesBeside (board_of edition (lent_side self.old)) (board_of edition (lent_side other.old)) packet.now reply.old (record { answer = result; capture = self.new.capture }) self.new.ordinary.now self.new.trusted.now reply.new }
+        ensures holds { lent_side self.new ≡ held_side (lent_side self.old) self.new.capture self.new.ordinary.now self.new.trusted.now }
+        ensures unchanged { lent_side other.new ≡ lent_side other.old }
+    {
+        if other.is_badly_described(edition) {
+            return Err(Refusal::BadDescription);
+        }
+        self.serve(edition, packet, reply)
+    }
 }
 
 // Answers a packet of any length, on spaces and a reply of any length, with how many bytes of the reply are written.
@@ -85,9 +111,9 @@ pub fn serve(
         return Err(Refusal::BadDescription);
     }
     if choosing::is_for(edition, alternate.function.number, packet) {
-        serve_beside(edition, alternate, primary, packet, reply)
+        alternate.serve_beside(primary, edition, packet, reply)
     } else {
-        serve_beside(edition, primary, alternate, packet, reply)
+        primary.serve_beside(alternate, edition, packet, reply)
     }
 }
 

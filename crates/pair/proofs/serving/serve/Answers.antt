@@ -14,13 +14,13 @@ returns-then-is_for-clause-serves c =
     let a = c.args in
     let served = c.serve_beside in
     alternate_seen (lent_pair a.edition (lent_side a.primary.now) (lent_side a.alternate.now)) a.packet.now a.reply.now
-    c.if-primary-alternate.false served.new.beside (record { answer = served.result; capture = served.new.side.capture }) _ _ _
-    (sym c.is_for.ensures ∙ c.if-is_for.true) served.ensures.holds_beside served.ensures.serves
+    c.if-primary-alternate.false served.new.other (record { answer = served.result; capture = served.new.self.capture }) _ _ _
+    (sym c.is_for.ensures ∙ c.if-is_for.true) served.ensures.unchanged served.ensures.serves
 
 pub returns-else-is_for-clause-serves : goal.returns-else-is_for-clause-serves
 returns-else-is_for-clause-serves c =
     let a = c.args in
     let served = c.serve_beside-else-is_for in
     primary_seen (lent_pair a.edition (lent_side a.primary.now) (lent_side a.alternate.now)) a.packet.now a.reply.now
-    c.if-primary-alternate.false served.new.beside (record { answer = served.result; capture = served.new.side.capture }) _ _ _
-    (sym c.is_for.ensures ∙ c.if-is_for.false) served.ensures.holds_beside served.ensures.serves
+    c.if-primary-alternate.false served.new.other (record { answer = served.result; capture = served.new.self.capture }) _ _ _
+    (sym c.is_for.ensures ∙ c.if-is_for.false) served.ensures.unchanged served.ensures.serves
