@@ -13,7 +13,6 @@ use Rattle.answers.specs.Numbers.{number_of}
 use Rattle.answers.proofs.Unique.{number_positive}
 use Rattle.packet.specs.declared.Request.{Request}
 use Rattle.packet.specs.Fields.{data_of}
-use Rattle.packet.specs.declared.Decoded.TheVariants.{Asks}
 use Rattle.packet.specs.Request.{is_trusted, number_under, request_of, DecodesUnder}
 use Rattle.packet.proofs.Laws.{offset_inside, write_long, sound_under}
 use Rattle.packet.specs.declared.Status.TheVariants.{Success, Unsupported}
@@ -97,7 +96,7 @@ module _ (d : Board) (p reply : List ℕ) where
 -- ---- a packet without a fault, on a well-described board with room for the reply
 
 module _ (d : Board) (p reply : List ℕ) (well : badly_described d ≡ false) (room : 16 ≤ length reply) (q : Request)
-    (asks : DecodesUnder d.description.edition p (Asks q)) where
+    (asks : DecodesUnder d.description.edition p (Ok q)) where
   sized : (s : Space) → WellSpace s → q.offset + 4 ≤ 4096 → Sized s q
   sized s w inside = record { whole_bytes = w.bytes; whole_rules = w.rules; whole_marks = w.marks; inside = inside }
 

@@ -57,14 +57,8 @@ impl Board<'_> {
     fn is_addressed(&self, request: Request) -> bool
         ensures { result ≡ addressed self.now.description self.now.capture request }
     {
-        match self.capture {
-            Capture::Nothing => false,
-            Capture::Number { bus, device } => {
-                request.bus == bus
-                    && request.device == device
-                    && request.function == self.description.function
-            }
-        }
+        matches!(self.capture, Capture::Number { bus, device }
+            if request.bus == bus && request.device == device && request.function == self.description.function)
     }
 
     #[tactic(auto, using(crate::proofs::Laws::unsupported_poisoned, crate::proofs::Laws::unsupported_type0, crate::proofs::Laws::unsupported_type1, crate::proofs::Laws::unsupported_trusted))]

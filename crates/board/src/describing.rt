@@ -17,10 +17,7 @@ const HIGHEST: usize = 0xffc;
 fn device_over(kept: Capture) -> bool
     ensures { result ≡ device_over kept }
 {
-    match kept {
-        Capture::Nothing => false,
-        Capture::Number { device, .. } => 31 < device,
-    }
+    matches!(kept, Capture::Number { device, .. } if 31 < device)
 }
 
 #[tactic(auto, using(crate::proofs::Laws::edition_below, crate::proofs::Laws::edition_above, crate::proofs::Laws::edition_between))]

@@ -9,7 +9,7 @@ ghost use Rattle.board.specs.Inner.{Ready, Leaves};
 use super::Board;
 use answers::Refusal;
 use capture::Capture;
-use packet::{Decoded, Request, Status};
+use packet::{Request, Status};
 
 const REPLY: usize = 16;
 
@@ -53,9 +53,7 @@ impl Board<'_> {
         if reply.len() < REPLY {
             return Err(Refusal::NoRoom);
         }
-        match packet::decode_under(self.description.edition, packet) {
-            Decoded::Refused(refusal) => Err(refusal),
-            Decoded::Asks(request) => Ok(self.respond_to(packet, request, reply)),
-        }
+        let request = packet::decode_under(self.description.edition, packet)?;
+        Ok(self.respond_to(packet, request, reply))
     }
 }

@@ -20,9 +20,9 @@ use Rattle.words.specs.Fields.{bit}
 use Rattle.words.proofs.Laws.{puts_is}
 use Rattle.packet.specs.declared.Target.{Target}
 use Rattle.packet.specs.declared.Target.TheVariants.{Type0, Type1, Trusted}
-use Rattle.packet.specs.declared.TypeCode.TheVariants.{Known, Unknown}
+use Rattle.std.specs.Prelude.{None}
 use Rattle.packet.specs.declared.Request.{Request}
-use Rattle.packet.specs.Fields.{type_code, type_of, digest}
+use Rattle.packet.specs.Fields.{known, type_code, type_of, digest}
 use Rattle.packet.specs.Request.{typed, unknown, writes_of, target_of, packet_checks, packet_number, request_of}
 use Rattle.packet.proofs.Laws.{positive, whole_is}
 use Rattle.ports.specs.declared.Port.{Port}
@@ -70,8 +70,8 @@ type1_codes code = go (eqb code 0x04) (eqb code 0x44) (eqb code 0x05) (eqb code 
     other t e f = absurd (true≢false (sym (ap is_type1 f) ∙ e))
 
     go : (a b c d e f : Bool) → eqb code 0x05 ≡ c → eqb code 0x45 ≡ d
-        → unknown (cond a (Known false Type0) (cond b (Known true Type0) (cond c (Known false Type1) (cond d (Known true Type1) (cond e (Known false Trusted) (cond f (Known true Trusted) Unknown)))))) ≡ false
-        → target_of (cond a (Known false Type0) (cond b (Known true Type0) (cond c (Known false Type1) (cond d (Known true Type1) (cond e (Known false Trusted) (cond f (Known true Trusted) Unknown)))))) ≡ Type1
+        → unknown (cond a (known false Type0) (cond b (known true Type0) (cond c (known false Type1) (cond d (known true Type1) (cond e (known false Trusted) (cond f (known true Trusted) None)))))) ≡ false
+        → target_of (cond a (known false Type0) (cond b (known true Type0) (cond c (known false Type1) (cond d (known true Type1) (cond e (known false Trusted) (cond f (known true Trusted) None)))))) ≡ Type1
         → (code ≡ 0x05) ⊎ (code ≡ 0x45)
     go true b c d e f g h u t = other Type0 refl t
     go false true c d e f g h u t = other Type0 refl t

@@ -5,7 +5,6 @@ ghost use Rattle.router.specs.Promise.{Decides, Routes};
 
 use super::{LEAVING, Verdict, passing};
 use answers::Refusal;
-use packet::Decoded;
 use ports::{Choice, Port};
 
 // The bus that a packet is for: its byte 8, and 0 where it has none. A packet that short is refused, whatever port has that bus.
@@ -39,8 +38,8 @@ pub fn decide(choice: Choice, packet: &[u8], leaving: &mut [u8]) -> Verdict
         return Verdict::Refused(Refusal::NoRoom);
     }
     match packet::decode(packet) {
-        Decoded::Refused(refusal) => Verdict::Refused(refusal),
-        Decoded::Asks(request) => passing::pass(choice, request, packet, leaving),
+        Err(refusal) => Verdict::Refused(refusal),
+        Ok(request) => passing::pass(choice, request, packet, leaving),
     }
 }
 

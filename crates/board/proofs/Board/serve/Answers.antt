@@ -1,8 +1,8 @@
 -- `Board::serve` meets its contract: the checks, lowest number first, then the request. Assumes nothing.
-use mathlib.Core.Path.{sym, ◌∙◌, subst}
+use mathlib.Core.Path.{sym, ◌∙◌}
 use lib.ListN.{length}
+use Rattle.std.proofs.lemmas.Result.{err_from_is_err_and}
 use Rattle.answers.specs.declared.Refusal.TheVariants.{BadDescription, NoRoom}
-use Rattle.packet.specs.Request.{DecodesUnder}
 use Rattle.board.specs.Promise.{lent}
 use Rattle.board.proofs.Outcomes.{refused_seen, bad_number, room_number, packet_number, ready, in_bounds, served_seen, served_leaves}
 use Rattle.board.proofs.Keeps.{serving_holds}
@@ -23,27 +23,28 @@ returns-then-reply-lt-REPLY-clause-serves c =
 pub respond_to-requires-clause-ready : goal.respond_to-requires-clause-ready
 respond_to-requires-clause-ready c =
     let a = c.args in
-    ready (lent a.self.now) a.packet.now a.reply.now (sym c.is_badly_described.ensures ∙ c.if-is_badly_described.false) c.if-reply-lt-REPLY.false _ (subst (DecodesUnder a.self.now.description.edition a.packet.now) c.in-Asks.is c.decode_under.ensures)
+    ready (lent a.self.now) a.packet.now a.reply.now (sym c.is_badly_described.ensures ∙ c.if-is_badly_described.false) c.if-reply-lt-REPLY.false _ c.in_ok-request.ensures
 
 pub respond_to-requires-clause-in_bounds : goal.respond_to-requires-clause-in_bounds
 respond_to-requires-clause-in_bounds c =
     let a = c.args in
-    in_bounds (lent a.self.now) a.packet.now a.reply.now (sym c.is_badly_described.ensures ∙ c.if-is_badly_described.false) c.if-reply-lt-REPLY.false _ (subst (DecodesUnder a.self.now.description.edition a.packet.now) c.in-Asks.is c.decode_under.ensures)
+    in_bounds (lent a.self.now) a.packet.now a.reply.now (sym c.is_badly_described.ensures ∙ c.if-is_badly_described.false) c.if-reply-lt-REPLY.false _ c.in_ok-request.ensures
 
-pub returns-in-Refused-clause-serves : goal.returns-in-Refused-clause-serves
-returns-in-Refused-clause-serves c =
+pub returns-in_err-request-clause-serves : goal.returns-in_err-request-clause-serves
+returns-in_err-request-clause-serves c =
     let a = c.args in
-    let d = lent a.self.now in
-    refused_seen d a.packet.now a.reply.now _ (packet_number d a.packet.now a.reply.now (sym c.is_badly_described.ensures ∙ c.if-is_badly_described.false) c.if-reply-lt-REPLY.false ∙ subst (DecodesUnder a.self.now.description.edition a.packet.now) c.in-Refused.is c.decode_under.ensures)
+    let e = err_from_is_err_and c.from_residual.result c.from_residual.ensures.1 in
+    rw (e.1, e.2)
+    (refused_seen (lent a.self.now) a.packet.now a.reply.now c.in_err-request.field-0.0 (packet_number (lent a.self.now) a.packet.now a.reply.now (sym c.is_badly_described.ensures ∙ c.if-is_badly_described.false) c.if-reply-lt-REPLY.false ∙ c.in_err-request.ensures))
 
-pub returns-in-Asks-clause-serves : goal.returns-in-Asks-clause-serves
-returns-in-Asks-clause-serves c =
+pub returns-clause-serves : goal.returns-clause-serves
+returns-clause-serves c =
     let a = c.args in
-    served_seen (lent a.self.now) a.packet.now a.reply.now (sym c.is_badly_described.ensures ∙ c.if-is_badly_described.false) c.if-reply-lt-REPLY.false _ (subst (DecodesUnder a.self.now.description.edition a.packet.now) c.in-Asks.is c.decode_under.ensures) (lent c.respond_to.new.self) _ _ c.respond_to.ensures.leaves
+    served_seen (lent a.self.now) a.packet.now a.reply.now (sym c.is_badly_described.ensures ∙ c.if-is_badly_described.false) c.if-reply-lt-REPLY.false _ c.in_ok-request.ensures (lent c.respond_to.new.self) _ _ c.respond_to.ensures.leaves
 
-pub returns-in-Asks-clause-holds : goal.returns-in-Asks-clause-holds
-returns-in-Asks-clause-holds c =
+pub returns-clause-holds : goal.returns-clause-holds
+returns-clause-holds c =
     let a = c.args in
     let d = lent a.self.now in
     serving_holds d a.packet.now (length a.reply.now) (lent c.respond_to.new.self)
-    (served_leaves d a.packet.now a.reply.now (sym c.is_badly_described.ensures ∙ c.if-is_badly_described.false) c.if-reply-lt-REPLY.false _ (subst (DecodesUnder a.self.now.description.edition a.packet.now) c.in-Asks.is c.decode_under.ensures) (lent c.respond_to.new.self) _ _ c.respond_to.ensures.leaves)
+    (served_leaves d a.packet.now a.reply.now (sym c.is_badly_described.ensures ∙ c.if-is_badly_described.false) c.if-reply-lt-REPLY.false _ c.in_ok-request.ensures (lent c.respond_to.new.self) _ _ c.respond_to.ensures.leaves)

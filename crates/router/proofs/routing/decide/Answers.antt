@@ -28,22 +28,22 @@ pass-requires c =
     let s = c in
     let p = s.args.packet.now in
     let b = s.args.leaving.now in
-    let d = subst (Decodes p) c.in-Asks.is c.decode.ensures in
+    let d = subst (Decodes p) c.in-Ok.is c.decode.ensures in
     record { number = d.0; request = d.1; room = c.if-leaving-lt-LEAVING.false }
 
-pub returns-in-Refused : goal.returns-in-Refused
-returns-in-Refused c =
+pub returns-in-Err : goal.returns-in-Err
+returns-in-Err c =
     let s = c in
     let p = s.args.packet.now in
     let b = s.args.leaving.now in
-    let d = subst (Decodes p) c.in-Refused.is c.decode.ensures in
-    refused_shows s.args.choice p b _ (number_positive c.in-Refused.refusal) (packet_number_lem s.args.choice p (length b) (sym c.is_bad.ensures ∙ c.if-is_bad.false) c.if-leaving-lt-LEAVING.false (λ e. number_positive c.in-Refused.refusal (sym d ∙ e)) ∙ d)
+    let d = subst (Decodes p) c.in-Err.is c.decode.ensures in
+    refused_shows s.args.choice p b _ (number_positive c.in-Err.refusal) (packet_number_lem s.args.choice p (length b) (sym c.is_bad.ensures ∙ c.if-is_bad.false) c.if-leaving-lt-LEAVING.false (λ e. number_positive c.in-Err.refusal (sym d ∙ e)) ∙ d)
 
-pub returns-in-Asks : goal.returns-in-Asks
-returns-in-Asks c =
+pub returns-in-Ok : goal.returns-in-Ok
+returns-in-Ok c =
     let s = c in
     let p = s.args.packet.now in
     let b = s.args.leaving.now in
-    let d = subst (Decodes p) c.in-Asks.is c.decode.ensures in
+    let d = subst (Decodes p) c.in-Ok.is c.decode.ensures in
     c.pass.ensures
     ∙ ap (λ (o : Outcome). shows o b) (sym (passes_decides s.args.choice p (length b) (sym c.is_bad.ensures ∙ c.if-is_bad.false) c.if-leaving-lt-LEAVING.false d.0))
