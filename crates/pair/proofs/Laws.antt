@@ -29,6 +29,11 @@ use Rattle.pair.specs.Serving.{PairOutcome, answers_as, served_by, delivered, pa
 
 -- ---- whom a packet is for
 
+pub type1_only : (target : Target) → (target ≡ Type1 → ⊥) → is_type1 target ≡ false
+type1_only Type0 n = refl
+type1_only Type1 n = absurd (n refl)
+type1_only Trusted n = refl
+
 module _ (edition number : ℕ) (p : List ℕ) where
   pub for_refused : (refusal : Refusal) → number_under edition p ≡ number_of refusal → is_for edition number p ≡ false
   unfolding is_for
@@ -38,10 +43,6 @@ module _ (edition number : ℕ) (p : List ℕ) where
       → is_for edition number p ≡ (not (is_type1 q.target) && eqb q.function number)
   unfolding is_for
   for_asked q n e = rw (eq-eqb (number_under edition p) 0 n, e)
-
-  pub for_target : (q : Request) (target : Target) → number_under edition p ≡ 0 → q ≡ request_of p → q.target ≡ target
-      → is_for edition number p ≡ (not (is_type1 target) && eqb q.function number)
-  for_target q target n e t = for_asked q n e ∙ ap (λ (x : Target). not (is_type1 x) && eqb q.function number) t
 
   -- a packet for a function has no fault, and names it
   pub for_sound : is_for edition number p ≡ true → number_under edition p ≡ 0
