@@ -44,6 +44,10 @@ module _ (edition number : ℕ) (p : List ℕ) where
   unfolding is_for
   for_asked q n e = rw (eq-eqb (number_under edition p) 0 n, e)
 
+  pub for_target : (q : Request) (target : Target) → number_under edition p ≡ 0 → q ≡ request_of p → q.target ≡ target
+      → is_for edition number p ≡ (not (is_type1 target) && eqb q.function number)
+  for_target q target n e t = for_asked q n e ∙ ap (λ (x : Target). not (is_type1 x) && eqb q.function number) t
+
   -- a packet for a function has no fault, and names it
   pub for_sound : is_for edition number p ≡ true → number_under edition p ≡ 0
   unfolding is_for
