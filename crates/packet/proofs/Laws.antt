@@ -3,13 +3,13 @@ use Prim.Native.Nat.{ℕ, ◌+◌, ◌*◌, ◌%◌, ◌<◌, ◌≤◌}
 use mathlib.Core.Bool.{Bool, true, false, not, cond, ◌&&◌, ◌||◌, and-false, false≢true}
 use mathlib.Core.List.Memᴰ
 use mathlib.Core.List.{List, [], ◌∷◌}
-use mathlib.Core.Path.{◌≡◌, refl, sym, ap, ◌∙◌}
+use mathlib.Core.Path.{◌≡◌, refl, sym, ◌∙◌}
 use native.Mathlib.Omega.{arith}
 use lib.Bits.{bit_and, and_mask}
 use lib.Dec.{eqb, ltb}
 use lib.ListN.{length}
 use Rattle.std.specs.Prelude.{None}
-use borrow.Author.Tests.{le-ltb, eq-eqb, ne_eqb, lt-ltb, eqb-true, not-false}
+use borrow.Author.Tests.{le-ltb, eq-eqb, lt-ltb, eqb-true, not-false}
 use Rattle.answers.proofs.Checks.{Positive, none_applies}
 use Rattle.words.specs.Bytes.{byte}
 use Rattle.packet.specs.declared.Access.{Access}
@@ -21,19 +21,6 @@ use Rattle.packet.specs.Inner.{KnownHeader}
 -- byte 0 without bit 7 is the type code
 pub code_is : (first k : ℕ) → bit_and first 127 ≡ k → type_code first ≡ k
 code_is first k h = omega (arith, and_mask first 7)
-
-pub type_unknown : (code : ℕ) → (code ≡ 0x04 → ⊥) → (code ≡ 0x44 → ⊥) → (code ≡ 0x05 → ⊥) → (code ≡ 0x45 → ⊥) → (code ≡ 0x1b → ⊥)
-    → (code ≡ 0x5b → ⊥) → type_of code ≡ None
-unfolding type_of
-type_unknown code a b c d e f =
-    rw (ne_eqb code 0x04 a, ne_eqb code 0x44 b, ne_eqb code 0x05 c, ne_eqb code 0x45 d, ne_eqb code 0x1b e, ne_eqb code 0x5b f)
-
--- the test that a field is not the value that it must have
-pub not_is : (a b k : ℕ) → a ≡ b → (a ≡ k → ⊥) → not (eqb b k) ≡ true
-not_is a b k e h = ap not (ne_eqb b k (λ f. h (e ∙ f)))
-
-pub is : (a b k : ℕ) → a ≡ b → a ≡ k → not (eqb b k) ≡ false
-is a b k e h = ap not (eq-eqb b k (sym e ∙ h))
 
 -- past the check 5, the check 6 decides
 pub number_past : (p : List ℕ) (access : Access) → KnownHeader p access → length p ≡ whole_length access.writes (byte p 2)

@@ -7,8 +7,7 @@ ghost use Rattle.report.specs.Listing.{compatible_entry, extended_entry, heading
 ghost use Rattle.report.specs.Inner.{kind_of, style, width, most, Added, Told, Fits, Ready, Chained};
 
 use crate::text::{Text, hex_digit};
-use answers::{Answer, Refusal};
-use lists::{EXTENDED_MAXIMUM, Kind};
+use lists::{EXTENDED_MAXIMUM, Kind, Refused};
 
 // The lists that are shown.
 #[derive(Clone, Copy)]
@@ -73,13 +72,13 @@ impl Section {
     }
 
     // A list without one.
-    fn broken(self, refusal: Refusal, fault: u16, text: &mut Text)
+    fn broken(self, refused: Refused, text: &mut Text)
         requires { Fits 27 text.old }
         ensures same_reference { text.new.bytes.ghost_name ≡ text.old.bytes.ghost_name }
-        ensures written { Added (refused_at (style self).name (number_of refusal) fault) text.old text.new }
+        ensures written { Added (refused_at (style self).name (number_of refused.refusal) refused.place) text.old text.new }
     {
         text.append(self.name());
-        text.refused_at(refusal, fault as usize);
+        text.refused_at(refused.refusal, refused.place as usize);
     }
 
     // The list of a space.
@@ -89,13 +88,10 @@ impl Section {
         ensures written { Told (Part (style self) space.now) (most self) text.old text.new }
     {
         let mut room = [0u16; EXTENDED_MAXIMUM];
-        let walked = lists::walk(Kind::from(self), space, &mut room);
-        let answer = walked.answer;
-        let Answer::Refused(refusal) = answer else {
-            let count = walked.count;
-            return self.listed(space, &room[..count], text);
-        };
-        self.broken(refusal, walked.place, text);
+        match lists::walk(Kind::from(self), space, &mut room) {
+            Ok(count) => self.listed(space, &room[..count], text),
+            Err(refused) => self.broken(refused, text),
+        }
     }
 }
 

@@ -94,7 +94,7 @@ AtMostOnce = (row : List Router) (p end : List ℕ) → Way row p end → (Unalt
 
 abbrev pub WhatLeavesIsWritten : Type 0
 WhatLeavesIsWritten =
-    (ports : List Port) (p buffer : List ℕ) (place count : ℕ) (after : List ℕ) → Routes ports p buffer (Leaves place count) after
+    (ports : List Port) (p buffer : List ℕ) (place count : ℕ) (after : List ℕ) → Routes ports p buffer (Ok (Leaves place count)) after
     → Written ports p buffer count after
 
 -- ---- what leaves, by whether it turns

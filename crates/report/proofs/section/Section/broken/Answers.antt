@@ -8,5 +8,5 @@ use Rattle.report.proofs.section.Section.broken.Goals as goal
 
 pub returns-clause-written : goal.returns-clause-written
 returns-clause-written c =
-    named_refused_at (style c.args.self).name (number_of c.args.refusal) (name_length c.args.self) c.args.fault c.requires
+    named_refused_at (style c.args.self).name (number_of c.args.refused.refusal) (name_length c.args.self) c.args.refused.place c.requires
     (added_as c.name.ensures c.append.ensures.written) c.refused_at.ensures.written

@@ -6,18 +6,15 @@ use Rattle.report.proofs.section.Section.write.Goals as goal
 
 pub listed-requires : goal.listed-requires
 listed-requires c =
-    let walk = c.walk-walked in
-    walked_chained c.args.self c.args.text.now c.requires.0 (λ at. omega (arith, c.type_inv.space at)) c.requires.1 refl c.from.ensures walk.ensures walk.auto.room
-    c.in_default.is
+    walked_chained c.args.self c.args.text.now c.requires.0 (λ at. omega (arith, c.type_inv.space at)) c.requires.1 refl c.from.ensures c.walk.ensures c.walk.auto.room
+    c.in-Ok.is
 
-pub returns-in_default-clause-written : goal.returns-in_default-clause-written
-returns-in_default-clause-written c =
-    let walk = c.walk-walked in
-    walked_listed c.args.self c.args.text.now c.requires.0 (λ at. omega (arith, c.type_inv.space at)) c.requires.1 refl c.from.ensures walk.ensures walk.auto.room
-    c.in_default.is c.listed.ensures.written
+pub returns-in-Ok-clause-written : goal.returns-in-Ok-clause-written
+returns-in-Ok-clause-written c =
+    walked_listed c.args.self c.args.text.now c.requires.0 (λ at. omega (arith, c.type_inv.space at)) c.requires.1 refl c.from.ensures c.walk.ensures c.walk.auto.room
+    c.in-Ok.is c.listed.ensures.written
 
-pub returns-clause-written : goal.returns-clause-written
-returns-clause-written c =
-    let walk = c.walk-walked in
-    walked_broken c.args.self c.args.text.now c.requires.0 (λ at. omega (arith, c.type_inv.space at)) c.requires.1 refl c.from.ensures walk.ensures walk.auto.room
-    c.in-Refused.is c.broken.ensures.written
+pub returns-in-Err-clause-written : goal.returns-in-Err-clause-written
+returns-in-Err-clause-written c =
+    walked_broken c.args.self c.args.text.now c.requires.0 (λ at. omega (arith, c.type_inv.space at)) c.requires.1 refl c.from.ensures c.walk.ensures c.walk.auto.room
+    c.in-Err.is c.broken.ensures.written
