@@ -1,35 +1,43 @@
 # docs/ENTRIES.md and the sources say the same of every public entry: it has a row; its contract has no `requires` and promises one thing, the
 # definition that the row names, applied to what was lent and what came back; and the theorem that the row names speaks of two results that
-# meet that definition. An entry is a `pub fn` of a crate's lib.rt (a method as Type::name), or one that lib.rt hands on by `pub use`.
+# meet that definition. An entry is a `pub fn` of a crate's lib.rt, one that lib.rt hands on by `pub use`, or a `pub fn` of a type in any file, as
+# Type::name. What a trait asks of a type (==, From) promises what the trait's laws say, and has no row.
 work=$(mktemp -d) || exit 2
 trap 'rm -rf "$work"' EXIT
+
+# The type of an `impl` line, without its lifetimes and parameters.
+type_of='function type_of(line) { sub(/^impl(<[^>]*>)? /, "", line); sub(/[< ].*/, "", line); return line "::" }'
 
 entries() { # CRATE: a line 'NAME FILE' for each entry
     lib=crates/$1/src/lib.rt
     [ -f "$lib" ] || return
-    awk -v c="$1" '/^impl /{t=$2"::"} /^}/{t=""} /^ *pub( extern "C")? fn /{sub(/^ *pub( extern "C")? fn /,""); sub(/[<(].*/,""); print c"::"t $0, FILENAME}' "$lib"
+    awk -v c="$1" -v lib="$lib" "$type_of"' /^impl/{t=type_of($0)} /^}/{t=""}
+        /^ *pub( extern "C")? fn / && (t != "" || FILENAME == lib) {sub(/^ *pub( extern "C")? fn /,""); sub(/[<(].*/,""); print c"::"t $0, FILENAME}' crates/"$1"/src/*.rt
     sed -nE 's/^pub use ([a-z_]+)::([a-z_]+);$/\1 \2/p; s/^pub use ([a-z_]+)::\{([a-z_, ]+)\};$/\1 \2/p' "$lib" | while read -r module names; do
         for name in ${names//,/ }; do echo "$1::$name crates/$1/src/$module.rt"; done
     done
 }
 
-# What another crate could call and this page would not see: a public module, a handed-on glob or renaming, a method outside lib.rt.
+# What another crate could call and this page would not see: a public module or trait, a handed-on glob or renaming.
 unseen() { # CRATE
     lib=crates/$1/src/lib.rt
     [ -f "$lib" ] || return
     grep -nE '^pub (mod|use) ' "$lib" | grep -vE '^[0-9]+:pub use [a-z_]+::([a-z_]+|[A-Z_]+|\{[a-z_]+(, [a-z_]+)*\}|\{[A-Z_]+(, [A-Z_]+)*\});$' | sed "s|^|$lib: |"
-    for file in crates/"$1"/src/*.rt; do
-        [ "$file" = "$lib" ] || awk '/^impl /{t=1} /^}/{t=0} t && /^ *pub( extern "C")? fn /{print FILENAME": a public method outside lib.rt: "$0}' "$file"
-    done
+    grep -nE '^pub trait ' crates/"$1"/src/*.rt /dev/null | sed 's/$/: a public trait/'
 }
 
 clauses() { # FILE NAME: from the signature of NAME, which may be Type::name, up to its body
-    awk -v n="$2" '/^impl /{t=$2"::"} /^}/{t=""} {line=$0; if (sub(/^ *pub( extern "C")? fn /,"",line) && sub(/[<(].*/,"",line) && t line == n) on=1}
+    awk -v n="$2" "$type_of"' /^impl/{t=type_of($0)} /^}/{t=""} {line=$0; if (sub(/^ *pub( extern "C")? fn /,"",line) && sub(/[<(].*/,"",line) && t line == n) on=1}
         on && /^ *\{$/ {exit} on {print}' "$1"
 }
 
 buffers() { # MARK, clauses on standard input: the names of the parameters that are lent by & or &mut, of any type
-    tr '\n' ' ' | sed 's/ requires .*//; s/ ensures .*//' | grep -oE "[a-z_]+: &('[a-z]+ )?$1" | sed 's/:.*//'
+    tr '\n' ' ' | sed 's/ requires .*//; s/ ensures .*//' | grep -oE "[a-z_]+: &('[a-z]+ )?$1|[(, ]&('[a-z]+ )?${1}self\b" | sed -E 's/:.*//; s/.*self/self/'
+}
+
+# How many of what a method of a type can write is behind a &mut of its fields: 1 where it has none of these.
+fields() { # CRATE TYPE::NAME
+    awk -v t="${2%%::*}" '$0 ~ "^pub struct " t "[<; {]" {on=1} /^}/{on=0} on && /&.[a-z]* mut /{n++} END{print n > 0 ? n : 1}' crates/"$1"/src/*.rt
 }
 
 parameters() { # clauses on standard input: the name of every parameter
@@ -39,13 +47,14 @@ parameters() { # clauses on standard input: the name of every parameter
 gives() { tr '\n' ' ' | sed -E 's/ (requires|ensures)( [a-z_]+)? \{.*//' | grep -q -e '->'; } # clauses on standard input: there is a result
 
 # says NAME WHEN: the promise has what is lent under this name, at this time: .now behind a &, .old and .new behind a &mut
-says() { printf '%s\n' "$promise" | grep -qE "(^|[ (])«?$1»?\.$2([ )]|\$)"; }
+says() { printf '%s\n' "$promise" | grep -qE "(^|[ (])«?$1»?\.$2([ )]|\$)" || { [ "$1" = self ] && printf '%s\n' "$promise" | grep -qE "(^|[ (])self\.$2\."; }; }
 
 # The promise is DEFINITION of something, or that the result, or what it tells, is that: nothing beside it, and nothing around it; and it
-# speaks of every buffer as it was lent, and of every one that can be written as it is left.
+# speaks of every buffer as it was lent, and of every one that can be written as it is left. A struct's field that keeps the caller's own &mut is
+# said to keep it in a clause of its own, and what a struct is lent and no call changes in another: these two are no promise of an answer.
 promises() { # DEFINITION, clauses on standard input
     cat >"$work/clauses"
-    text=$(tr '\n' ' ' <"$work/clauses" | sed -E 's/  +/ /g')
+    text=$(tr '\n' ' ' <"$work/clauses" | sed -E 's/  +/ /g; s/ ensures same_([a-z_]+) \{ self\.new\.\1\.ghost_name ≡ self\.old\.\1\.ghost_name \}//g')
     case $text in *requires*) echo "it has a requires" && return ;; esac
     case $text in *'ensures*'* | *' ghost '*) echo "it has a clause of another kind" && return ;; esac
     [ "$(printf '%s' "$text" | grep -o 'ensures' | wc -l)" -eq 1 ] || { echo "it has $(printf '%s' "$text" | grep -o 'ensures' | wc -l) promises, and not one" && return; }
@@ -122,7 +131,8 @@ check() { # [CRATE]: what is wrong with all crates, or with this one, a line eac
             [ -z "$why" ] || echo "$entry: $why"
             why=$(brings "$file" "${promise%%:*}" "${promise#*: }")
             [ -z "$why" ] || echo "$entry: $why"
-            wanted=$(clauses "$file" "${entry#*::}" | buffers 'mut ' | wc -l)
+            wanted=$(clauses "$file" "${entry#*::}" | buffers 'mut ' | grep -vc '^self$')
+            clauses "$file" "${entry#*::}" | buffers 'mut ' | grep -q '^self$' && wanted=$((wanted + $(fields "$crate" "${entry#*::}")))
             clauses "$file" "${entry#*::}" | gives && wanted=$((wanted + 1))
             [ "$wanted" -gt 0 ] || echo "$entry: it gives nothing and can write nothing, so it promises nothing"
             why=$(statement "crates/${theorem%%:*}.antt" "${theorem#*: }" | speaks "${promise#*: }" "$wanted")

@@ -4,4 +4,3 @@ pub mod Told
 pub mod Numbers
 pub mod Unique
 pub mod Traps
-pub mod NotOne

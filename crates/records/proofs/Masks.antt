@@ -1,6 +1,6 @@
 -- Laws of fields and tests, as the code computes them: masks, and the tail of a list of facts. Assumes nothing.
 use Prim.Native.Nat.{ℕ, ◌+◌, ◌/◌, ◌%◌, ◌≤◌, ◌<◌}
-use mathlib.Core.Bool.{Bool, true, false, ◌&&◌, ◌||◌}
+use mathlib.Core.Bool.{Bool, true, false, ◌&&◌}
 use mathlib.Core.List.{List}
 use mathlib.Core.Path.{◌≡◌, refl, ◌∙◌}
 use native.Mathlib.Omega.{arith}
@@ -21,10 +21,6 @@ top_twelve n h = omega arith
 pub and_true : (b : Bool) → b ≡ b && true
 and_true true = refl
 and_true false = refl
-
-pub or_false : (b : Bool) → b ≡ b || false
-or_false true = refl
-or_false false = refl
 
 -- a whole number of words is read as it stands, also past the end, where both are 0
 word_aligned : (s : List ℕ) (at : ℕ) → length s ≡ 4096 → at % 4 ≡ 0 → word_or_zero s at ≡ word s at

@@ -7,8 +7,7 @@ ghost use Rattle.report.specs.Listing.{compatible_entry, extended_entry, heading
 ghost use Rattle.report.specs.Inner.{kind_of, style, width, most, Added, Told, Fits, Ready, Chained, Roomed};
 
 use crate::text;
-use answers::{Answer, Refusal};
-use lists::Kind;
+use lists::{Kind, Refused};
 
 // The lists that are shown.
 #[derive(Clone, Copy)]
@@ -111,12 +110,12 @@ fn listed(section: Section, space: &[u8], text: &mut [u8], place: usize, offsets
 }
 
 // A list without one.
-fn broken(section: Section, text: &mut [u8], place: usize, refusal: Refusal, fault: u16) -> usize
+fn broken(section: Section, text: &mut [u8], place: usize, refused: Refused) -> usize
     requires { Fits 27 text.old place }
-    ensures { Added (refused_at (style section).name (number_of refusal) fault) text.old place result text.new }
+    ensures { Added (refused_at (style section).name (number_of refused.refusal) refused.place) text.old place result text.new }
 {
     let named = name(section, text, place);
-    text::refused_at(text, named, refusal, fault as usize)
+    text::refused_at(text, named, refused.refusal, refused.place as usize)
 }
 
 // The list of a space, walked in a room of its maximum.
@@ -130,11 +129,8 @@ pub(crate) fn write(
     requires { Roomed section space.now room.old text.old place }
     ensures { Told (Part (style section) space.now) (most section) text.old place result text.new }
 {
-    let walked = lists::walk(kind(section), space, room);
-    let answer = walked.answer;
-    let Answer::Refused(refusal) = answer else {
-        let count = walked.count;
-        return listed(section, space, text, place, &room[..count]);
-    };
-    broken(section, text, place, refusal, walked.place)
+    match lists::walk(kind(section), space, room) {
+        Ok(count) => listed(section, space, text, place, &room[..count]),
+        Err(refused) => broken(section, text, place, refused),
+    }
 }

@@ -1,14 +1,11 @@
 -- What the functions that are exported for a test host promise: the promises of `asking`, with a host's numbers in the place of enums. Assumes nothing.
-use Rattle.std.specs.Prelude.{ℕ, zero, suc, List, [], ◌∷◌, ◌≡◌}
+use Rattle.std.specs.Prelude.{ℕ, zero, suc, List, [], ◌∷◌, ◌≡◌, Result, Ok, Err, get_or}
+use Rattle.answers.specs.declared.Refusal.{Refusal}
 use Rattle.answers.specs.Numbers.{number_of}
 use Rattle.asking.specs.declared.Parts.{Parts}
-use Rattle.asking.specs.declared.Written.{Written}
-use Rattle.asking.specs.declared.Written.TheVariants as written
 use Rattle.asking.specs.declared.Said.{Said}
 use Rattle.asking.specs.declared.Said.TheVariants.{Shown, Done, Unsupported}
 use Rattle.asking.specs.declared.Completion.{Completion}
-use Rattle.asking.specs.declared.Heard.{Heard}
-use Rattle.asking.specs.declared.Heard.TheVariants as heard
 use Rattle.asking.specs.Writing.{SeenWritten, shows_written}
 use Rattle.asking.specs.Reading.{read_number, completion_of}
 use Rattle.tester.specs.declared.HostParts.{HostParts}
@@ -33,9 +30,9 @@ abbrev pub data_by : HostParts → List ℕ
 data_by p = p.first ∷ p.second ∷ p.third ∷ p.fourth ∷ []
 
 -- what was written, as a host is told it
-abbrev pub told_written : Written → HostWritten
-told_written (written.Bytes count) = record { length = count; number = 0 }
-told_written (written.Refused refusal) = record { length = 0; number = number_of refusal }
+abbrev pub told_written : Result ℕ Refusal → HostWritten
+told_written (Ok count) = record { length = count; number = 0 }
+told_written (Err refusal) = record { length = 0; number = number_of refusal }
 
 -- what a host sees after a call: the result, and the lent buffer
 pub record HostSees : Type 0 where
@@ -72,7 +69,7 @@ told_fields c said first second third fourth =
 
 -- 1 success with data, 2 success without, 3 UR
 abbrev pub told_by_said : Completion → Said → HostHeard
-told_by_said c (Shown first second third fourth) = told_fields c 1 first second third fourth
+told_by_said c (Shown four) = told_fields c 1 (get_or four 0 0) (get_or four 1 0) (get_or four 2 0) (get_or four 3 0)
 told_by_said c Done = told_fields c 2 0 0 0 0
 told_by_said c Unsupported = told_fields c 3 0 0 0 0
 
@@ -96,9 +93,9 @@ nothing_heard n =
       fourth = 0;
     }
 
-abbrev pub told_heard : Heard → HostHeard
-told_heard (heard.Says completion) = told_completion completion
-told_heard (heard.Refused refusal) = nothing_heard (number_of refusal)
+abbrev pub told_heard : Result Completion Refusal → HostHeard
+told_heard (Ok completion) = told_completion completion
+told_heard (Err refusal) = nothing_heard (number_of refusal)
 
 -- by its number: the completion, or the refusal
 abbrev pub heard_by : ℕ → List ℕ → HostHeard

@@ -14,17 +14,17 @@ returns-in_default c =
 pub returns-in-Type0 : goal.returns-in-Type0
 returns-in-Type0 c =
     let a = c.args in
-    let asks = subst (DecodesUnder a.edition a.packet.now) c.in-Asks.is c.decode_under.ensures in
+    let asks = subst (DecodesUnder a.edition a.packet.now) c.in-Ok.is c.decode_under.ensures in
     sym (for_target a.edition a.number a.packet.now _ _ asks.0 asks.1 c.in-Type0.is)
 
 pub returns-in-Type1 : goal.returns-in-Type1
 returns-in-Type1 c =
     let a = c.args in
-    let asks = subst (DecodesUnder a.edition a.packet.now) c.in-Asks.is c.decode_under.ensures in
+    let asks = subst (DecodesUnder a.edition a.packet.now) c.in-Ok.is c.decode_under.ensures in
     sym (for_target a.edition a.number a.packet.now _ _ asks.0 asks.1 c.in-Type1.is)
 
 pub returns-in-Trusted : goal.returns-in-Trusted
 returns-in-Trusted c =
     let a = c.args in
-    let asks = subst (DecodesUnder a.edition a.packet.now) c.in-Asks.is c.decode_under.ensures in
+    let asks = subst (DecodesUnder a.edition a.packet.now) c.in-Ok.is c.decode_under.ensures in
     sym (for_target a.edition a.number a.packet.now _ _ asks.0 asks.1 c.in-Trusted.is)

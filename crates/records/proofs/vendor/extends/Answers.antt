@@ -1,23 +1,21 @@
--- `records::vendor::extends` meets its contract: the facts are tested in order. Assumes nothing.
+-- `records::vendor::extends` meets its contract: each of the facts is tested. Assumes nothing.
 use Prim.Native.Nat.{◌+◌}
+use native.Mathlib.Omega.{arith}
 use borrow.Author.Tests.{le-leb, lt-leb}
-use lib.Dec.{leb}
+use Rattle.std.proofs.lemmas.Grind.{common_steps}
 use Rattle.records.specs.DvsecRule.{extends}
-use Rattle.records.proofs.Masks.{and_true}
+use Rattle.records.proofs.vendor.extends.Goals.{then-at-le-SPACE, else-at-le-SPACE}
 use Rattle.records.proofs.vendor.extends.Goals as goal
 
-pub returns-then-at-gt-SPACE : goal.returns-then-at-gt-SPACE
+pub returns-then-length-ge-BODY : goal.returns-then-length-ge-BODY
 unfolding extends
-returns-then-at-gt-SPACE c = rw (lt-leb (c.args.at + 0x0a) 0x1000 c.if-at-gt-SPACE.true)
+returns-then-length-ge-BODY c = grind (arith, common_steps)
 
-pub returns-then-length-lt-BODY : goal.returns-then-length-lt-BODY
+pub returns-else-length-ge-BODY : goal.returns-else-length-ge-BODY
 unfolding extends
-returns-then-length-lt-BODY c =
+returns-else-length-ge-BODY c =
     let a = c.args in
-    rw (le-leb (a.at + 0x0a) 0x1000 c.if-at-gt-SPACE.false, lt-leb 0x0a a.length c.if-length-lt-BODY.true)
-
-pub returns : goal.returns
-unfolding extends
-returns c =
-    let a = c.args in
-    rw (le-leb (a.at + 0x0a) 0x1000 c.if-at-gt-SPACE.false, le-leb 0x0a a.length c.if-length-lt-BODY.false) (and_true (leb (a.at + a.length) 0x1000))
+    elim c.if-at-le-SPACE.branch [
+      | then-at-le-SPACE w ↦ rw (w.t-4-is, le-leb (a.at + 0x0a) 0x1000 w.if-at-le-SPACE.true, lt-leb 0x0a a.length (omega (arith, c.if-length-ge-BODY.either)))
+      | else-at-le-SPACE w ↦ grind (arith, common_steps)
+    ]

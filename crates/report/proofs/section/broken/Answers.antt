@@ -13,5 +13,5 @@ refused_at-requires c =
 
 pub returns : goal.returns
 returns c =
-    named_refused_at (style c.args.section).name (number_of c.args.refusal) (name_length c.args.section) c.args.fault c.requires
+    named_refused_at (style c.args.section).name (number_of c.args.refused.refusal) (name_length c.args.section) c.args.refused.place c.requires
     c.name-named.ensures c.refused_at.ensures
