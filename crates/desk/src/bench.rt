@@ -44,6 +44,11 @@ impl Bench {
             subordinate: 0,
             tcs: 0,
         };
+        let structure = Structure {
+            id: 0,
+            version: 0,
+            length: 0,
+        };
         Bench {
             desk: Desk::new(),
             board: Board::new(0, 0, 0),
@@ -52,7 +57,7 @@ impl Bench {
             reply: [UNWRITTEN; REPLY],
             ports: List::alike(port, 0),
             records: List::alike([0; 7], 0),
-            structures: List::alike([0; 3], 0),
+            structures: List::alike(structure, 0),
             proposal: List::alike(UNTOUCHED, 0),
         }
     }

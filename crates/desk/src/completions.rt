@@ -7,14 +7,14 @@ use crate::tokens::Tokens;
 use crate::vocabulary::Word;
 use crate::{explaining, judging, packets, say};
 use answers::Refusal;
-use asking::{Completion, Heard, Said};
+use asking::{Completion, Said};
 use std::fmt;
 use std::fmt::{Display, Formatter};
 
 // Says whether this is a check that was right.
 pub fn ask(bench: &mut Bench, tokens: Tokens) -> bool {
     packets::take_bytes(bench, tokens);
-    let heard = hear(bench.sent());
+    let heard = asking::read_completion(bench.sent());
     if tokens.is_check() && judge(&bench.desk, tokens, heard) {
         return true;
     }
@@ -28,16 +28,9 @@ pub fn ask(bench: &mut Bench, tokens: Tokens) -> bool {
     false
 }
 
-fn hear(bytes: &[u8]) -> Result<Completion, Refusal> {
-    match asking::read_completion(bytes) {
-        Heard::Says(completion) => Ok(completion),
-        Heard::Refused(refusal) => Err(refusal),
-    }
-}
-
 // What is read back in the reply of a board; nothing where there is no reply.
 pub fn tell_reply(reply: &[u8]) {
-    if let Ok(completion) = hear(reply) {
+    if let Ok(completion) = asking::read_completion(reply) {
         tell(completion);
     }
 }
@@ -77,7 +70,7 @@ fn judge(desk: &Desk, tokens: Tokens, heard: Result<Completion, Refusal>) -> boo
 
 fn word_of(said: Said) -> Word {
     match said {
-        Said::Shown(_, _, _, _) => Word::Shown,
+        Said::Shown(_) => Word::Shown,
         Said::Done => Word::Done,
         Said::Unsupported => Word::Unsupported,
     }
@@ -88,10 +81,7 @@ fn judge_completion(desk: &Desk, tokens: Tokens, completion: Completion) -> bool
     let requester = [completion.requester.high, completion.requester.low];
     let tag = [completion.tag];
     match completion.said {
-        Said::Shown(first, second, third, fourth) => {
-            let shown = [first, second, third, fourth];
-            judge_fields(desk, tokens, &completer, &requester, &tag, &shown)
-        }
+        Said::Shown(shown) => { judge_fields(desk, tokens, &completer, &requester, &tag, &shown) }
         Said::Done | Said::Unsupported => judge_fields(
             desk,
             tokens,

@@ -6,7 +6,7 @@ use crate::say;
 use crate::saying::Bytes;
 use crate::spaces::{self, Part};
 use answers::Refusal;
-use packet::{Decoded, Request, Target};
+use packet::{Request, Target};
 use reasons::Cause;
 use std::fmt;
 use std::fmt::{Display, Formatter};
@@ -74,7 +74,7 @@ pub fn put_asking_refusal(refusal: Refusal) {
 pub fn packet(bench: &Bench, outcome: Outcome) {
     let packet = bench.sent();
     put_answer(&bench.board, outcome.answer, packet);
-    if let Decoded::Asks(asked) = packet::decode_under(bench.board.edition(), packet) {
+    if let Ok(asked) = packet::decode_under(bench.board.edition(), packet) {
         put_request(asked, packet);
         put_reply(&bench.board, asked, bench.reply, outcome.length());
     }
@@ -128,7 +128,7 @@ fn tell_twice(board: &Board, role: crate::boards::Role, part: Part) {
 // Why a board gives 4: for bit 7, unless the type is unknown without it too.
 fn unknown_type(packet: &[u8]) -> &'static str {
     match packet::decode(packet) {
-        Decoded::Refused(Refusal::UnknownType) => meaning_of(Refusal::UnknownType),
+        Err(Refusal::UnknownType) => meaning_of(Refusal::UnknownType),
         _ => BIT_7,
     }
 }
@@ -204,16 +204,17 @@ fn reason_of(board: &Board, asked: Request) -> &'static str {
         function.capture(),
         asked,
     ) {
-        Cause::Type1 => "unsupported request (UR): a Type 1 request",
+        Some(Cause::Type1) => "unsupported request (UR): a Type 1 request",
         _ if is_for_neither(board, asked.function) =>
             "unsupported request (UR): a request for neither function, which the primary answers",
-        Cause::Supported => "unsupported request (UR): none",
-        Cause::OtherFunction => "unsupported request (UR): a Type 0 request for another function",
-        Cause::NothingCaptured =>
+        None => "unsupported request (UR): none",
+        Some(Cause::OtherFunction) =>
+            "unsupported request (UR): a Type 0 request for another function",
+        Some(Cause::NothingCaptured) =>
             "unsupported request (UR): a trusted request while nothing is captured",
-        Cause::OtherAddress =>
+        Some(Cause::OtherAddress) =>
             "unsupported request (UR): a trusted request that does not name the captured bus and device and the board's function",
-        Cause::PoisonedWrite => "unsupported request (UR): a poisoned write",
+        Some(Cause::PoisonedWrite) => "unsupported request (UR): a poisoned write",
     }
 }
 

@@ -3,22 +3,19 @@ use crate::routing::Routed;
 use crate::saying::Bytes;
 use crate::{explaining, say};
 use answers::Refusal;
-use packet::{Decoded, Request, Target};
+use packet::{Request, Target};
+use router::Verdict;
 
 pub fn tell(packet: &[u8], routed: Routed, buffer: &[u8]) {
     match packet::decode(packet) {
-        Decoded::Refused(_) => put_number(routed, explaining::meaning_of(Refusal::UnknownType)),
-        Decoded::Asks(asked) => {
+        Err(_) => put_number(routed, explaining::meaning_of(Refusal::UnknownType)),
+        Ok(asked) => {
             put_number(routed, barred(asked));
             explaining::put_request(asked, packet);
         }
     }
-    if let Ok(Some(leaving)) = routed {
-        put_leaving(
-            packet,
-            leaving.port,
-            buffer.get(..leaving.length).unwrap_or(&[]),
-        );
+    if let Ok(Verdict::Leaves { port, length }) = routed {
+        put_leaving(packet, port, buffer.get(..length).unwrap_or(&[]));
     }
 }
 
@@ -34,8 +31,8 @@ fn barred(asked: Request) -> &'static str {
 // The number and what it means at the switch, with the meaning of a 4.
 fn put_number(routed: Routed, four: &str) {
     let meaning = match routed {
-        Ok(Some(_)) => "routed",
-        Ok(None) => "unsupported request (UR): no port has this bus",
+        Ok(Verdict::Leaves { .. }) => "routed",
+        Ok(Verdict::Unsupported) => "unsupported request (UR): no port has this bus",
         Err(Refusal::BadDescription) =>
             "badly described: more than 32 ports, a secondary over its subordinate, or two ranges that meet",
         Err(Refusal::NoRoom) => "no room: the buffer for what leaves has fewer than 20 bytes",

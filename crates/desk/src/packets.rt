@@ -22,16 +22,6 @@ pub struct Outcome {
 }
 
 impl Outcome {
-    fn of(answer: Answer, length: usize, kept: Captures) -> Outcome {
-        Outcome {
-            answer: match answer {
-                Answer::Done => Ok(length),
-                Answer::Refused(refusal) => Err(refusal),
-            },
-            kept: Kept::of(kept),
-        }
-    }
-
     // How many bytes the reply has.
     pub fn length(self) -> usize {
         self.answer.unwrap_or(0)
@@ -62,8 +52,9 @@ pub fn send(bench: &mut Bench) -> Outcome {
     let packet = bench.packet;
     let sent = packet.get(..bench.sent).unwrap_or(&packet);
     let room = bench.desk.room.min(REPLY);
+    let is_pair = bench.board.is_pair;
     let reply = &mut bench.reply[..room];
-    if bench.board.is_pair {
+    if is_pair {
         serve_both(&mut bench.board, sent, reply)
     } else {
         serve(&mut bench.board, sent, reply)
@@ -74,23 +65,25 @@ pub fn send(bench: &mut Bench) -> Outcome {
 fn serve(board: &mut Board, packet: &[u8], reply: &mut [u8]) -> Outcome {
     let edition = board.edition();
     let one = &mut board.primary;
-    let served = board::serve(
-        describe(one, edition),
-        one.capture(),
-        one.ordinary.bytes.lent_mut(),
-        one.ordinary.rules.lent(),
-        one.ordinary.marks.lent(),
-        one.trusted.bytes.lent_mut(),
-        one.trusted.rules.lent(),
-        one.trusted.marks.lent(),
-        packet,
-        reply,
-    );
+    let mut lent = board::Board {
+        description: describe(one, edition),
+        capture: one.capture(),
+        ordinary: one.ordinary.bytes.lent_mut(),
+        ordinary_rules: one.ordinary.rules.lent(),
+        ordinary_marks: one.ordinary.marks.lent(),
+        trusted: one.trusted.bytes.lent_mut(),
+        trusted_rules: one.trusted.rules.lent(),
+        trusted_marks: one.trusted.marks.lent(),
+    };
+    let answer = lent.serve(packet, reply);
     let kept = Captures {
-        primary: served.capture,
+        primary: lent.capture,
         alternate: Capture::Nothing,
     };
-    Outcome::of(served.answer, served.length, kept)
+    Outcome {
+        answer,
+        kept: Kept::of(kept),
+    }
 }
 
 fn serve_both(board: &mut Board, packet: &[u8], reply: &mut [u8]) -> Outcome {
@@ -118,7 +111,13 @@ fn serve_both(board: &mut Board, packet: &[u8], reply: &mut [u8]) -> Outcome {
         packet,
         reply,
     );
-    Outcome::of(served.answer, served.length, served.kept)
+    Outcome {
+        answer: match served.answer {
+            Answer::Done => Ok(served.length),
+            Answer::Refused(refusal) => Err(refusal),
+        },
+        kept: Kept::of(served.kept),
+    }
 }
 
 pub fn describe(function: &Function, edition: u32) -> Description {

@@ -6,14 +6,14 @@ use crate::structures::Proposal;
 use crate::tokens::Tokens;
 use crate::walking::{self, ROOM, UNTOUCHED};
 use crate::{explaining, judging, say, unlaid};
-use answers::{Answer, Refusal};
-use layout::{ID, LENGTH, Structure, VERSION};
+use answers::Refusal;
+use layout::Structure;
 
 // A proposal is kept. Says whether this is a check that was right.
 pub fn plan(desk: &Desk, tokens: Tokens, list: &[Structure], proposal: &mut Proposal) -> bool {
     let mut room = [UNTOUCHED; ROOM];
     let lent = desk.room.min(ROOM);
-    let answer = result_of(layout::plan(list, &mut room[..lent]));
+    let answer = layout::plan(list, &mut room[..lent]);
     let count = if answer.is_ok() { list.len() } else { 0 };
     if answer.is_ok() {
         *proposal = List::of(room, count);
@@ -30,13 +30,6 @@ pub fn plan(desk: &Desk, tokens: Tokens, list: &[Structure], proposal: &mut Prop
         Err(refusal) => unlaid::tell(refusal, list, &[], lent),
     }
     false
-}
-
-pub fn result_of(answer: Answer) -> Result<(), Refusal> {
-    match answer {
-        Answer::Done => Ok(()),
-        Answer::Refused(refusal) => Err(refusal),
-    }
 }
 
 // A number, and what it means of a question about a new board, with the meaning of a 0.
@@ -56,16 +49,16 @@ pub fn put_number(answer: Result<(), Refusal>, done: &str) {
 fn tell_placed(list: &[Structure], room: &[u16]) {
     for (structure, offset) in list.iter().zip(room) {
         let offset = *offset;
-        let id = structure[ID];
-        let version = structure[VERSION];
-        let length = structure[LENGTH];
+        let id = structure.id;
+        let version = structure.version;
+        let length = structure.length;
         say!("  {offset:03X}: ID {id:04X} version {version:X} length {length:X}\n");
     }
 }
 
 // The proposal that is kept is looked at. Says whether this is a check that was right.
 pub fn accept(desk: &Desk, tokens: Tokens, list: &[Structure], proposed: &[u16]) -> bool {
-    let answer = result_of(layout::check(list, proposed));
+    let answer = layout::check(list, proposed);
     if tokens.is_check() && judging::number(desk, tokens, answers::number(&answer)) {
         return true;
     }

@@ -6,18 +6,13 @@ use crate::tokens::Tokens;
 use crate::vocabulary::Word;
 use crate::{explaining, judging, say};
 use answers::Refusal;
-use records::{Alternate, DualRead, DvsecHeader, DvsecRead};
+use records::{Alternate, DvsecHeader};
 
 pub fn ask_dvsec(desk: &Desk, tokens: Tokens, space: &[u8]) -> bool {
     let at = tokens.number(2);
     match records::dvsec(space, at) {
-        DvsecRead::Refused(refusal) => refused(desk, tokens, Word::Header, refusal),
-        DvsecRead::Found(header) => header_found(
-            desk,
-            tokens,
-            header,
-            records::dvsec_body(space, at),
-        ),
+        Err(refusal) => refused(desk, tokens, Word::Header, refusal),
+        Ok(header) => header_found(desk, tokens, header, records::dvsec_body(space, at)),
     }
 }
 
@@ -49,8 +44,8 @@ fn header_found(desk: &Desk, tokens: Tokens, header: DvsecHeader, body: &[u8]) -
 // A Dual-BDF record has no body.
 pub fn ask_dual(desk: &Desk, tokens: Tokens, space: &[u8]) -> bool {
     match records::dual_bdf(space, tokens.number(2)) {
-        DualRead::Refused(refusal) => refused(desk, tokens, Word::Alternate, refusal),
-        DualRead::Found(alternate) => alternate_found(desk, tokens, alternate),
+        Err(refusal) => refused(desk, tokens, Word::Alternate, refusal),
+        Ok(alternate) => alternate_found(desk, tokens, alternate),
     }
 }
 

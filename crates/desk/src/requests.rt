@@ -8,7 +8,7 @@ use crate::tokens::Tokens;
 use crate::vocabulary::Word;
 use crate::{completions, explaining, judging, say};
 use answers::Refusal;
-use asking::{Parts, Written};
+use asking::Parts;
 use packet::Id;
 
 // The bytes of the buffer for a request, more than any has.
@@ -49,10 +49,7 @@ fn write(bench: &mut Bench, tokens: Tokens) -> Result<usize, Refusal> {
     bench.packet = [UNWRITTEN; PACKET];
     let room = bench.desk.room.min(REQUEST);
     bench.desk.room = usize::MAX;
-    match asking::write_request(parts_of(tokens), data_of(tokens), &mut bench.packet[..room]) {
-        Written::Bytes(length) => Ok(length),
-        Written::Refused(refusal) => Err(refusal),
-    }
+    asking::write_request(parts_of(tokens), data_of(tokens), &mut bench.packet[..room])
 }
 
 fn parts_of(tokens: Tokens) -> Parts {

@@ -6,21 +6,13 @@ use crate::tokens::Tokens;
 use crate::vocabulary::Word;
 use crate::{judging, leaving, packets};
 use answers::Refusal;
-use ports::{Choice, Port};
 use router::Verdict;
 
 // The bytes of the buffer for what leaves, more than any packet has.
 const LEAVING: usize = 24;
 
-// What leaves: by which port, and how many bytes.
-#[derive(Clone, Copy)]
-pub struct Leaving {
-    pub port: u8,
-    pub length: usize,
-}
-
-// What became of a packet, or why it was not routed; nothing leaves where no port has its bus.
-pub type Routed = Result<Option<Leaving>, Refusal>;
+// What became of a packet, or why it was not routed.
+pub type Routed = Result<Verdict, Refusal>;
 
 // Says whether this is a check that was right.
 pub fn ask(bench: &mut Bench, tokens: Tokens) -> bool {
@@ -28,8 +20,7 @@ pub fn ask(bench: &mut Bench, tokens: Tokens) -> bool {
     packets::take_bytes(bench, tokens);
     let packet = bench.sent();
     let room = bench.desk.room.min(LEAVING);
-    let choice = choose(bench.ports.items(), router::bus_of(packet));
-    let routed = routed_of(router::decide(choice, packet, &mut buffer[..room]));
+    let routed = router::route(bench.ports.items(), packet, &mut buffer[..room]);
     if tokens.is_check() && judge(&bench.desk, tokens, routed, &buffer) {
         return true;
     }
@@ -37,28 +28,11 @@ pub fn ask(bench: &mut Bench, tokens: Tokens) -> bool {
     false
 }
 
-// The port that has a bus: all are noted, in their order.
-fn choose(list: &[Port], bus: u8) -> Choice {
-    let mut survey = ports::begin(bus);
-    for port in list {
-        survey = ports::note(survey, *port);
-    }
-    ports::conclude(survey)
-}
-
-fn routed_of(verdict: Verdict) -> Routed {
-    match verdict {
-        Verdict::Leaves { port, length } => Ok(Some(Leaving { port, length })),
-        Verdict::Unsupported => Ok(None),
-        Verdict::Refused(refusal) => Err(refusal),
-    }
-}
-
 // The number, the port, and what leaves at the front of its buffer, with the rest untouched.
 fn judge(desk: &Desk, tokens: Tokens, routed: Routed, buffer: &[u8]) -> bool {
     let (port, length) = match routed {
-        Ok(Some(leaving)) => (Some(leaving.port as usize), leaving.length),
-        Ok(None) | Err(_) => (None, 0),
+        Ok(Verdict::Leaves { port, length }) => (Some(port as usize), length),
+        Ok(Verdict::Unsupported) | Err(_) => (None, 0),
     };
     let answered = judging::number(desk, tokens, answers::number(&routed));
     let chosen = judging::perhaps(desk, "port", port, wanted_port(tokens));

@@ -178,15 +178,15 @@ pub fn wanted(before: &Board, tokens: Tokens) -> Board {
 
 // Two boards, and what is told of a word in which they differ: that it changes, or that it is not as expected.
 #[derive(Clone, Copy)]
-pub struct Compared<'a> {
-    pub one: &'a Board,
-    pub other: &'a Board,
-    pub judged: Option<&'a Desk>,
+struct Compared<'a, 'b, 'c> {
+    one: &'a Board,
+    other: &'b Board,
+    judged: Option<&'c Desk>,
 }
 
-impl Compared<'_> {
+impl Compared<'_, '_, '_> {
     // Tells every word in which the boards differ. Says whether there are any.
-    pub fn tell(self) -> bool {
+    fn tell(self) -> bool {
         let mut differ = false;
         for role in self.one.in_order() {
             differ |= self.tell_function(role);

@@ -33,11 +33,12 @@ pub fn put_more(structures: &mut Structures, numbers: Tokens) -> Result<(), Wron
 
 // The three numbers from a place on, whether a structure may have them or not.
 fn structure_at(numbers: Tokens, place: usize) -> Structure {
-    [
-        numbers.short(place),
-        numbers.short(place.wrapping_add(1)),
-        numbers.short(place.wrapping_add(2)),
-    ]
+    let three = numbers.from(place);
+    Structure {
+        id: three.short(0),
+        version: three.short(1),
+        length: three.short(2),
+    }
 }
 
 // A proposal in the place of the last one.

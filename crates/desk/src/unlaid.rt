@@ -1,7 +1,7 @@
 // Why nothing is proposed for the structures of a new board, and why a proposal is not accepted: the first of the causes, in words.
 use crate::say;
 use answers::Refusal;
-use layout::{ID, LENGTH, MOST, Structure, VERSION};
+use layout::{MOST, Structure};
 use std::fmt;
 use std::fmt::{Display, Formatter};
 
@@ -81,13 +81,13 @@ fn tell_faulty(list: &[Structure]) {
 }
 
 fn fault_of(structure: &Structure) -> Option<Fault> {
-    if structure[ID] == 0 {
+    if structure.id == 0 {
         return Some(Fault::NoId);
     }
-    if 15 < structure[VERSION] {
+    if 15 < structure.version {
         return Some(Fault::Version);
     }
-    match structure[LENGTH] {
+    match structure.length {
         0..=3 => Some(Fault::Short),
         4..=3840 => None,
         _ => Some(Fault::Long),
@@ -98,7 +98,7 @@ fn fault_of(structure: &Structure) -> Option<Fault> {
 fn needed(list: &[Structure]) -> usize {
     let mut bytes = 0;
     for structure in list {
-        bytes = rounded_up(bytes).wrapping_add(structure[LENGTH] as usize);
+        bytes = rounded_up(bytes).wrapping_add(structure.length as usize);
     }
     bytes
 }
@@ -128,7 +128,7 @@ fn tell_broken(rule: Rule, list: &[Structure], proposed: &[u16]) -> bool {
     let mut end = 0;
     for (place, (structure, offset)) in list.iter().zip(proposed).enumerate() {
         let at = *offset as usize;
-        let ends = at + structure[LENGTH] as usize;
+        let ends = at + structure.length as usize;
         let limit = match rule {
             Rule::First | Rule::Aligned => 0,
             Rule::Rising => before,

@@ -4,8 +4,8 @@ use crate::desks::Desk;
 use crate::tokens::Tokens;
 use crate::vocabulary::Word;
 use crate::{explaining, judging, say};
-use answers::{Answer, Refusal};
-use lists::{Kind, Walked};
+use answers::Refusal;
+use lists::{Kind, Refused};
 
 // More entries than any list may have headers, and the entry that fills a room before a walk.
 pub const ROOM: usize = 1030;
@@ -22,6 +22,9 @@ fn kind_asked(tokens: Tokens) -> Kind {
     }
 }
 
+// How many offsets are listed, or why none is.
+type Walked = Result<usize, Refused>;
+
 // A list is walked in the space where it lies. Says whether this is a check that was right.
 pub fn ask(desk: &Desk, tokens: Tokens, space: &[u8]) -> bool {
     let mut room = [UNTOUCHED; ROOM];
@@ -35,14 +38,16 @@ pub fn ask(desk: &Desk, tokens: Tokens, space: &[u8]) -> bool {
     false
 }
 
-// The number; the place; the room.
+// The number; the place, which is 0 where it is not said; the room.
 fn judge(desk: &Desk, tokens: Tokens, walked: Walked, room: &Room) -> bool {
-    let answer = walked.answer;
-    // A place that is not said is 0.
-    let place = tokens.expected(Word::Place).number(0);
-    let number = judging::number(desk, tokens, answer.number());
-    let told = judging::value(desk, "place", walked.place as usize, place);
-    number & told & judge_room(desk, tokens, walked.count, room)
+    let (number, place, count) = match walked {
+        Ok(count) => (0, 0, count),
+        Err(refused) => (refused.refusal.number(), refused.place, 0),
+    };
+    let wanted = tokens.expected(Word::Place).number(0);
+    let answered = judging::number(desk, tokens, number);
+    let told = judging::value(desk, "place", place as usize, wanted);
+    answered & told & judge_room(desk, tokens, count, room)
 }
 
 // So many offsets: those that are expected one by one, and then so many by steps; the rest of the room is untouched.
@@ -92,23 +97,22 @@ fn step(room: &mut Room, steps: Tokens) {
 
 // The number; where it is 0 the headers that were listed, and where the list is broken the place.
 fn tell(kind: Kind, space: &[u8], walked: Walked, room: &Room) {
-    let answer = walked.answer;
-    match answer {
-        Answer::Done => {
-            let count = walked.count;
+    match walked {
+        Ok(count) => {
             explaining::put_number(0, explaining::ANSWERED);
             say!("  listed: {count:X}\n");
             tell_headers(kind, space, room, count);
         }
-        Answer::Refused(refusal) => {
-            explaining::put_refusal(refusal);
-            tell_place(refusal, walked.place);
+        Err(refused) => {
+            explaining::put_refusal(refused.refusal);
+            tell_place(refused);
         }
     }
 }
 
-fn tell_place(refusal: Refusal, place: u16) {
-    match refusal {
+fn tell_place(refused: Refused) {
+    let place = refused.place;
+    match refused.refusal {
         Refusal::BelowFloor | Refusal::ComesBack if place == 0 => {
             say!("  place 0: the start of the list itself\n");
         }
@@ -141,8 +145,7 @@ fn tell_headers(kind: Kind, space: &[u8], room: &Room, count: usize) {
 // The extended list of a space, as the listing shows it.
 pub fn tell_listing(space: &[u8]) {
     let mut room = [UNTOUCHED; ROOM];
-    let walked = lists::walk(Kind::Extended, space, &mut room);
-    let count = walked.count;
+    let count = lists::walk(Kind::Extended, space, &mut room).unwrap_or(0);
     say!("extended {count}\n");
     for offset in room.iter().take(count) {
         let offset = *offset;
