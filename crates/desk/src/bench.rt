@@ -23,7 +23,7 @@ pub const MOST_RECORDS: usize = 33;
 
 pub const MOST_STRUCTURES: usize = 961;
 
-#[derive(Clone, Copy)]
+#[derive(Drop)]
 pub struct Bench {
     pub desk: Desk,
     pub board: Board,

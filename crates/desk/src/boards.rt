@@ -4,7 +4,6 @@ use crate::spaces::{Buffer, Part, Space};
 use crate::tokens::Tokens;
 use crate::vocabulary::Word;
 use capture::Capture;
-use pair::Captures;
 use std::fmt;
 use std::fmt::{Display, Formatter};
 
@@ -50,10 +49,10 @@ pub struct Kept {
 }
 
 impl Kept {
-    pub fn of(captures: Captures) -> Kept {
+    pub fn of(primary: Capture, alternate: Capture) -> Kept {
         Kept {
-            primary: Address::of(captures.primary),
-            alternate: Address::of(captures.alternate),
+            primary: Address::of(primary),
+            alternate: Address::of(alternate),
         }
     }
 
@@ -217,13 +216,6 @@ impl Board {
         Kept {
             primary: self.primary.captured,
             alternate: self.alternate.captured,
-        }
-    }
-
-    pub fn captures(&self) -> Captures {
-        Captures {
-            primary: self.primary.capture(),
-            alternate: self.alternate.capture(),
         }
     }
 

@@ -38,9 +38,10 @@ pub fn tell_reply(reply: &[u8]) {
 fn tell(completion: Completion) {
     say!("  reads: ");
     match completion.said {
-        Said::Shown(first, second, third, fourth) => say!(
-            "success with data {first:02X} {second:02X} {third:02X} {fourth:02X}"
-        ),
+        Said::Shown(shown) => {
+            let data = Bytes(&shown);
+            say!("success with data{data}");
+        }
         Said::Done => say!("success without data"),
         Said::Unsupported => say!("UR"),
     }

@@ -34,25 +34,19 @@ pub fn said(desk: &Desk, found: Option<Word>, wanted: Option<Word>) -> bool {
 // The answer number, the only one in decimal: the expected one was read as its digits.
 pub fn number(desk: &Desk, tokens: Tokens, found: u8) -> bool {
     let digits = tokens.expected(Word::Number).byte(0);
-    let tens = digits / 16 % 10;
-    same(desk, "number", found, 10 * tens + digits % 16)
+    same(desk, "number", found, 10 * (digits / 16) + digits % 16)
 }
 
 // The bytes of a buffer, one by one, up to the first that is another.
 pub fn bytes(desk: &Desk, what: &str, found: &[u8], wanted: &[u8]) -> bool {
-    let Some(at) = found
-        .iter()
-        .zip(wanted)
-        .position(|(is, should)| is != should)
-    else {
-        return true;
-    };
-    let (Some(is), Some(should)) = (found.get(at), wanted.get(at)) else {
-        return true;
-    };
-    desk.begin_difference();
-    say!("{what} {at:X} is {is:02X}, expected {should:02X}\n");
-    false
+    for (at, (is, should)) in found.iter().zip(wanted).enumerate() {
+        if is != should {
+            desk.begin_difference();
+            say!("{what} {at:X} is {is:02X}, expected {should:02X}\n");
+            return false;
+        }
+    }
+    true
 }
 
 // The first of some words that is expected.

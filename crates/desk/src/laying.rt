@@ -32,7 +32,7 @@ pub fn ask(bench: &mut Bench, tokens: Tokens, part: Part) -> Result<bool, Wrong>
 // The writer is lent a space of the board, as far as the desk says.
 fn write(bench: &mut Bench, part: Part) -> Result<(), Refusal> {
     let space = bench.board.at_hand_mut().buffer_mut(part).lent_mut();
-    planning::result_of(layout::write(bench.structures.items(), bench.proposal.items(), space))
+    layout::write(bench.structures.items(), bench.proposal.items(), space)
 }
 
 // The number, and every byte.

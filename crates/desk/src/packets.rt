@@ -9,10 +9,10 @@ use crate::saying::Bytes;
 use crate::tokens::Tokens;
 use crate::vocabulary::Word;
 use crate::{judging, say, spaces};
-use answers::{Answer, Refusal};
+use answers::Refusal;
 use board::Description;
 use capture::Capture;
-use pair::Captures;
+use pair::{Captures, Side};
 
 // What became of a packet: how many bytes of the reply are written, or why none is; and what is captured then.
 #[derive(Clone, Copy)]
@@ -76,47 +76,33 @@ fn serve(board: &mut Board, packet: &[u8], reply: &mut [u8]) -> Outcome {
         trusted_marks: one.trusted.marks.lent(),
     };
     let answer = lent.serve(packet, reply);
-    let kept = Captures {
-        primary: lent.capture,
-        alternate: Capture::Nothing,
-    };
-    Outcome {
-        answer,
-        kept: Kept::of(kept),
-    }
+    let kept = Kept::of(lent.capture, Capture::Nothing);
+    Outcome { answer, kept }
 }
 
 fn serve_both(board: &mut Board, packet: &[u8], reply: &mut [u8]) -> Outcome {
     let edition = board.edition();
-    let captures = board.captures();
-    let one = &mut board.primary;
-    let other = &mut board.alternate;
-    let served = pair::serve(
-        edition,
-        function_of(one),
-        function_of(other),
-        captures,
-        one.ordinary.bytes.lent_mut(),
-        one.ordinary.rules.lent(),
-        one.ordinary.marks.lent(),
-        one.trusted.bytes.lent_mut(),
-        one.trusted.rules.lent(),
-        one.trusted.marks.lent(),
-        other.ordinary.bytes.lent_mut(),
-        other.ordinary.rules.lent(),
-        other.ordinary.marks.lent(),
-        other.trusted.bytes.lent_mut(),
-        other.trusted.rules.lent(),
-        other.trusted.marks.lent(),
-        packet,
-        reply,
-    );
-    Outcome {
-        answer: match served.answer {
-            Answer::Done => Ok(served.length),
-            Answer::Refused(refusal) => Err(refusal),
+    let mut primary = side_of(&mut board.primary);
+    let mut alternate = side_of(&mut board.alternate);
+    let answer = pair::serve(edition, &mut primary, &mut alternate, packet, reply);
+    let kept = Kept::of(primary.capture, alternate.capture);
+    Outcome { answer, kept }
+}
+
+fn side_of(function: &mut Function) -> Side<'_> {
+    Side {
+        function: pair::Function {
+            number: function.number,
+            a: function.a,
+            b: function.b,
         },
-        kept: Kept::of(served.kept),
+        capture: function.capture(),
+        ordinary: function.ordinary.bytes.lent_mut(),
+        ordinary_rules: function.ordinary.rules.lent(),
+        ordinary_marks: function.ordinary.marks.lent(),
+        trusted: function.trusted.bytes.lent_mut(),
+        trusted_rules: function.trusted.rules.lent(),
+        trusted_marks: function.trusted.marks.lent(),
     }
 }
 
@@ -126,14 +112,6 @@ pub fn describe(function: &Function, edition: u32) -> Description {
         a: function.a,
         b: function.b,
         edition,
-    }
-}
-
-fn function_of(function: &Function) -> pair::Function {
-    pair::Function {
-        number: function.number,
-        a: function.a,
-        b: function.b,
     }
 }
 
@@ -206,7 +184,11 @@ fn wanted_capture(board: &Board, tokens: Tokens) -> Option<Address> {
 
 // A reset is asked for. What is expected of one function is expected of both.
 pub fn reset(bench: &mut Bench, tokens: Tokens) -> bool {
-    let kept = Kept::of(pair::reset(bench.board.captures()));
+    let captures = pair::reset(Captures {
+        primary: bench.board.primary.capture(),
+        alternate: bench.board.alternate.capture(),
+    });
+    let kept = Kept::of(captures.primary, captures.alternate);
     let right = answer_reset(bench, tokens, kept);
     bench.board.keep(kept);
     right

@@ -71,19 +71,14 @@ pub fn judge_room(desk: &Desk, tokens: Tokens, count: usize, room: &Room) -> boo
 
 // Tells the first entry that is another.
 fn judge_entries(desk: &Desk, room: &Room, wanted: &Room) -> bool {
-    let Some(entry) = room
-        .iter()
-        .zip(wanted)
-        .position(|(is, should)| is != should)
-    else {
-        return true;
-    };
-    let (Some(is), Some(should)) = (room.get(entry), wanted.get(entry)) else {
-        return true;
-    };
-    desk.begin_difference();
-    say!("room entry {entry:X} is {is:04X}, expected {should:04X}\n");
-    false
+    for (entry, (is, should)) in room.iter().zip(wanted).enumerate() {
+        if is != should {
+            desk.begin_difference();
+            say!("room entry {entry:X} is {is:04X}, expected {should:04X}\n");
+            return false;
+        }
+    }
+    true
 }
 
 // So many offsets: the first, and each the one before it with a step added.
