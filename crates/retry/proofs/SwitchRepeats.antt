@@ -8,10 +8,9 @@ use lib.Dec.{eqb}
 use lib.ListN.{length, take}
 use borrow.Author.Tests.{eqb-true}
 use Rattle.answers.specs.Numbers.{number_of}
-use Rattle.board.specs.declared.Served.{Served}
 use Rattle.board.specs.Description.{Board}
 use Rattle.board.specs.Serving.{serve}
-use Rattle.board.specs.Promise.{Seen, shows}
+use Rattle.board.specs.Promise.{Served, Seen, shows}
 use Rattle.runs.specs.Run as run
 use Rattle.runs.specs.Run.{packet}
 use Rattle.runs.specs.Calls as calling

@@ -4,9 +4,8 @@
 use Rattle.std.specs.Prelude.{ℕ, Bool, true, ◌&&◌, cond, List, [], Ok, Err, eqb, length, take}
 use Rattle.answers.specs.Numbers.{number_of}
 use Rattle.board.specs.Description.{Board}
-use Rattle.board.specs.declared.Served.{Served}
 use Rattle.board.specs.Serving.{serve}
-use Rattle.board.specs.Promise.{Serves}
+use Rattle.board.specs.Promise.{Served, Serves}
 use Rattle.ports.specs.declared.Port.{Port}
 use Rattle.router.specs.declared.Verdict.TheVariants.{Leaves, Unsupported}
 use Rattle.router.specs.Promise.{Routed, Routes}
