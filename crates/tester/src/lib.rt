@@ -65,12 +65,9 @@ impl From<Result<usize, Refusal>> for HostWritten {
     ghost from_gives = { λ written told. told ≡ told_written written };
 
     fn from(written: Result<usize, Refusal>) -> HostWritten {
-        match written {
-            Ok(length) => HostWritten { length, number: 0 },
-            Err(refusal) => HostWritten {
-                length: 0,
-                number: refusal.number(),
-            },
+        HostWritten {
+            length: written.unwrap_or(0),
+            number: answers::number(&written),
         }
     }
 }
