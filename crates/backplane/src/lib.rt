@@ -10,7 +10,7 @@ use answers::Refusal;
 use ports::{Choice, Port};
 use router::Verdict;
 
-// The number; and where `leaves` is 1, the port's place in the list and how many bytes leave by it. All else is 0.
+// The number; and where `leaves` is 1, the port's place in the list and how many bytes leave by it. All else is 0. (C has no enum with values.)
 #[repr(C)]
 #[derive(Clone, Copy, Default)]
 pub struct HostRouted {

@@ -1,5 +1,5 @@
 // The checker: whether a proposal of offsets is accepted, in one pass over them.
-ghost use Rattle.std.specs.Prelude.{◌≡◌};
+ghost use Rattle.std.specs.Prelude.{◌≡◌, ◌≤◌};
 ghost use Rattle.layout.specs.Accepting.{Checks};
 ghost use Rattle.layout.specs.Structures.{extent};
 ghost use Rattle.layout.specs.Inner.{may_stand, accepts};
@@ -22,10 +22,11 @@ pub fn check(structures: &[Structure], offsets: &[u16]) -> Result<(), Refusal>
 
 impl Structure {
     // Whether it may stand at an offset: a multiple of 4, where all before it have ended, and it ends by 1000h.
-    fn may_stand(self, ended: usize, at: u16) -> bool
+    fn may_stand(self, ended: usize, at: usize) -> bool
+        requires { at ≤ 0xffff }
         ensures { result ≡ may_stand ended (extent self) at }
     {
-        at.is_multiple_of(4) && ended <= usize::from(at) && self.ends_at(at) <= words::SPACE
+        at.is_multiple_of(4) && ended <= at && self.ends_at(at) <= words::SPACE
     }
 }
 
@@ -37,11 +38,12 @@ fn accepts(structures: &[Structure], offsets: &[u16]) -> bool
         return false;
     }
     let mut ended = usize::from(START);
-    for (structure, at) in structures.iter().zip(offsets) {
-        if !structure.may_stand(ended, *at) {
+    for (structure, offset) in structures.iter().zip(offsets) {
+        let at = usize::from(*offset);
+        if !structure.may_stand(ended, at) {
             return false;
         }
-        ended = structure.ends_at(*at);
+        ended = structure.ends_at(at);
     }
     true
 }

@@ -27,7 +27,7 @@ pub fn plan(structures: &[Structure], room: &mut [u16]) -> Result<(), Refusal>
 fn fit(structures: &[Structure]) -> bool
     ensures { result ≡ fits_from 0x100 structures.now }
 {
-    let mut at = START;
+    let mut at = usize::from(START);
     for structure in structures {
         if words::SPACE < structure.ends_at(at) {
             return false;
@@ -41,9 +41,9 @@ fn propose(structures: &[Structure], room: &mut [u16])
     requires { (length structures.now ≤ length room.old) × (fits_from 0x100 structures.now ≡ true) }
     ensures { room.new ≡ packed_from 0x100 structures.now ++ drop (length structures.now) room.old }
 {
-    let mut at = START;
+    let mut at = usize::from(START);
     for (place, structure) in structures.iter().enumerate() {
-        room[place] = at;
+        room[place] = at as u16;
         at += structure.rounded_up();
     }
 }

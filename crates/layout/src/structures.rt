@@ -23,18 +23,18 @@ impl Structure {
     }
 
     // Where it ends if it stands at an offset: the first byte behind it.
-    pub(crate) fn ends_at(self, at: u16) -> usize
+    pub(crate) fn ends_at(self, at: usize) -> usize
+        requires { at ≤ 0xffff }
         ensures { result ≡ at + extent self }
     {
-        usize::from(at) + usize::from(self.length)
+        at + usize::from(self.length)
     }
 
     // Its length rounded up to 4.
-    pub(crate) fn rounded_up(self) -> u16
-        requires { extent self ≤ 0xfffc }
+    pub(crate) fn rounded_up(self) -> usize
         ensures { result ≡ rounded_up (extent self) }
     {
-        self.length.next_multiple_of(4)
+        usize::from(self.length).next_multiple_of(4)
     }
 }
 

@@ -5,6 +5,7 @@
 ghost use Rattle.std.specs.Prelude.{◌≡◌};
 ghost use Rattle.offload.specs.Judges.{HostReads, told_judged, HostJudges};
 
+use answers::Refusal;
 use multicast::{Judged, Record};
 
 // What becomes of a packet: the verdict is 0 where the number says that it is refused, 1 no hit, 2 dropped, 3 leaves.
@@ -22,36 +23,34 @@ pub struct HostJudged {
 pub extern "C" fn thawribbon_multicast(space: &[u8], at: usize, groups: &mut Record) -> u8
     ensures { HostReads space.now at groups.old result groups.new }
 {
-    let capability = multicast::read(space, at);
-    let answer = capability.answer;
-    let fields = capability.fields;
-    *groups = fields;
-    answer.number()
+    let read = multicast::read(space, at);
+    *groups = read.unwrap_or_default();
+    answers::number(&read)
 }
 
-fn told_judged(judged: Judged) -> HostJudged
+fn told_judged(judged: Result<Judged, Refusal>) -> HostJudged
     ensures { result ≡ told_judged judged }
 {
     match judged {
-        Judged::Refused(refusal) => HostJudged {
+        Err(refusal) => HostJudged {
             ports: 0,
             number: refusal.number(),
             verdict: 0,
             group: 0,
         },
-        Judged::NoHit => HostJudged {
+        Ok(Judged::NoHit) => HostJudged {
             ports: 0,
             number: 0,
             verdict: 1,
             group: 0,
         },
-        Judged::Dropped { group } => HostJudged {
+        Ok(Judged::Dropped { group }) => HostJudged {
             ports: 0,
             number: 0,
             verdict: 2,
             group,
         },
-        Judged::Leaves { group, ports } => HostJudged {
+        Ok(Judged::Leaves { group, ports }) => HostJudged {
             ports,
             number: 0,
             verdict: 3,

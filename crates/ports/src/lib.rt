@@ -18,7 +18,7 @@ pub use choosing::choose;
 pub const MOST: u8 = 32;
 
 // A port: the buses behind it, from its secondary to its subordinate, both included, and whether it supports TCS routing: 0 says that it
-// does not, any other value that it does.
+// does not, any other value that it does. (No bool: C may store any byte there.)
 #[repr(C)]
 #[derive(Clone, Copy)]
 pub struct Port {

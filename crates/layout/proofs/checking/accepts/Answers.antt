@@ -23,13 +23,13 @@ pub returns-then-not-may_stand : goal.returns-then-not-may_stand
 returns-then-not-may_stand c =
     let l = c.loop-structure in
     let s = c.in-Some.ensures.steps in
-    stands_not l.ended s.0 s.1 (sym c.may_stand.ensures ∙ c.if-not-may_stand.true) ∙ l.invariant.1
+    stands_not l.ended s.0 s.1 (sym (rw c.from-at.ensures at c.may_stand.ensures) ∙ c.if-not-may_stand.true) ∙ l.invariant.1
 
 pub loop-structure-preserved : goal.loop-structure-preserved
 loop-structure-preserved c =
     let l = c.loop-structure in
     let s = c.in-Some.ensures.steps in
-    let on = stands_on l.ended s.0 s.1 (sym c.may_stand.ensures ∙ c.if-not-may_stand.false) ∙ l.invariant.1 in
+    let on = stands_on l.ended s.0 s.1 (sym (rw c.from-at.ensures at c.may_stand.ensures) ∙ c.if-not-may_stand.false) ∙ l.invariant.1 in
     (omega (arith, l.invariant.0, ap length s.0, ap length s.1), cc)
 
 pub returns : goal.returns

@@ -4,8 +4,8 @@ use native.Mathlib.Omega.{arith}
 use Rattle.layout.proofs.Steps.{fits_on, fitting, packed_here, packed_on, packed_length, proposed_next, proposed_all}
 use Rattle.layout.proofs.planning.propose.Goals as goal
 
-pub rounded_up-at-requires : goal.rounded_up-at-requires
-rounded_up-at-requires c = let l = c.loop-place in omega (arith, fitting _ l.at l.place c.loop-place-test.true l.invariant.1)
+pub overflow_cast-room : goal.overflow_cast-room
+overflow_cast-room c = let l = c.loop-place in omega (arith, fitting _ l.at l.place c.loop-place-test.true l.invariant.1)
 
 pub overflow_add-at : goal.overflow_add-at
 overflow_add-at c = let l = c.loop-place in omega (arith, c.rounded_up-at.ensures, fitting _ l.at l.place c.loop-place-test.true l.invariant.1)
