@@ -1,5 +1,5 @@
 -- THEOREMS. Document 02, 9/13. "Show once, for either edition, that packets with bit 7 clear are answered alike": a board, and the same with another
--- edition, give the same number and reply and leave the same spaces and capture; so do the calls of `board::serve`. "1 ignores bit 7 as now": under edition 1
+-- edition, give the same number and reply and leave the same spaces and capture; so do the calls of `Board::serve`. "1 ignores bit 7 as now": under edition 1
 -- packets that differ in bit 7 only are answered alike. "2 gives answer 4 when it is set": and 3 where the packet is too short, and nothing changes. "Any other
 -- edition is answer 1": whatever the packet and the reply are. Assumes nothing.
 use Prim.Native.Nat.{ℕ, zero, suc, ◌≤◌}
@@ -19,11 +19,10 @@ use Rattle.packet.proofs.Laws.{number_under_lem, clear_accepted}
 use Rattle.packet.proofs.Bit7Aside.{Bit7Aside, SameButBit7, bit_7_aside}
 use Rattle.capture.specs.declared.Capture.{Capture}
 use Rattle.board.specs.declared.Description.{Description}
-use Rattle.board.specs.declared.Served.{Served}
 use Rattle.board.specs.Description.{Board, with_edition, other_edition, out_of_range, badly_described, WellDescribed}
 use Rattle.board.specs.Access.{unsupported, after_write, shown_word}
 use Rattle.board.specs.Serving.{Outcome, replies, respond, serve_number, refused, by_number, serve}
-use Rattle.board.specs.Promise.{seen, shows, Serves}
+use Rattle.board.specs.Promise.{Served, seen, shows, Serves}
 use Rattle.board.proofs.Causes.{Cause.range, one_exactly}
 use Rattle.board.proofs.Laws.{unsupported_same}
 use Rattle.board.proofs.Refusals.{outcome_number}

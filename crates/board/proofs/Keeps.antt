@@ -2,7 +2,7 @@
 use Prim.Native.Nat.{ℕ, zero, suc, ◌+◌, ◌≤◌}
 use mathlib.Core.Bool.{Bool, true, false}
 use mathlib.Core.List.{List}
-use mathlib.Core.Path.{◌≡◌, refl, sym, ap, ◌∙◌}
+use mathlib.Core.Path.{◌≡◌, refl, sym, ap, ◌∙◌, subst}
 use native.Mathlib.Omega.{arith}
 use lib.Dec.{eqb}
 use lib.ListN.{length}
@@ -17,8 +17,7 @@ use Rattle.packet.proofs.Laws.{offset_inside, device_inside}
 use Rattle.capture.specs.declared.Capture.{Capture}
 use Rattle.capture.specs.Kept.{captured, forgotten}
 use Rattle.board.specs.declared.Description.{Description}
-use Rattle.board.specs.declared.Served.{Served}
-use Rattle.board.specs.Promise.{Seen, after_call, shows, Serves}
+use Rattle.board.specs.Promise.{Served, Seen, after_call, shows, Serves}
 use Rattle.board.specs.Description.{Space, with_bytes, Board, ranges, out_of_range, WellDescribed, after_reset}
 use Rattle.board.specs.Access.{unsupported, stored_bytes, stored_ordinary, after_write}
 use Rattle.board.specs.Serving.{respond, serve_number, by_number, serve}
@@ -86,6 +85,13 @@ call_holds d p reply r o t after e =
       ordinary = (ap (λ (x : Seen). with_bytes d.ordinary x.ordinary) e ∙ sym k.ordinary) i;
       trusted = (ap (λ (x : Seen). with_bytes d.trusted x.trusted) e ∙ sym k.trusted) i;
     }
+
+-- the same of a board that is known to be the one after serving
+pub serving_holds : (d : Board) (p : List ℕ) (size : ℕ) (b : Board) → b ≡ (serve d p size).after
+    → b ≡ after_call d b.capture b.ordinary.bytes b.trusted.bytes
+serving_holds d p size b e =
+    let k : Keeping d b = subst (Keeping d) (sym e) (serve_keeps d p size) in
+    λ i. record { description = k.description i; capture = b.capture; ordinary = k.ordinary i; trusted = k.trusted i }
 
 -- ---- well described
 

@@ -2,31 +2,27 @@
 use Prim.Native.Nat.{ℕ, ◌%◌, ◌≤◌, ◌<◌}
 use mathlib.Core.Bool.{Bool, true, false, not, ◌&&◌, ◌||◌, or-false, or-true}
 use mathlib.Core.List.{List, [], ◌∷◌}
-use mathlib.Core.Path.{◌≡◌, refl, ap, ◌∙◌}
+use mathlib.Core.Path.{◌≡◌, refl, ◌∙◌}
 use native.Mathlib.Nat.{zero-add}
 use native.Mathlib.Omega.{arith}
 use lib.Dec.{eqb}
 use lib.ListN.{length}
 use borrow.Author.Tests.{eq-eqb, ne_eqb, eqb-true, eqb-false, not-false}
 use Rattle.answers.proofs.Checks.{none_of}
-use Rattle.words.specs.Bytes.{four, four_or_zero, Puts}
+use Rattle.words.specs.Bytes.{four_or_zero, Puts}
 use Rattle.words.proofs.Laws.{four_inside, puts_is, placed_true}
 use Rattle.registers.specs.Merge.{merged}
 use Rattle.registers.proofs.Laws.{merged_length}
 use Rattle.packet.specs.declared.Target.TheVariants.{Type0, Type1, Trusted}
 use Rattle.packet.specs.declared.Request.{Request}
 use Rattle.packet.specs.Request.{is_trusted}
-use Rattle.packet.specs.declared.Status.{Status}
-use Rattle.packet.specs.Completion.{with_data, without_data}
 use Rattle.capture.specs.declared.Capture.{Capture}
 use Rattle.capture.specs.declared.Capture.TheVariants.{Nothing, Number}
-use Rattle.capture.specs.declared.Identified.{Identified}
-use Rattle.capture.specs.Kept.{completer, identified}
 use Rattle.board.specs.declared.Description.{Description}
 use Rattle.board.specs.Description.{Space, Board, other_edition, out_of_range, ranges, wrong_size, wrong_sizes, doubly_marked, causes, badly_described, WellDescribed}
 use Rattle.board.specs.Access.{addressed, unsupported, stored_bytes, stored_ordinary, picked_word}
 use Rattle.board.specs.Promise.{over}
-use Rattle.board.specs.Inner.{Sized, Readable, done}
+use Rattle.board.specs.Inner.{Sized, Readable}
 
 -- ---- a well-described board
 
@@ -70,12 +66,6 @@ pub described_well : (e : Description) (kept : Capture) (o t : Space) → WellSp
 unfolding badly_described
 described_well e kept o t wo wt in_range =
     rw (wo.bytes, wo.rules, wo.marks, wt.bytes, wt.rules, wt.marks, in_range, wo.once, wt.once)
-
--- whole rules and marks, by the test that the code makes
-pub whole : (s : Space) → wrong_sizes s ≡ false → (length s.rules ≡ 4096) × (length s.marks ≡ 4096)
-whole s e =
-    let n = none_of (wrong_size s.bytes ∷ wrong_size s.rules ∷ wrong_size s.marks ∷ []) e in
-    (right_size s.rules n.1.0, right_size s.marks n.1.1.0)
 
 -- the editions from 1 to 2 are those that the request names
 pub edition_below : (edition : ℕ) → edition < 1 → other_edition edition ≡ true
@@ -160,25 +150,3 @@ module _ (d : Description) (ordinary trusted : List ℕ) (q : Request) (ready : 
 pub put_over : (reply word : List ℕ) (said : Bool) (after : List ℕ) → Puts reply 0 word said after → length word ≤ length reply
     → after ≡ over word reply
 put_over reply word said after p h = puts_is reply 0 word p (rw (zero-add (length word)) h) ∙ rw (zero-add (length word))
-
--- a completion of either kind: the ID made from the capture, which is handed back, and the bytes at the reply's start
-module _ (kept : Capture) (function : ℕ) (made : Identified) (id : made ≡ identified kept function) (reply : List ℕ) (room : 16 ≤ length reply) where
-  pub replied_status : (status : Status) (q : Request) (word : List ℕ) (said : Bool) (after : List ℕ)
-      → word ≡ without_data made.id status q.requester q.tag → Puts reply 0 word said after
-      → (done 12 made.capture ≡ done 12 kept) × (after ≡ over (without_data (completer kept function) status q.requester q.tag) reply)
-  unfolding identified without_data
-  replied_status status q word said after w p = (
-    ap (λ (i : Identified). done 12 i.capture) id,
-    put_over reply word said after p (rw w (omega arith))
-        ∙ ap (λ (l : List ℕ). over l reply) (w ∙ ap (λ (i : Identified). without_data i.id status q.requester q.tag) id),
-  )
-
-  pub replied_data : (q : Request) (four word : List ℕ) (said : Bool) (after : List ℕ)
-      → word ≡ with_data made.id q.requester q.tag four → Puts reply 0 word said after
-      → (done 16 made.capture ≡ done 16 kept) × (after ≡ over (with_data (completer kept function) q.requester q.tag four) reply)
-  unfolding identified with_data
-  replied_data q four word said after w p = (
-    ap (λ (i : Identified). done 16 i.capture) id,
-    put_over reply word said after p (rw w room)
-        ∙ ap (λ (l : List ℕ). over l reply) (w ∙ ap (λ (i : Identified). with_data i.id q.requester q.tag four) id),
-  )

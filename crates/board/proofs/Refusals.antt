@@ -1,4 +1,4 @@
--- Demand 1: a refusal changes nothing. Whatever result meets the promise of `board::serve` with a number but 0 has length 0 and the capture as
+-- Demand 1: a refusal changes nothing. Whatever result meets the promise of `Board::serve` with a number but 0 has written 0 bytes and has the capture as
 -- it was, and leaves both spaces and the reply as they were lent, every byte. The number is the lowest that applies, 0 exactly if none does,
 -- and no other than 0 to 6. Assumes nothing.
 use Prim.Native.Nat.{ℕ, zero, suc}
@@ -8,21 +8,20 @@ use mathlib.Core.Path.{◌≡◌, refl, sym, ap, ◌∙◌, subst}
 use native.Mathlib.Omega.{arith}
 use lib.Dec.{ltb}
 use lib.ListN.{length}
-use Rattle.answers.specs.Numbers.{answer_of}
+use Rattle.answers.specs.Numbers.{answered}
 use Rattle.answers.proofs.Checks.{Lowest, Positive, Rising, gives_lowest, gives_one_of}
 use Rattle.packet.specs.Fields.{data_of}
 use Rattle.packet.specs.Request.{number_under, request_of}
-use Rattle.board.specs.declared.Served.{Served}
 use Rattle.board.specs.Description.{Board, badly_described}
 use Rattle.board.specs.Serving.{serve_checks, serve_number, by_number, serve}
-use Rattle.board.specs.Promise.{Seen, shows, Serves}
+use Rattle.board.specs.Promise.{Served, count_of, Seen, shows, Serves}
 use Rattle.board.proofs.Outcomes.{respond_number, refused_is}
 
 -- the statements
 abbrev pub RefusalKeeps : Type 0
 RefusalKeeps =
-    (d : Board) (p reply : List ℕ) (r : Served) (o t after : List ℕ) → Serves d p reply r o t after → (answer_of r.answer ≡ 0 → ⊥)
-    → (r.length ≡ 0) × (r.capture ≡ d.capture) × (o ≡ d.ordinary.bytes) × (t ≡ d.trusted.bytes) × (after ≡ reply)
+    (d : Board) (p reply : List ℕ) (r : Served) (o t after : List ℕ) → Serves d p reply r o t after → (answered r.answer ≡ 0 → ⊥)
+    → (count_of r.answer ≡ 0) × (r.capture ≡ d.capture) × (o ≡ d.ordinary.bytes) × (t ≡ d.trusted.bytes) × (after ≡ reply)
 
 -- what a number says: it is the lowest that applies, 0 exactly if none does, and no other than 0 to 6
 pub record NumberSays (d : Board) (p : List ℕ) (size n : ℕ) : Type 0 where
@@ -32,7 +31,7 @@ pub record NumberSays (d : Board) (p : List ℕ) (size n : ℕ) : Type 0 where
 abbrev pub NumberIsLowest : Type 0
 NumberIsLowest =
     (d : Board) (p reply : List ℕ) (r : Served) (o t after : List ℕ) → Serves d p reply r o t after
-    → NumberSays d p (length reply) (answer_of r.answer)
+    → NumberSays d p (length reply) (answered r.answer)
 
 -- ---- the number of an outcome is the number of the checks
 

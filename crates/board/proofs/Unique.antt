@@ -3,12 +3,14 @@ use Prim.Native.Nat.{ℕ}
 use mathlib.Core.Bool.{Bool}
 use mathlib.Core.List.{List}
 use mathlib.Core.Path.{◌≡◌, sym, ap, ◌∙◌}
-use Rattle.answers.proofs.Unique.{answer_tells}
+use Rattle.std.specs.Prelude.{Result, Ok, Err}
+use Rattle.answers.specs.declared.Refusal.{Refusal}
+use Rattle.answers.specs.Numbers.{answered}
+use Rattle.answers.proofs.Unique.{number_positive, number_tells}
 use Rattle.capture.specs.declared.Capture.{Capture}
 use Rattle.capture.specs.Kept.{forgotten}
-use Rattle.board.specs.declared.Served.{Served}
 use Rattle.board.specs.Description.{Board, badly_described}
-use Rattle.board.specs.Promise.{Seen, seen, Serves}
+use Rattle.board.specs.Promise.{Served, count_of, Seen, seen, Serves}
 
 -- the statement: whatever meets `serve`'s promise from the same board, packet and reply is the same result, with the same three buffers
 abbrev pub ServeUnique : Type 0
@@ -16,13 +18,17 @@ ServeUnique =
     (d : Board) (p reply : List ℕ) (r q : Served) (o t after o' t' after' : List ℕ) → Serves d p reply r o t after → Serves d p reply q o' t' after'
     → (r ≡ q) × (o ≡ o') × (t ≡ t') × (after ≡ after')
 
-same : (r q : Served) → r.answer ≡ q.answer → r.length ≡ q.length → r.capture ≡ q.capture → r ≡ q
-same r q a n k = λ i. record { answer = a i; length = n i; capture = k i }
+pub same_answer : (r q : Result ℕ Refusal) → answered r ≡ answered q → count_of r ≡ count_of q → r ≡ q
+same_answer (Ok n) (Ok m) e f = ap Ok f
+same_answer (Ok n) (Err q) e f = absurd (number_positive q (sym e))
+same_answer (Err r) (Ok m) e f = absurd (number_positive r e)
+same_answer (Err r) (Err q) e f = ap Err (number_tells r q e)
 
 pub serve_unique : ServeUnique
 serve_unique d p reply r q o t after o' t' after' e f =
-    let s : seen r o t after ≡ seen q o' t' after' = e ∙ sym f in (
-      same r q (answer_tells r.answer q.answer (ap (λ (x : Seen). x.number) s)) (ap (λ (x : Seen). x.count) s) (ap (λ (x : Seen). x.capture) s),
+    let s : seen r o t after ≡ seen q o' t' after' = e ∙ sym f in
+    let a = same_answer r.answer q.answer (ap (λ (x : Seen). x.number) s) (ap (λ (x : Seen). x.count) s) in (
+      λ i. record { answer = a i; capture = (s i).capture },
       ap (λ (x : Seen). x.ordinary) s,
       ap (λ (x : Seen). x.trusted) s,
       ap (λ (x : Seen). x.reply) s,

@@ -1,11 +1,21 @@
 -- What the entries of this crate promise: all that a caller sees afterwards. Assumes nothing.
-use Rattle.std.specs.Prelude.{ℕ, List, ◌++◌, ◌≡◌, length, drop}
-use Rattle.answers.specs.Numbers.{answer_of}
+use Rattle.std.specs.Prelude.{ℕ, List, ◌++◌, ◌≡◌, Result, Ok, Err, length, drop}
+use Rattle.answers.specs.declared.Refusal.{Refusal}
+use Rattle.answers.specs.Numbers.{answered}
 use Rattle.capture.specs.declared.Capture.{Capture}
-use Rattle.board.specs.declared.Description.{Description}
-use Rattle.board.specs.declared.Served.{Served}
+use Rattle.board.specs.declared.Board.{Board as Lent}
 use Rattle.board.specs.Description.{Space, with_bytes, Board}
 use Rattle.board.specs.Serving.{Outcome, serve}
+
+-- what a call tells: the count of reply bytes written, or why it is refused; and the capture to keep for the next packet
+pub record Served : Type 0 where
+  pub answer : Result ℕ Refusal
+  pub capture : Capture
+
+-- the count of reply bytes written: none by a refusal
+abbrev pub count_of : Result ℕ Refusal → ℕ
+count_of (Ok count) = count
+count_of (Err refusal) = 0
 
 -- as answered: the number, the count of reply bytes written, the capture; and the three lent buffers that can be written
 pub record Seen : Type 0 where
@@ -21,16 +31,16 @@ abbrev pub space_of : List ℕ → List ℕ → List ℕ → Space
 space_of bytes rules marks = record { bytes = bytes; rules = rules; marks = marks }
 
 -- the board that a caller lends: its description and capture, and the six buffers as they are
-abbrev pub lent : Description → Capture → List ℕ → List ℕ → List ℕ → List ℕ → List ℕ → List ℕ → Board
-lent description kept ordinary ordinary_rules ordinary_marks trusted trusted_rules trusted_marks =
+abbrev pub lent : Lent → Board
+lent b =
     record {
-      description = description;
-      capture = kept;
-      ordinary = space_of ordinary ordinary_rules ordinary_marks;
-      trusted = space_of trusted trusted_rules trusted_marks;
+      description = b.description;
+      capture = b.capture;
+      ordinary = space_of b.ordinary.now b.ordinary_rules.now b.ordinary_marks.now;
+      trusted = space_of b.trusted.now b.trusted_rules.now b.trusted_marks.now;
     }
 
--- the board that the caller holds after a call: the capture that was handed back, and the ordinary and the trusted bytes as they then are
+-- the board that the caller holds after a call: the capture as it then is, and the ordinary and the trusted bytes as they then are
 abbrev pub after_call : Board → Capture → List ℕ → List ℕ → Board
 after_call d kept ordinary trusted =
     record {
@@ -43,7 +53,7 @@ after_call d kept ordinary trusted =
 -- what a call has shown: its result, and the ordinary space, the trusted space and the reply at its end
 abbrev pub seen : Served → List ℕ → List ℕ → List ℕ → Seen
 seen r ordinary trusted reply =
-    record { number = answer_of r.answer; count = r.length; capture = r.capture; ordinary = ordinary; trusted = trusted; reply = reply }
+    record { number = answered r.answer; count = count_of r.answer; capture = r.capture; ordinary = ordinary; trusted = trusted; reply = reply }
 
 -- "Reply bytes past the written ones stay as lent"
 abbrev pub over : List ℕ → List ℕ → List ℕ
@@ -61,6 +71,6 @@ shows o reply =
       reply = over o.written reply;
     }
 
--- the promise of `board::serve`: board and packet and reply as lent, the result, and the three buffers at its end
+-- the promise of `Board::serve`: board and packet and reply as lent, what the call tells, and the three buffers at its end
 abbrev pub Serves : Board → List ℕ → List ℕ → Served → List ℕ → List ℕ → List ℕ → Type 0
 Serves d p reply r ordinary trusted after = seen r ordinary trusted after ≡ shows (serve d p (length reply)) reply

@@ -6,7 +6,7 @@ ghost use Rattle.capture.specs.Kept.{forgotten, captured, identified};
 
 use packet::Id;
 
-// What the board has captured. A fresh board has captured nothing.
+// What the board has captured. A fresh board has captured nothing. (No `Option`: the state has methods of its own, which hand it back.)
 #[derive(Clone, Copy)]
 pub enum Capture {
     Nothing,
@@ -35,24 +35,20 @@ impl Capture {
     }
 
     // The completer ID of a function, which is known by its own number.
+    #[tactic(auto, unfolding(crate::specs::Kept::identified, crate::specs::Kept::completer))]
     pub fn completer_id(self, function: u8) -> Identified
         ensures { result ≡ identified self function }
     {
-        match self {
-            Capture::Nothing => Identified {
-                capture: self,
-                id: Id {
-                    high: 0,
-                    low: function,
-                },
+        let id = match self {
+            Capture::Nothing => Id {
+                high: 0,
+                low: function,
             },
-            Capture::Number { bus, device } => Identified {
-                capture: self,
-                id: Id {
-                    high: bus,
-                    low: std::num::wrapping_add_u8(device << 3, function),
-                },
+            Capture::Number { bus, device } => Id {
+                high: bus,
+                low: (device << 3).wrapping_add(function),
             },
-        }
+        };
+        Identified { capture: self, id }
     }
 }

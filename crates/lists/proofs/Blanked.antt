@@ -10,14 +10,13 @@ use mathlib.Core.Path.{◌≡◌, refl, sym, ap, subst, ◌∙◌}
 use lib.Dec.{eqb}
 use lib.ListN.{length, drop}
 use borrow.Author.Tests.{eq-eqb, ne_eqb, eqb-true, eqb-false}
-use Rattle.answers.specs.declared.Answer.TheVariants.{Done}
+use Rattle.std.specs.Prelude.{Ok}
 use Rattle.words.specs.Fields.{bits, word}
 use Rattle.lists.specs.declared.Kind.TheVariants.{Extended}
-use Rattle.lists.specs.declared.Walked.{Walked}
 use Rattle.lists.specs.Table.{ListRule, describe, unless_empty}
 use Rattle.lists.specs.Chain.{Legal, Legal.ends, Legal.goes, HasChain, NoChain, dropped, first, follows}
 use Rattle.lists.specs.Breaks.{Breaks}
-use Rattle.lists.specs.Walks.{WholeSpace, Roomy, Refuses, Lists, Walks, Walks.misdescribed, Walks.roomless, Walks.broken, Walks.listed, number_given}
+use Rattle.lists.specs.Walks.{WholeSpace, Roomy, Refuses, Lists, Walks, Walks.misdescribed, Walks.roomless, Walks.broken, Walks.listed, number_given, count_given, Walked}
 use Rattle.lists.proofs.Breaking.{breaks_unique, breaks_unending}
 use Rattle.lists.proofs.Alike.{alike, breaks_alike}
 use Rattle.lists.proofs.FirstWord.{first_none, first_some, empty_exactly}
@@ -62,7 +61,7 @@ DifferExactly = (s room : List ℕ) (r q : Walked) (l m : List ℕ) → WholeSpa
 -- "At 100h our walker calls that an empty list"
 abbrev pub LostBefore : Type 0
 LostBefore = (s room : List ℕ) (r : Walked) (after : List ℕ) → Blanked s → AnswersBy uncorrected s room r after
-    → (number_given r ≡ 0) × (r.count ≡ 0) × (after ≡ room)
+    → (number_given r ≡ 0) × (count_given r ≡ 0) × (after ≡ room)
 
 -- a walk by the old rule, whatever else it does, is wrong wherever a space is blanked at 100h. There is such a walk of any space: there one that
 -- lists nothing, and elsewhere every walk that is right
@@ -72,7 +71,7 @@ OldRuleCaught = (s room : List ℕ) (r : Walked) (after : List ℕ) → WholeSpa
 
 abbrev pub OldRuleAnswers : Type 0
 OldRuleAnswers = (s room : List ℕ)
-    → (Blanked s → AnswersBy uncorrected s room (record { answer = Done; place = 0; count = 0 }) room)
+    → (Blanked s → AnswersBy uncorrected s room (Ok 0) room)
     × ((r : Walked) (after : List ℕ) → WholeSpace s → Roomy Extended room → (Blanked s → ⊥) → Walks Extended s room r after
     → AnswersBy uncorrected s room r after)
 
@@ -150,7 +149,7 @@ differ_exactly s room r q l m whole roomy a w = ((λ differ. go differ (blanked_
     apart b same =
         let x = lost_before s room r l b a in
         b.another ((empty_exactly s room q m whole roomy w).0
-        (ap number_given (sym same.0) ∙ x.0, ap (λ (y : Walked). y.count) (sym same.0) ∙ x.1))
+        (ap number_given (sym same.0) ∙ x.0, ap count_given (sym same.0) ∙ x.1))
 
 pub old_rule_caught : OldRuleCaught
 old_rule_caught s room r after whole roomy b a w = (differ_exactly s room r r after after whole roomy a w).1 b (refl, refl)
@@ -175,10 +174,10 @@ answers s room r after whole roomy not (listed h k chain has x) =
     }
 
 -- a walk that lists nothing answers by it where something is
-nothing_listed : (s room : List ℕ) → Blanked s → AnswersBy uncorrected s room (record { answer = Done; place = 0; count = 0 }) room
+nothing_listed : (s room : List ℕ) → Blanked s → AnswersBy uncorrected s room (Ok 0) room
 nothing_listed s room b = record { served = none; refused = λ number place old. absurd (breaks_unending old [] (nothing_there s b)) }
   where
-    none : (chain : List ℕ) → HasChain uncorrected s chain → Lists chain room (record { answer = Done; place = 0; count = 0 }) room
+    none : (chain : List ℕ) → HasChain uncorrected s chain → Lists chain room (Ok 0) room
     none chain l =
         let e = none_behind_zero l (old_none s b.no_id) in
         record { given = refl; counted = sym (ap length e); whole = refl; listed = sym (ap (λ (c : List ℕ). c ++ drop (length c) room) e) }

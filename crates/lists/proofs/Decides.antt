@@ -7,11 +7,10 @@ use mathlib.Core.Logic.◌⊎◌.{inl, inr}
 use mathlib.Core.Path.{◌≡◌, sym, subst, ◌∙◌}
 use native.Mathlib.Omega.{arith}
 use Rattle.lists.specs.declared.Kind.{Kind}
-use Rattle.lists.specs.declared.Walked.{Walked}
 use Rattle.lists.specs.Table.{ListRule, describe}
 use Rattle.lists.specs.Chain.{HasChain, NoChain}
 use Rattle.lists.specs.Breaks.{Breaks, Breaks.falls, Breaks.turns}
-use Rattle.lists.specs.Walks.{WholeSpace, Roomy, Lists, number_given, Walks, Walks.misdescribed, Walks.roomless, Walks.broken, Walks.listed}
+use Rattle.lists.specs.Walks.{WholeSpace, Roomy, Lists, number_given, Walks, Walks.misdescribed, Walks.roomless, Walks.broken, Walks.listed, Walked}
 use Rattle.lists.proofs.OneChain.{legal_unique}
 use Rattle.lists.proofs.Breaking.{breaks_unending}
 

@@ -12,11 +12,10 @@ use lib.ListN.{length, get_or, drop}
 use borrow.Author.Tests.{eqb-true, eqb-false}
 use Rattle.words.specs.Fields.{word}
 use Rattle.lists.specs.declared.Kind.TheVariants.{Extended}
-use Rattle.lists.specs.declared.Walked.{Walked}
 use Rattle.lists.specs.Table.{ListRule, describe}
 use Rattle.lists.specs.Chain.{Legal, Legal.ends, Legal.goes, HasChain, dropped, first, follows}
 use Rattle.lists.specs.Breaks.{Breaks}
-use Rattle.lists.specs.Walks.{WholeSpace, Roomy, Refuses, Walks, Walks.misdescribed, Walks.roomless, Walks.broken, Walks.listed, number_given}
+use Rattle.lists.specs.Walks.{WholeSpace, Roomy, Refuses, Walks, Walks.misdescribed, Walks.roomless, Walks.broken, Walks.listed, number_given, count_given, Walked}
 use Rattle.lists.proofs.Decides.{served_lists, served_iff_legal}
 use Rattle.lists.proofs.Pointers.{extended_none, extended_some}
 use Rattle.lists.proofs.Traps.{empty_lists}
@@ -30,12 +29,12 @@ StartsAChain = (s : List ℕ) → (word s 0x100 ≡ 0 → ⊥) → (chain : List
 -- "the extended list is empty only if the whole word at 100h is zero", of any walk
 abbrev pub EmptyExactly : Type 0
 EmptyExactly = (s room : List ℕ) (r : Walked) (after : List ℕ) → WholeSpace s → Roomy Extended room → Walks Extended s room r after
-    → (((number_given r ≡ 0) × (r.count ≡ 0)) ↔ (word s 0x100 ≡ 0))
+    → (((number_given r ≡ 0) × (count_given r ≡ 0)) ↔ (word s 0x100 ≡ 0))
 
 -- of any walk where the word at 100h is not zero: 100h is listed first, or the list breaks, and the answer says how and where
 abbrev pub ListedOrBroken : Type 0
 ListedOrBroken = (s room : List ℕ) (r : Walked) (after : List ℕ) → WholeSpace s → Roomy Extended room → (word s 0x100 ≡ 0 → ⊥)
-    → Walks Extended s room r after → ((number_given r ≡ 0) × (0 < r.count) × (get_or after 0 0 ≡ 0x100))
+    → Walks Extended s room r after → ((number_given r ≡ 0) × (0 < count_given r) × (get_or after 0 0 ≡ 0x100))
     ⊎ ((number : ℕ) × (place : ℕ) × Breaks (describe Extended) s number place × Refuses number place room r after)
 
 -- ---- where the list starts
@@ -70,7 +69,7 @@ empty_exactly s room r after whole roomy w = (
   (λ z. let x = (empty_lists s room r after whole).1 z roomy w in (x.0, x.1)),
 )
   where
-    go : (number_given r ≡ 0) × (r.count ≡ 0) → (b : Bool) → eqb (word s 0x100) 0 ≡ b → word s 0x100 ≡ 0
+    go : (number_given r ≡ 0) × (count_given r ≡ 0) → (b : Bool) → eqb (word s 0x100) 0 ≡ b → word s 0x100 ≡ 0
     go t true e = eqb-true (word s 0x100) 0 e
     go t false e =
         let has = (served_iff_legal Extended s room r after w whole roomy).0.0 t.0 in

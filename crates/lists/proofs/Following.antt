@@ -3,7 +3,7 @@ use Prim.Native.Nat.{ℕ, ◌+◌, ◌≤◌, ◌<◌}
 use mathlib.Core.List.{List}
 use mathlib.Core.Logic.{◌⊎◌, ⊎_elim}
 use mathlib.Core.Logic.◌⊎◌.{inl, inr}
-use mathlib.Core.Path.{◌≡◌, refl, sym, ap, subst, ◌∙◌}
+use mathlib.Core.Path.{◌≡◌, sym, ap, subst, ◌∙◌}
 use native.Mathlib.Numerals.{add-one}
 use native.Mathlib.Omega.{arith}
 use borrow.Author.Count.{below_more}
@@ -13,18 +13,11 @@ use Rattle.lists.specs.Table.{describe}
 use Rattle.lists.specs.Chain.{HasChain, first, follows}
 use Rattle.lists.specs.Breaks.{met}
 use Rattle.lists.specs.declared.Kind.{Kind}
-use Rattle.lists.specs.declared.Kind.TheVariants.{Compatible, Extended, Trusted}
-use Rattle.lists.specs.declared.chase.Step.TheVariants.{Next, End, Fault}
-use Rattle.lists.specs.declared.chase.Chased.TheVariants.{Ended, Stopped}
+use Rattle.lists.specs.declared.chase.Step.TheVariants.{Next, End}
+use Rattle.std.specs.Prelude.{Ok}
 use Rattle.lists.specs.Walks.{WholeSpace}
 use Rattle.lists.specs.Inner.{offset_of, Underway, Waits, Leads, Chases, Counted}
 use Rattle.lists.proofs.Course.{leading_none, leading_more, chain_of, logged_trail}
-
--- position 0 is that of the end
-offset_zero : (kind : Kind) → offset_of kind 0 ≡ 0
-offset_zero Compatible = refl
-offset_zero Extended = refl
-offset_zero Trusted = refl
 
 -- ---- the start
 
@@ -42,7 +35,7 @@ underway_start size o =
 -- ---- the end, or one pointer more
 
 module _ {kind : Kind} {s log : List ℕ} {count : ℕ} (position : ℕ) (u : Underway kind s log count (offset_of kind position)) where
-  pub chase_ends : Leads (describe kind) (offset_of kind position) End → Chases kind s (Ended count) log
+  pub chase_ends : Leads (describe kind) (offset_of kind position) End → Chases kind s (Ok count) log
   chase_ends z =
       let f = u.followed in (
         f.fits,
@@ -50,27 +43,7 @@ module _ {kind : Kind} {s log : List ℕ} {count : ℕ} (position : ℕ) (u : Un
             (chain_of count f.leading (sym u.here ∙ z)),
       )
 
-  pub chase_falls : Leads (describe kind) (offset_of kind position) Fault → Chases kind s (Stopped count position) log
-  chase_falls l = record { underway = u; onward = l.0; why = inl l.1 }
-
   module _ {at : ℕ} (l : Leads (describe kind) (offset_of kind position) (Next at)) where
-    pub next_inside : at ≤ 0xffc
-    next_inside = omega (arith, u.inside, l.0)
-
-    pub chase_full : count ≡ length log → Chases kind s (Stopped count position) log
-    chase_full e = record { underway = u; onward = l.1; why = inr (inr e) }
-
-    -- the position that waits is one that was passed
-    pub chase_returns : {waiting : ℕ} → Waits kind s count waiting → position ≡ waiting → Chases kind s (Stopped count position) log
-    chase_returns {waiting} w e =
-        record {
-          underway = u;
-          onward = l.1;
-          why =
-              ⊎_elim (λ z. absurd (l.1 (ap (offset_of kind) (e ∙ z) ∙ offset_zero kind)))
-              (λ t. inr (inl (record { earlier = t.0; before = t.1; same = sym u.here ∙ ap (offset_of kind) e ∙ t.2 }))) w;
-        }
-
     pub chase_goes : (count ≡ length log → ⊥) → {next : ℕ} → Counted kind (follows (describe kind) s (offset_of kind position)) next
         → Underway kind s (set log count at) (count + 1) (offset_of kind next)
     unfolding met

@@ -12,11 +12,10 @@ use borrow.Author.Tests.{eqb-false}
 use Rattle.words.specs.Bytes.{put}
 use Rattle.lists.specs.declared.Kind.{Kind}
 use Rattle.lists.specs.declared.Kind.TheVariants.{Extended}
-use Rattle.lists.specs.declared.Walked.{Walked}
 use Rattle.lists.specs.Table.{describe, extended_start, extended_next}
 use Rattle.lists.specs.Chain.{first, follows}
 use Rattle.lists.specs.Breaks.{met, holder, Reached, Breaks, Breaks.falls, Breaks.turns}
-use Rattle.lists.specs.Walks.{WholeSpace, Roomy, number_given, Walks}
+use Rattle.lists.specs.Walks.{WholeSpace, Roomy, number_given, Walks, place_given, Walked}
 use Rattle.lists.proofs.Breaking.{steps}
 use Rattle.lists.proofs.Tested.{reached_by_test}
 use Rattle.lists.proofs.Telling.{Tells, told_as_broken, other_told}
@@ -38,7 +37,7 @@ place_by counted kind s n = holder (describe kind) s (describe kind).maximum
 abbrev pub MisplacedCaught : Type 0
 MisplacedCaught =
     (m : Misplaced) (kind : Kind) (s room : List ℕ) (number place : ℕ) (b : Breaks (describe kind) s number place) (r : Walked) (after : List ℕ)
-    → WholeSpace s → Roomy kind room → (place_by m kind s (steps b) ≡ place → ⊥) → r.place ≡ place_by m kind s (steps b)
+    → WholeSpace s → Roomy kind room → (place_by m kind s (steps b) ≡ place → ⊥) → place_given r ≡ place_by m kind s (steps b)
     → Walks kind s room r after → ⊥
 
 -- where the pointer is below the floor, the place that it leads to is always another

@@ -6,11 +6,10 @@ use mathlib.Core.Logic.{◌↔◌, ⊎_elim}
 use mathlib.Core.Path.{◌≡◌, sym, subst, ◌∙◌}
 use native.Mathlib.Omega.{arith}
 use Rattle.lists.specs.declared.Kind.{Kind}
-use Rattle.lists.specs.declared.Walked.{Walked}
 use Rattle.lists.specs.Table.{ListRule, describe}
 use Rattle.lists.specs.Chain.{HasChain}
 use Rattle.lists.specs.Breaks.{Breaks}
-use Rattle.lists.specs.Walks.{WholeSpace, Roomy, number_given, Walks, Walks.misdescribed, Walks.roomless, Walks.broken, Walks.listed}
+use Rattle.lists.specs.Walks.{WholeSpace, Roomy, number_given, Walks, Walks.misdescribed, Walks.roomless, Walks.broken, Walks.listed, count_given, place_given, Walked}
 use Rattle.lists.proofs.Breaking.{breaks_unique, breaks_unending}
 use Rattle.lists.proofs.Decides.{Broken, which}
 
@@ -30,7 +29,7 @@ pub record NumberSays (kind : Kind) (s room : List ℕ) (n place : ℕ) : Type 0
 
 abbrev pub WalkNumber : Type 0
 WalkNumber =
-    (kind : Kind) (s room : List ℕ) (r : Walked) (after : List ℕ) → Walks kind s room r after → NumberSays kind s room (number_given r) r.place
+    (kind : Kind) (s room : List ℕ) (r : Walked) (after : List ℕ) → Walks kind s room r after → NumberSays kind s room (number_given r) (place_given r)
 
 -- a list that breaks breaks as one number says, and a number that stands for neither of the two ways is not its own
 as_is : {list : ListRule} {s : List ℕ} {number n place there : ℕ} → Breaks list s number place → Breaks list s n there → number ≡ n
@@ -92,7 +91,7 @@ walk_number kind s room r after (listed whole roomy chain l a) =
 abbrev pub WalkRefusalKeeps : Type 0
 WalkRefusalKeeps =
     (kind : Kind) (s room : List ℕ) (r : Walked) (after : List ℕ) → Walks kind s room r after → (number_given r ≡ 0 → ⊥)
-    → (r.count ≡ 0) × (after ≡ room)
+    → (count_given r ≡ 0) × (after ≡ room)
 
 pub walk_refusal_keeps : WalkRefusalKeeps
 walk_refusal_keeps kind s room r after (misdescribed n a) h = (a.none, a.kept)

@@ -1,9 +1,9 @@
 -- Laws of the pointers of the three lists: every pointer that is followed is a multiple of 4 below the span of its list, which a byte or
 -- twelve bits reach. Assumes nothing.
-use Prim.Native.Nat.{ℕ, ◌+◌, ◌*◌, ◌/◌, ◌≤◌, ◌<◌}
+use Prim.Native.Nat.{ℕ, ◌+◌, ◌*◌, ◌/◌, ◌<◌}
 use mathlib.Core.Bool.{Bool, true, false}
 use mathlib.Core.List.{List}
-use mathlib.Core.Path.{◌≡◌, ap, subst}
+use mathlib.Core.Path.{◌≡◌, ap}
 use native.Mathlib.Nat.{mod-lt}
 use native.Mathlib.Omega.{arith}
 use lib.Dec.{eqb, lit<}
@@ -14,7 +14,7 @@ use Rattle.lists.specs.declared.Kind.{Kind}
 use Rattle.lists.specs.declared.Kind.TheVariants.{Compatible, Extended, Trusted}
 use Rattle.lists.specs.Table.{describe, compatible_start, extended_start, trusted_start, compatible_next, extended_next, unless_empty}
 use Rattle.lists.specs.Chain.{dropped, first, follows}
-use Rattle.lists.specs.Inner.{Raw, Counted, Whole, offset_of}
+use Rattle.lists.specs.Inner.{Raw, Counted, Whole}
 
 -- every element of a lent space is a byte
 abbrev pub Bytes : List ℕ → Type 0
@@ -66,10 +66,6 @@ first_within kind s b = dropped_within kind ((describe kind).start s) (start_bel
 pub follows_within : (kind : Kind) (s : List ℕ) (at : ℕ) → Bytes s → Within kind (follows (describe kind) s at)
 unfolding follows
 follows_within kind s at b = dropped_within kind ((describe kind).next s at) (next_below kind s at b)
-
--- a position within the space is, for the list that it is of
-pub inside_for : {kind known : Kind} (position : ℕ) → kind ≡ known → offset_of kind position ≤ 0xffc → offset_of known position ≤ 0xffc
-inside_for position e h = subst (λ (k : Kind). offset_of k position ≤ 0xffc) e h
 
 -- the code's pointer, its bottom two bits dropped, is the one that the definitions drop them from
 pub counted_from : {kind : Kind} {pointer raw position : ℕ} → Raw pointer raw → Counted kind (dropped raw) position → Counted kind (dropped pointer) position

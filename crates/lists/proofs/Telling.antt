@@ -8,18 +8,17 @@ use native.Mathlib.Omega.{arith}
 use Rattle.words.specs.Fields.{bits, word}
 use Rattle.lists.specs.declared.Kind.{Kind}
 use Rattle.lists.specs.declared.Kind.TheVariants.{Trusted}
-use Rattle.lists.specs.declared.Walked.{Walked}
 use Rattle.lists.specs.Table.{ListRule, describe, trusted_start}
 use Rattle.lists.specs.Chain.{first, follows}
 use Rattle.lists.specs.Breaks.{met, holder, Below, Reached, Breaks, Breaks.falls, Breaks.turns}
-use Rattle.lists.specs.Walks.{WholeSpace, Roomy, number_given, Walks, Walks.misdescribed, Walks.roomless, Walks.broken, Walks.listed}
+use Rattle.lists.specs.Walks.{WholeSpace, Roomy, number_given, Walks, Walks.misdescribed, Walks.roomless, Walks.broken, Walks.listed, place_given, Walked}
 use Rattle.lists.proofs.Breaking.{steps, SameWay, breaks_unique, breaks_unending, breaks_carried}
 
 -- what every walk of a list tells, in a space and a room of their sizes
 abbrev pub Tells : Kind → List ℕ → ℕ → ℕ → Type 0
 Tells kind s number place =
     (room : List ℕ) (r : Walked) (after : List ℕ) → WholeSpace s → Roomy kind room → Walks kind s room r after
-    → (number_given r ≡ number) × (r.place ≡ place)
+    → (number_given r ≡ number) × (place_given r ≡ place)
 
 -- the statements. Of a list that breaks
 abbrev pub ToldAsBroken : Type 0
@@ -52,7 +51,7 @@ OnlyTheWay = (list : ListRule) (s t : List ℕ) (number place : ℕ) (b : Breaks
 -- a walk that tells another number or another place
 abbrev pub OtherTold : Type 0
 OtherTold = (kind : Kind) (s room : List ℕ) (number place : ℕ) (r : Walked) (after : List ℕ) → WholeSpace s → Roomy kind room
-    → Breaks (describe kind) s number place → ((number_given r ≡ number) × (r.place ≡ place) → ⊥) → Walks kind s room r after → ⊥
+    → Breaks (describe kind) s number place → ((number_given r ≡ number) × (place_given r ≡ place) → ⊥) → Walks kind s room r after → ⊥
 
 -- ---- the theorems
 

@@ -11,11 +11,10 @@ use Rattle.words.specs.Bytes.{byte}
 use Rattle.words.specs.Fields.{bit, word}
 use Rattle.lists.specs.declared.Kind.{Kind}
 use Rattle.lists.specs.declared.Kind.TheVariants.{Compatible, Extended}
-use Rattle.lists.specs.declared.Walked.{Walked}
 use Rattle.lists.specs.Table.{ListRule, describe, compatible_start}
 use Rattle.lists.specs.Chain.{Legal, Legal.ends, Legal.goes, HasChain, dropped, first, follows}
 use Rattle.lists.specs.Breaks.{met, Back}
-use Rattle.lists.specs.Walks.{WholeSpace, Roomy, Lists, Walks, Walks.misdescribed, Walks.roomless, Walks.broken, Walks.listed, number_given}
+use Rattle.lists.specs.Walks.{WholeSpace, Roomy, Lists, Walks, Walks.misdescribed, Walks.roomless, Walks.broken, Walks.listed, number_given, count_given, Walked}
 use Rattle.lists.proofs.Pointers.{extended_none}
 use Rattle.lists.proofs.Decides.{broken_number, served_lists, served_iff_legal}
 use Rattle.lists.proofs.Course.{back_unending}
@@ -24,7 +23,7 @@ use Rattle.lists.proofs.Course.{back_unending}
 abbrev pub WrongCount : Type 0
 WrongCount =
     (kind : Kind) (s room chain : List ℕ) (r : Walked) (after : List ℕ) → WholeSpace s → Roomy kind room → HasChain (describe kind) s chain
-    → (r.count ≡ length chain → ⊥) → Walks kind s room r after → ⊥
+    → (count_given r ≡ length chain → ⊥) → Walks kind s room r after → ⊥
 
 -- "Testing loops only against the start": wherever a list comes back to, unless it has ended before, it has no chain, and a walk of it is not served
 abbrev pub LoopBroken : Type 0
@@ -35,7 +34,7 @@ LoopBroken =
 -- "The bottom two bits of every pointer are dropped": a walk that is served lists multiples of 4 only
 abbrev pub OffsetsAligned : Type 0
 OffsetsAligned =
-    (kind : Kind) (s room : List ℕ) (r : Walked) (after : List ℕ) → Walks kind s room r after → (index : ℕ) → index < r.count
+    (kind : Kind) (s room : List ℕ) (r : Walked) (after : List ℕ) → Walks kind s room r after → (index : ℕ) → index < count_given r
     → get_or after index 0 % 4 ≡ 0
 
 -- "a list that the table calls empty counts as having start 0, whatever its pointers hold", the extended list as request 2/13 corrects the table: a
@@ -43,8 +42,8 @@ OffsetsAligned =
 abbrev pub EmptyLists : Type 0
 EmptyLists =
     (s room : List ℕ) (r : Walked) (after : List ℕ) → WholeSpace s
-    → (bit 4 (byte s 0x06) ≡ 0 → Roomy Compatible room → Walks Compatible s room r after → (number_given r ≡ 0) × (r.count ≡ 0) × (after ≡ room))
-    × (word s 0x100 ≡ 0 → Roomy Extended room → Walks Extended s room r after → (number_given r ≡ 0) × (r.count ≡ 0) × (after ≡ room))
+    → (bit 4 (byte s 0x06) ≡ 0 → Roomy Compatible room → Walks Compatible s room r after → (number_given r ≡ 0) × (count_given r ≡ 0) × (after ≡ room))
+    × (word s 0x100 ≡ 0 → Roomy Extended room → Walks Extended s room r after → (number_given r ≡ 0) × (count_given r ≡ 0) × (after ≡ room))
 
 -- ---- the count
 
@@ -82,7 +81,7 @@ module _ {list : ListRule} {s : List ℕ} where
       rw e (chain_aligned (follows_aligned list s pointer) l index (omega (arith, ap length e)))
 
 listed_aligned : (kind : Kind) (s room chain : List ℕ) (r : Walked) (after : List ℕ) → HasChain (describe kind) s chain → Lists chain room r after
-    → (index : ℕ) → index < r.count → get_or after index 0 % 4 ≡ 0
+    → (index : ℕ) → index < count_given r → get_or after index 0 % 4 ≡ 0
 listed_aligned kind s room chain r after l a index small =
     let inside : index < length chain = omega (arith, a.counted) in
     rw (a.listed, get_or-append chain (drop (length chain) room) 0 index inside)
@@ -97,7 +96,7 @@ offsets_aligned kind s room r after (listed whole roomy chain l a) index small =
 -- ---- lists that count as empty
 
 nothing_listed : (kind : Kind) (s room : List ℕ) (r : Walked) (after : List ℕ) → WholeSpace s → Roomy kind room → HasChain (describe kind) s []
-    → Walks kind s room r after → (number_given r ≡ 0) × (r.count ≡ 0) × (after ≡ room)
+    → Walks kind s room r after → (number_given r ≡ 0) × (count_given r ≡ 0) × (after ≡ room)
 nothing_listed kind s room r after whole roomy l w =
     let z = (served_iff_legal kind s room r after w whole roomy).0.1 ([], l) in
     let a = served_lists w z l in

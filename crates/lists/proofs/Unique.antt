@@ -3,12 +3,12 @@
 use Prim.Native.Nat.{ℕ}
 use mathlib.Core.List.{List}
 use mathlib.Core.Path.{◌≡◌, sym, subst, ◌∙◌}
-use Rattle.answers.proofs.Unique.{answer_tells}
+use Rattle.std.specs.Prelude.{Ok, Err}
+use Rattle.answers.proofs.Unique.{number_tells, number_positive}
 use Rattle.lists.specs.declared.Kind.{Kind}
-use Rattle.lists.specs.declared.Walked.{Walked}
 use Rattle.lists.specs.Table.{ListRule}
 use Rattle.lists.specs.Breaks.{Breaks}
-use Rattle.lists.specs.Walks.{Refuses, Lists, number_given, Walks, Walks.misdescribed, Walks.roomless, Walks.broken, Walks.listed}
+use Rattle.lists.specs.Walks.{Refuses, Lists, number_given, count_given, place_given, Walks, Walks.misdescribed, Walks.roomless, Walks.broken, Walks.listed, Walked}
 use Rattle.lists.proofs.OneChain.{legal_unique}
 use Rattle.lists.proofs.Breaking.{breaks_unique, breaks_unending}
 
@@ -16,8 +16,11 @@ abbrev pub WalkUnique : Type 0
 WalkUnique = (kind : Kind) (s room : List ℕ) (r q : Walked) (l m : List ℕ) → Walks kind s room r l → Walks kind s room q m → (r ≡ q) × (l ≡ m)
 
 -- the number, the place and the count say the whole answer
-same_walked : (r q : Walked) → number_given r ≡ number_given q → r.place ≡ q.place → r.count ≡ q.count → r ≡ q
-same_walked r q e f g = λ i. record { answer = answer_tells r.answer q.answer e i; place = f i; count = g i }
+same_walked : (r q : Walked) → number_given r ≡ number_given q → place_given r ≡ place_given q → count_given r ≡ count_given q → r ≡ q
+same_walked (Ok m) (Ok n) e f g = λ i. Ok (g i)
+same_walked (Ok m) (Err y) e f g = absurd (number_positive y.refusal (sym e))
+same_walked (Err x) (Ok n) e f g = absurd (number_positive x.refusal e)
+same_walked (Err x) (Err y) e f g = λ i. Err (record { refusal = number_tells x.refusal y.refusal e i; place = f i })
 
 module _ {room : List ℕ} {r q : Walked} {l m : List ℕ} where
   refused_same : {n p : ℕ} → Refuses n p room r l → Refuses n p room q m → (r ≡ q) × (l ≡ m)

@@ -1,24 +1,24 @@
 -- Laws of the walk's answers: what each way out of it promises, from what the chase told. Assumes nothing.
 use Prim.Native.Nat.{ℕ, zero, suc, ◌≤◌, ◌<◌}
-use mathlib.Core.List.{List, ◌++◌}
+use mathlib.Core.List.{List}
 use mathlib.Core.Logic.{⊎_elim}
 use mathlib.Core.Logic.◌⊎◌.{inr}
 use mathlib.Core.Path.{◌≡◌, refl, sym, ap, subst, ◌∙◌}
 use native.Mathlib.Nat.{eq-or-lt_of_le}
 use native.Mathlib.Omega.{arith}
 use lib.Dec.{lit≤}
-use lib.ListN.{length, take, get_or, get_or-append}
+use lib.ListN.{length, take, get_or}
 use lib.Seq.{length-take-le, get_or-take}
-use Rattle.answers.specs.Numbers.{number_of, answer_of}
+use Rattle.answers.specs.Numbers.{number_of}
+use Rattle.std.specs.Prelude.{Err}
 use Rattle.answers.specs.declared.Refusal.{Refusal}
 use Rattle.lists.specs.declared.Kind.{Kind}
+use Rattle.lists.specs.declared.Refused.{Refused}
 use Rattle.lists.specs.declared.Kind.TheVariants.{Compatible, Extended, Trusted}
-use Rattle.lists.specs.declared.Walked.{Walked}
-use Rattle.lists.specs.declared.chase.Chased.{Chased}
 use Rattle.lists.specs.Table.{ListRule, describe}
 use Rattle.lists.specs.Breaks.{met, holder, Back, Reached, Breaks.falls, Breaks.turns}
 use Rattle.lists.specs.Walks.{Roomy, Refuses, Walks, Walks.broken}
-use Rattle.lists.specs.Inner.{Followed, Underway, Stops, Chases, Words, FirstAgain, RefusedAt, Told, Told.below, Told.back, last_of}
+use Rattle.lists.specs.Inner.{Followed, Underway, Stops, Onward, Words, FirstAgain, RefusedAt, Told, Told.below, Told.back, last_of}
 use Rattle.lists.proofs.Course.{leading_more, new_before, one_more}
 use Rattle.lists.proofs.Pointers.{Bytes}
 use Rattle.lists.proofs.Maxima.{met_within, leading_maximum}
@@ -29,53 +29,36 @@ maximum_bounds Compatible = (lit≤ tt, lit≤ tt)
 maximum_bounds Extended = (lit≤ tt, lit≤ tt)
 maximum_bounds Trusted = (lit≤ tt, lit≤ tt)
 
-pub refuses : {refusal : Refusal} {place : ℕ} {r : Walked} (room : List ℕ) → RefusedAt refusal place r → Refuses (number_of refusal) place room r room
-refuses room p = record { given = ap answer_of p.given; none = p.none; told = p.told; kept = refl }
+pub refuses : {refusal : Refusal} {place : ℕ} {r : Refused} (room : List ℕ) → RefusedAt refusal place r
+    → Refuses (number_of refusal) place room (Err r) room
+refuses room e =
+    record { given = ap (λ (x : Refused). number_of x.refusal) e; none = refl; told = ap (λ (x : Refused). x.place) e; kept = refl }
 
 -- ---- how a chase ended, and its log
 
-pub chases_as : (kind : Kind) (s log : List ℕ) {chased known : Chased} → chased ≡ known → Chases kind s chased log → Chases kind s known log
-chases_as kind s log e h = subst (λ (c : Chased). Chases kind s c log) e h
+-- the last of the first so many offsets of a log
+pub last_front : (log : List ℕ) (count : ℕ) → count ≤ length log → last_of (take count log) (length (take count log)) ≡ last_of log count
+last_front log zero h = refl
+last_front log (suc k) h = ap (last_of (take (suc k) log)) (length-take-le (suc k) log h) ∙ get_or-take (suc k) log k 0 (omega arith)
 
 module _ {list : ListRule} {s log : List ℕ} {count : ℕ} (f : Followed list s log count) where
-  -- the structure that holds a pointer is the one that was logged before it
-  pub last_holder : (k : ℕ) → k ≤ count → last_of log k ≡ holder list s k
-  unfolding holder
-  last_holder zero h = refl
-  last_holder (suc k) h = f.logged k h
-
   pub logged_in : (k : ℕ) → k < count → get_or (take count log) k 0 ≡ met list s k
   logged_in k h = get_or-take count log k 0 h ∙ f.logged k h
 
   log_length : length (take count log) ≡ count
   log_length = length-take-le count log f.fits
 
--- a chase goes on in a longer log that begins with its own
-pub underway_longer : {kind : Kind} {s short log : List ℕ} {pointer : ℕ} (count most : ℕ) (rest : List ℕ)
-    → Underway kind s short (length short) pointer → length short ≡ count → log ≡ take count short ++ rest → count ≤ most
-    → most ≤ length log → Underway kind s (take most log) count pointer
-underway_longer {kind} {s} {short} {log} {pointer} count most rest u size e h k =
-    let f = subst (λ (n : ℕ). Followed (describe kind) s short n) size u.followed in
-    let front : length (take count short) ≡ count = length-take-le count short f.fits in
-    record {
-      space = u.space;
-      followed =
-          record {
-            fits = omega (arith, length-take-le most log k);
-            leading = f.leading;
-            logged = λ i small.
-                get_or-take most log i 0 (omega arith) ∙ ap (λ (l : List ℕ). get_or l i 0) e
-                ∙ get_or-append (take count short) rest 0 i (omega arith) ∙ logged_in f i small;
-          };
-      here = u.here ∙ ap (met (describe kind) s) size;
-      inside = u.inside;
-    }
+  -- the structure that holds a pointer is the one that was logged before it
+  last_holder : (k : ℕ) → k ≤ count → last_of (take count log) k ≡ holder list s k
+  unfolding holder
+  last_holder zero h = refl
+  last_holder (suc k) h = logged_in k h
 
 -- ---- what broke
 
 module _ (kind : Kind) (s log : List ℕ) (bytes : Bytes s) where
   -- the offsets of a log are those of words
-  pub followed_words : {count : ℕ} → Followed (describe kind) s log count → Words (take count log)
+  followed_words : {count : ℕ} → Followed (describe kind) s log count → Words (take count log)
   followed_words {count} f =
       record {
         aligned = λ k h. rw (logged_in f k (omega (arith, log_length f))) (met_within kind s bytes k).aligned;
@@ -83,6 +66,12 @@ module _ (kind : Kind) (s log : List ℕ) (bytes : Bytes s) where
             rw (logged_in f k (omega (arith, log_length f)))
             (omega (arith, (met_within kind s bytes k).aligned, (met_within kind s bytes k).below, span_most kind));
       }
+
+  -- what broke is looked for in the log of a chase that stopped
+  pub broken_asks : {count pointer : ℕ} → Stops kind s log count pointer → Words (take count log) × Onward pointer
+  broken_asks t =
+      let u = t.underway in
+      (followed_words u.followed, record { not_end = t.onward; inside = u.inside })
 
   -- with so many pointers followed, and no offset twice up to some place, the walk comes to the pointer there
   reached_place : {count : ℕ} → Followed (describe kind) s log count → (index : ℕ) → FirstAgain (take count log) index
@@ -125,12 +114,12 @@ module _ (kind : Kind) (s log : List ℕ) (bytes : Bytes s) where
         record { earlier = o.0; before = o.1; same = sym (logged_in f index less) ∙ sym o.2 ∙ logged_in f o.0 (omega (arith, o.1)) })
         (eq-or-lt_of_le inside)
 
-    pub walks_told : {room : List ℕ} {r : Walked} → Roomy kind room → Told (describe kind) log count pointer r → Walks kind s room r room
+    pub walks_told : {room : List ℕ} {r : Refused} → Roomy kind room → Told (describe kind) (take count log) pointer r → Walks kind s room (Err r) room
     walks_told {room} roomy (below low a) =
         let u = t.underway in
         let f = u.followed in
         let fell : met (describe kind) s count < (describe kind).floor = omega (arith, u.here) in
-        broken u.space roomy 11 (last_of log count)
+        broken u.space roomy 11 (last_of (take count log) (length (take count log)))
         (falls count
         (λ k small.
         record {
@@ -138,11 +127,12 @@ module _ (kind : Kind) (s log : List ℕ) (bytes : Bytes s) where
           above = f.leading.above k small;
           new = new_before f.leading (inr fell) k small;
         })
-        (record { onward = λ z. t.onward (u.here ∙ z); low = fell }) refl (last_holder f count (omega arith)))
+        (record { onward = λ z. t.onward (u.here ∙ z); low = fell }) refl
+        (ap (last_of (take count log)) (log_length f) ∙ last_holder f count (omega arith)))
         (refuses room a)
     walks_told {room} roomy (back high index again a) =
         let f = t.underway.followed in
-        broken t.underway.space roomy 12 (last_of log index)
+        broken t.underway.space roomy 12 (last_of (take count log) index)
         (turns index (reached_place f index again) (back_there high index again) refl
         (last_holder f index (omega (arith, again.within, log_length f))))
         (refuses room a)

@@ -1,17 +1,15 @@
 -- What the private functions of this crate tell each other while a chain is followed. No promise of a public entry cites this file.
 -- Assumes nothing.
-use Rattle.std.specs.Prelude.{ℕ, zero, suc, ◌*◌, ◌/◌, ◌≤◌, ◌<◌, List, ◌⊎◌, ◌≡◌, length, take, get_or}
+use Rattle.std.specs.Prelude.{ℕ, zero, suc, ◌*◌, ◌/◌, ◌≤◌, ◌<◌, List, ◌⊎◌, ◌≡◌, length, take, get_or, Result, Ok, Err}
 use Rattle.words.specs.Fields.{word}
 use Rattle.answers.specs.declared.Refusal.{Refusal}
 use Rattle.answers.specs.declared.Refusal.TheVariants.{BelowFloor, ComesBack}
-use Rattle.answers.specs.declared.Answer.TheVariants.{Refused}
 use Rattle.lists.specs.declared.Kind.{Kind}
 use Rattle.lists.specs.declared.Kind.TheVariants.{Compatible, Extended, Trusted}
-use Rattle.lists.specs.declared.Walked.{Walked}
+use Rattle.lists.specs.declared.Refused.{Refused}
 use Rattle.lists.specs.declared.chase.Step.{Step}
 use Rattle.lists.specs.declared.chase.Step.TheVariants.{Next, End, Fault}
-use Rattle.lists.specs.declared.chase.Chased.{Chased}
-use Rattle.lists.specs.declared.chase.Chased.TheVariants.{Ended, Stopped}
+use Rattle.lists.specs.declared.chase.Stopped.{Stopped}
 use Rattle.lists.specs.Table.{ListRule, describe}
 use Rattle.lists.specs.Chain.{HasChain}
 use Rattle.lists.specs.Breaks.{met, Back}
@@ -78,9 +76,9 @@ pub record Stops (kind : Kind) (s log : List ℕ) (count pointer : ℕ) : Type 0
   pub why : (pointer < (describe kind).floor) ⊎ (Back (describe kind) s count ⊎ (count ≡ length log))
 
 -- how a chase ended, with its log
-abbrev pub Chases : Kind → List ℕ → Chased → List ℕ → Type 0
-Chases kind s (Ended count) log = (count ≤ length log) × HasChain (describe kind) s (take count log)
-Chases kind s (Stopped count position) log = Stops kind s log count (offset_of kind position)
+abbrev pub Chases : Kind → List ℕ → Result ℕ Stopped → List ℕ → Type 0
+Chases kind s (Ok count) log = (count ≤ length log) × HasChain (describe kind) s (take count log)
+Chases kind s (Err stopped) log = Stops kind s log stopped.count (offset_of kind stopped.position)
 
 -- the offset that was passed last of the first so many of a log, or 0 where none was
 abbrev pub last_of : List ℕ → ℕ → ℕ
@@ -98,14 +96,11 @@ pub record FirstAgain (log : List ℕ) (index : ℕ) : Type 0 where
   pub apart : (j k : ℕ) → j < k → k < index → get_or log j 0 ≡ get_or log k 0 → ⊥
   pub again : index < length log → (j : ℕ) × (j < index) × (get_or log j 0 ≡ get_or log index 0)
 
--- an answer that is a refusal, with a place
-pub record RefusedAt (refusal : Refusal) (place : ℕ) (r : Walked) : Type 0 where
-  pub given : r.answer ≡ Refused refusal
-  pub none : r.count ≡ 0
-  pub told : r.place ≡ place
+-- a refusal is told, with a place
+abbrev pub RefusedAt : Refusal → ℕ → Refused → Type 0
+RefusedAt refusal place r = r ≡ record { refusal = refusal; place = place }
 
--- what a chase that stopped with so many offsets in its log at a pointer is answered by, unless it is gone on with
-pub data Told (list : ListRule) (log : List ℕ) (count pointer : ℕ) (r : Walked) : Type 0 where
-  below : pointer < list.floor → RefusedAt BelowFloor (last_of log count) r → Told list log count pointer r
-  back : list.floor ≤ pointer → (index : ℕ) → FirstAgain (take count log) index → RefusedAt ComesBack (last_of log index) r
-      → Told list log count pointer r
+-- what a chase that stopped at a pointer, with these offsets passed, is refused by, unless it is gone on with
+pub data Told (list : ListRule) (passed : List ℕ) (pointer : ℕ) (r : Refused) : Type 0 where
+  below : pointer < list.floor → RefusedAt BelowFloor (last_of passed (length passed)) r → Told list passed pointer r
+  back : list.floor ≤ pointer → (index : ℕ) → FirstAgain passed index → RefusedAt ComesBack (last_of passed index) r → Told list passed pointer r

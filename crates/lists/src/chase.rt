@@ -3,9 +3,9 @@ ghost use Rattle.std.specs.Prelude.{◌≡◌, ◌⊎◌, ◌≤◌, ◌<◌};
 ghost use Rattle.lists.specs.Table.{describe};
 ghost use Rattle.lists.specs.Inner.{offset_of, Leads, Underway, Chases};
 
-use crate::{Kind, table};
+use crate::table::{self, List};
 
-// Where a pointer leads: "the next offset, the end, or a fault".
+// Where a pointer leads: "the next offset, the end, or a fault". A Result of an Option is no plainer than the three.
 #[derive(Clone, Copy)]
 pub(crate) enum Step {
     Next(usize),
@@ -13,23 +13,22 @@ pub(crate) enum Step {
     Fault,
 }
 
-// How a chase comes out, with so many offsets logged: at the chain's end; or it stopped at a position, which is below the floor or was passed before,
-// or for which the log has no room.
+// Where a chase stopped, with so many offsets logged: at a position that is below the floor or was passed before, or for which the log has no room.
 #[derive(Clone, Copy)]
-pub(crate) enum Chased {
-    Ended(usize),
-    Stopped(usize, usize),
+pub(crate) struct Stopped {
+    pub(crate) count: usize,
+    pub(crate) position: usize,
 }
 
-pub(crate) fn step_to(kind: Kind, position: usize) -> Step
-    requires { offset_of kind position ≤ 0xffc }
-    ensures { Leads (describe kind) (offset_of kind position) result }
+pub(crate) fn step_to<L: List>(position: usize) -> Step
+    requires { offset_of L.kind position ≤ 0xffc }
+    ensures { Leads (describe L.kind) (offset_of L.kind position) result }
 {
-    let pointer = table::offset(kind, position);
+    let pointer = L::offset(position);
     if pointer == 0 {
         return Step::End;
     }
-    if pointer < table::floor(kind) {
+    if pointer < L::floor() {
         return Step::Fault;
     }
     Step::Next(pointer)
@@ -40,39 +39,44 @@ fn moved_up(waiting: usize, last: usize, count: usize) -> usize
     requires { 0 < count }
     ensures { (result ≡ waiting) ⊎ (result ≡ last) }
 {
-    if count & (count - 1) == 0 {
-        return last;
+    if count.is_power_of_two() {
+        last
+    } else {
+        waiting
     }
-    waiting
 }
 
-// Goes on from a position with `passed` offsets in the log. What is carried is a position: a word's number, from which the next header is loaded without
-// another step between, and in the compatible list the offset of the byte before its pointer. A list that goes round comes by the position that waits, so
-// that a short round is noticed early; a chain that ends pays two comparisons a header for it, and no mark.
-pub(crate) fn chase(kind: Kind, space: &[u8], log: &mut [u16], passed: usize, from: usize) -> Chased
-    requires { Underway kind space.now log.old passed (offset_of kind from) }
-    ensures { Chases kind space.now result log.new }
+// Goes on from a position with `passed` offsets in the log, and answers how many there are at the chain's end. What is carried is a position: a word's
+// number, from which the next header is loaded without another step between, and in the compatible list the offset of the byte before its pointer. A list
+// that goes round comes by the position that waits, so that a short round is noticed early; a chain that ends pays two comparisons a header for it, and no
+// mark. No `for` over the log: a chain may end where it is full.
+#[tactic(auto, using(crate::proofs::Following::chase_ends))]
+pub(crate) fn chase<L: List>(
+    space: &[u8; words::SPACE],
+    log: &mut [u16],
+    passed: usize,
+    from: usize,
+) -> Result<usize, Stopped>
+    requires { Underway L.kind space.now log.old passed (offset_of L.kind from) }
+    ensures { Chases L.kind space.now result log.new }
 {
     let mut count = passed;
     let mut position = from;
     let mut waiting = 0;
     loop {
-        let taken = step_to(kind, position);
+        let taken = step_to::<L>(position);
         let Step::Next(at) = taken else {
             if let Step::End = taken {
-                return Chased::Ended(count);
+                return Ok(count);
             }
-            return Chased::Stopped(count, position);
+            return Err(Stopped { count, position });
         };
-        if position == waiting {
-            return Chased::Stopped(count, position);
-        }
-        if count == log.len() {
-            return Chased::Stopped(count, position);
+        if position == waiting || count == log.len() {
+            return Err(Stopped { count, position });
         }
         log[count] = at as u16;
         count += 1;
         waiting = moved_up(waiting, position, count);
-        position = table::follow(kind, space, position);
+        position = table::follow::<L>(space, position);
     }
 }

@@ -2,17 +2,17 @@
 // The capability lists of a lent configuration space: the chain of one of three lists, or what broke in it, and where.
 // `walk` answers for every list, space and room. It follows at most the list's maximum of pointers, each of a chain that ends only once, and nothing
 // scans the space. A refusal leaves the room as it was lent.
-ghost use Rattle.std.specs.Prelude.{◌≡◌, ◌≤◌, ◌<◌, length, take};
+ghost use Rattle.std.specs.Prelude.{◌≡◌, ◌≤◌, ◌<◌, length};
 ghost use Rattle.lists.specs.Table.{describe};
 ghost use Rattle.lists.specs.Walks.{Walks, WholeSpace, Roomy, Lists};
-ghost use Rattle.lists.specs.Inner.{offset_of, Underway, Stops, Words, Onward, RefusedAt, Told};
+ghost use Rattle.lists.specs.Inner.{offset_of, last_of, Underway, Stops, Words, Onward, Told};
 
-use answers::{Answer, Refusal};
-use chase::{Chased, Step};
+use answers::Refusal;
+use chase::{Step, Stopped};
+use table::{Compatible, Extended, List, Trusted};
 pub use table::{COMPATIBLE_MAXIMUM, EXTENDED_MAXIMUM, TRUSTED_MAXIMUM};
 
 mod chase; // chase.rt: a chain is followed, a step at a time
-mod logs; // logs.rt: lists of offsets
 mod marks; // marks.rt: where a list comes back for the first time
 mod table; // table.rt: the three lists, as document 01 describes them
 
@@ -24,13 +24,12 @@ pub enum Kind {
     Trusted,
 }
 
-// What a walk answers. The place, where the list is broken, is the offset of the structure that holds the pointer at fault, or 0 where the
-// start itself is at fault, and 0 otherwise. The count is that of the headers read, 0 where the walk is refused.
+// Why a list is not listed. The place, where the list is broken, is the offset of the structure that holds the pointer at fault, or 0 where the
+// start itself is at fault, and 0 otherwise.
 #[derive(Clone, Copy)]
-pub struct Walked {
-    pub answer: Answer,
+pub struct Refused {
+    pub refusal: Refusal,
     pub place: u16,
-    pub count: usize,
 }
 
 // A first log holds the longest compatible chain, and most others; a second holds the longest of all.
@@ -38,106 +37,108 @@ const SHORT: usize = COMPATIBLE_MAXIMUM;
 
 const LONG: usize = TRUSTED_MAXIMUM;
 
-// Lists the offsets of a list's headers in `room`, in order.
-pub fn walk(kind: Kind, space: &[u8], room: &mut [u16]) -> Walked
+// Lists the offsets of a list's headers in `room`, in order, and answers how many there are.
+pub fn walk(kind: Kind, space: &[u8], room: &mut [u16]) -> Result<usize, Refused>
     ensures { Walks kind space.now room.old result room.new }
 {
-    if space.len() != words::SPACE {
-        return refused(Refusal::BadDescription, 0);
-    }
-    if room.len() < table::maximum(kind) {
-        return refused(Refusal::NoRoom, 0);
-    }
-    // Two calls, so that the walk is no part of this function, and is compiled for each list where that is known.
+    let Ok(space) = <&[u8; words::SPACE]>::try_from(space) else {
+        return Err(Refused {
+            refusal: Refusal::BadDescription,
+            place: 0,
+        });
+    };
     match kind {
-        Kind::Compatible => walk_short(Kind::Compatible, space, room),
-        _ => walk_short(kind, space, room),
+        Kind::Compatible => walk_list::<Compatible>(space, room),
+        Kind::Extended => walk_list::<Extended>(space, room),
+        Kind::Trusted => walk_list::<Trusted>(space, room),
     }
 }
 
-fn refused(refusal: Refusal, place: u16) -> Walked
-    ensures { RefusedAt refusal place result }
+// With a short log at first: a chain that ends in it is listed.
+fn walk_list<L: List>(space: &[u8; words::SPACE], room: &mut [u16]) -> Result<usize, Refused>
+    ensures { Walks L.kind space.now room.old result room.new }
 {
-    Walked {
-        answer: Answer::Refused(refusal),
-        place,
-        count: 0,
+    if room.len() < L::maximum() {
+        return Err(Refused {
+            refusal: Refusal::NoRoom,
+            place: 0,
+        });
     }
-}
-
-// The walk with a short log: a chain that ends in it is listed. What else there may be is two calls, as above, so that this function stays small
-// enough to be compiled for each list.
-fn walk_short(kind: Kind, space: &[u8], room: &mut [u16]) -> Walked
-    requires { WholeSpace space.now × Roomy kind room.old }
-    ensures { Walks kind space.now room.old result room.new }
-{
     let mut log = [0u16; SHORT];
-    let start = table::first(kind, space);
-    match chase::chase(kind, space, &mut log, 0, start) {
-        Chased::Ended(count) => listed(&log, count, room),
-        Chased::Stopped(count, position) => match kind {
-            Kind::Compatible => go_on(Kind::Compatible, space, &log, count, position, room),
-            _ => go_on(kind, space, &log, count, position, room),
-        },
+    let start = table::first::<L>(space);
+    match chase::chase::<L>(space, &mut log, 0, start) {
+        Ok(count) => Ok(list(&log[..count], room)),
+        Err(stopped) => go_on::<L>(space, &log, stopped, room),
     }
 }
 
 // The walk from where it stopped: with a long log where the short one was full and the list may be longer, and else it is broken.
-fn go_on(
-    kind: Kind,
-    space: &[u8],
-    short: &[u16; SHORT],
-    count: usize,
-    position: usize,
+fn go_on<L: List>(
+    space: &[u8; words::SPACE],
+    short: &[u16],
+    stopped: Stopped,
     room: &mut [u16],
-) -> Walked
-    requires { Stops kind space.now short.now count (offset_of kind position) × Roomy kind room.old }
-    ensures { Walks kind space.now room.old result room.new }
+) -> Result<usize, Refused>
+    requires { Stops L.kind space.now short.now stopped.count (offset_of L.kind stopped.position) × Roomy L.kind room.old × (length short.now ≡ 48) }
+    ensures { Walks L.kind space.now room.old result room.new }
 {
-    if count == SHORT {
-        if SHORT < table::maximum(kind) {
-            return walk_long(kind, space, short, position, room);
-        }
+    let Stopped { count, position } = stopped;
+    if count == SHORT && SHORT < L::maximum() {
+        return walk_long::<L>(space, short, position, room);
     }
-    broken(kind, short, count, position)
+    Err(broken::<L>(&short[..count], position))
 }
 
 // The walk from where a short log was full: to the list's maximum.
-fn walk_long(kind: Kind, space: &[u8], short: &[u16], position: usize, room: &mut [u16]) -> Walked
-    requires { Underway kind space.now short.now (length short.now) (offset_of kind position) × Roomy kind room.old × (length short.now ≡ 48) × (48 < (describe kind).maximum) }
-    ensures { Walks kind space.now room.old result room.new }
+fn walk_long<L: List>(
+    space: &[u8; words::SPACE],
+    short: &[u16],
+    position: usize,
+    room: &mut [u16],
+) -> Result<usize, Refused>
+    requires { Underway L.kind space.now short.now (length short.now) (offset_of L.kind position) × Roomy L.kind room.old × (length short.now ≡ 48) × (48 < (describe L.kind).maximum) }
+    ensures { Walks L.kind space.now room.old result room.new }
 {
     let mut log = [0u16; LONG];
-    let most = table::maximum(kind);
-    logs::copy(short, SHORT, &mut log);
-    match chase::chase(kind, space, &mut log[..most], SHORT, position) {
-        Chased::Ended(count) => listed(&log[..most], count, room),
-        Chased::Stopped(count, last) => broken(kind, &log[..most], count, last),
+    log[..SHORT].copy_from_slice(short);
+    let log = &mut log[..L::maximum()];
+    match chase::chase::<L>(space, log, SHORT, position) {
+        Ok(count) => Ok(list(&log[..count], room)),
+        Err(stopped) => Err(broken::<L>(&log[..stopped.count], stopped.position)),
     }
 }
 
-// The chain in a log is listed in the room.
-fn listed(log: &[u16], count: usize, room: &mut [u16]) -> Walked
-    requires { (count ≤ length log.now) × (count ≤ length room.old) }
-    ensures { Lists (take count log.now) room.old result room.new }
+// A chain is listed in the room.
+fn list(chain: &[u16], room: &mut [u16]) -> usize
+    requires { length chain.now ≤ length room.old }
+    ensures { Lists chain.now room.old (Ok result) room.new }
 {
-    logs::copy(log, count, room);
-    Walked {
-        answer: Answer::Done,
-        place: 0,
-        count,
-    }
+    room[..chain.len()].copy_from_slice(chain);
+    chain.len()
 }
 
-// What broke in a list, with so many offsets passed and a pointer that it did not go on by: it is below the floor; or the list comes back, and is
+// What broke in a list, with these offsets passed and a pointer that it did not go on by: it is below the floor; or the list comes back, and is
 // told where it does so first.
-fn broken(kind: Kind, log: &[u16], count: usize, position: usize) -> Walked
-    requires { (count ≤ length log.now) × Words (take count log.now) × Onward (offset_of kind position) }
-    ensures { Told (describe kind) log.now count (offset_of kind position) result }
+fn broken<L: List>(passed: &[u16], position: usize) -> Refused
+    requires { Words passed.now × Onward (offset_of L.kind position) }
+    ensures { Told (describe L.kind) passed.now (offset_of L.kind position) result }
 {
-    if let Step::Fault = chase::step_to(kind, position) {
-        return refused(Refusal::BelowFloor, logs::last(log, count));
+    if let Step::Fault = chase::step_to::<L>(position) {
+        return Refused {
+            refusal: Refusal::BelowFloor,
+            place: last(passed),
+        };
     }
-    let index = marks::first_again(&log[..count]);
-    refused(Refusal::ComesBack, logs::last(log, index))
+    let index = marks::first_again(passed);
+    Refused {
+        refusal: Refusal::ComesBack,
+        place: last(&passed[..index]),
+    }
+}
+
+// The last of some offsets, or 0 where there are none.
+fn last(log: &[u16]) -> u16
+    ensures { result ≡ last_of log.now (length log.now) }
+{
+    log.last().copied().unwrap_or(0)
 }

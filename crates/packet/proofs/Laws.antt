@@ -3,88 +3,31 @@ use Prim.Native.Nat.{ℕ, ◌+◌, ◌*◌, ◌%◌, ◌<◌, ◌≤◌}
 use mathlib.Core.Bool.{Bool, true, false, not, cond, ◌&&◌, ◌||◌, and-false, false≢true}
 use mathlib.Core.List.Memᴰ
 use mathlib.Core.List.{List, [], ◌∷◌}
-use mathlib.Core.Path.{◌≡◌, refl, sym, ap, ap₂, ◌∙◌}
-use native.Mathlib.Nat.{mod-eq_of_lt}
+use mathlib.Core.Path.{◌≡◌, refl, sym, ◌∙◌}
 use native.Mathlib.Omega.{arith}
-use lib.Bits.{bit_and, bit_or, and_mask, mask_lt, and_high, or_shifted}
 use lib.Dec.{eqb, ltb}
 use lib.ListN.{length}
-use borrow.Author.Tests.{eq-eqb, ne_eqb, lt-ltb, le-ltb, eqb-true, not-false}
+use Rattle.std.specs.Prelude.{None}
+use borrow.Author.Tests.{le-ltb, eq-eqb, lt-ltb, eqb-true, not-false}
 use Rattle.answers.proofs.Checks.{Positive, none_applies}
-use Rattle.packet.specs.declared.TypeCode.TheVariants.{Known, Unknown}
 use Rattle.words.specs.Bytes.{byte}
-use Rattle.packet.specs.declared.Target.{Target}
+use Rattle.packet.specs.declared.Access.{Access}
 use Rattle.packet.specs.declared.Target.TheVariants.{Type0, Type1, Trusted}
-use Rattle.packet.specs.declared.Decoded.{Decoded}
-use Rattle.packet.specs.declared.Decoded.TheVariants.{Asks, Refused}
-use Rattle.packet.specs.Fields.{type_code, bit7_set, refuses_bit7, type_of, digest, length_field, offset_of, whole_length, wrong_field}
-use Rattle.packet.specs.Request.{typed, writes_of, checks_under, number_under, packet_checks, packet_number, request_of, target_of, is_trusted, trusted, trusted_under, Decodes, DecodesUnder}
+use Rattle.packet.specs.Fields.{type_code, bit7_set, refuses_bit7, known, type_of, digest, whole_length, wrong_field}
+use Rattle.packet.specs.Request.{typed, writes_of, checks_under, number_under, packet_checks, packet_number, request_of, target_of, is_trusted, trusted, trusted_under}
 use Rattle.packet.specs.Inner.{KnownHeader}
 
--- byte 0 without bit 7 is the type code
-pub code_is : (first k : ℕ) → bit_and first 127 ≡ k → type_code first ≡ k
-code_is first k h = omega (arith, and_mask first 7)
-
-pub type_unknown : (code : ℕ) → (code ≡ 0x04 → ⊥) → (code ≡ 0x44 → ⊥) → (code ≡ 0x05 → ⊥) → (code ≡ 0x45 → ⊥) → (code ≡ 0x1b → ⊥)
-    → (code ≡ 0x5b → ⊥) → type_of code ≡ Unknown
-unfolding type_of
-type_unknown code a b c d e f =
-    rw (ne_eqb code 0x04 a, ne_eqb code 0x44 b, ne_eqb code 0x05 c, ne_eqb code 0x45 d, ne_eqb code 0x1b e, ne_eqb code 0x5b f)
-
--- the test that a field is not the value that it must have
-pub not_is : (a b k : ℕ) → a ≡ b → (a ≡ k → ⊥) → not (eqb b k) ≡ true
-not_is a b k e h = ap not (ne_eqb b k (λ f. h (e ∙ f)))
-
-pub is : (a b k : ℕ) → a ≡ b → a ≡ k → not (eqb b k) ≡ false
-is a b k e h = ap not (eq-eqb b k (sym e ∙ h))
-
--- fields of two bytes
-pub length_is : (two three high low : ℕ) → three < 256 → high ≡ bit_and two 3 → low ≡ three
-    → bit_or (high * 256 % 18446744073709551616) low ≡ length_field two three
-length_is two three high low h e f =
-    ap₂ (λ (x y : ℕ). bit_or (x * 256 % 18446744073709551616) y) e f
-    ∙ ap (λ (x : ℕ). bit_or x three) (mod-eq_of_lt {n = bit_and two 3 * 256} {m = 18446744073709551616} (omega (arith, mask_lt two 2)))
-    ∙ or_shifted (bit_and two 3) 8 three h
-    ∙ omega (arith, and_mask two 2)
-
-pub offset_is : (ten eleven high low : ℕ) → eleven < 256 → high ≡ bit_and ten 15 → low ≡ bit_and eleven 252
-    → bit_or (high * 256 % 18446744073709551616) low ≡ offset_of ten eleven
-offset_is ten eleven high low h e f =
-    ap₂ (λ (x y : ℕ). bit_or (x * 256 % 18446744073709551616) y) e f
-    ∙ ap (λ (x : ℕ). bit_or x (bit_and eleven 252)) (mod-eq_of_lt {n = bit_and ten 15 * 256} {m = 18446744073709551616} (omega (arith, mask_lt ten 4)))
-    ∙ or_shifted (bit_and ten 15) 8 (bit_and eleven 252) (omega (arith, and_high eleven 6 2))
-    ∙ omega (arith, and_mask ten 4, and_high eleven 6 2)
-
--- the four ways to be refused, and the way through: what each test of the code has shown, and the number
-module _ (p : List ℕ) where
-  pub number_unknown : 12 ≤ length p → typed p ≡ Unknown → packet_number p ≡ 4
-  number_unknown long e = rw (le-ltb (length p) 12 long, e)
-
-  module _ (writes : Bool) (target : Target) (header : KnownHeader p writes target) where
-    pub number_length : (length p ≡ whole_length writes (byte p 2) → ⊥) → packet_number p ≡ 5
-    number_length h = rw (le-ltb (length p) 12 header.long, header.known, ne_eqb (length p) (whole_length writes (byte p 2)) h)
-
-    -- past the check 5, the check 6 decides
-    pub number_past : (wrong : Bool) → length p ≡ whole_length writes (byte p 2) → wrong ≡ wrong_field (byte p 1) (byte p 2) (byte p 3) (byte p 7)
-        → packet_number p ≡ cond wrong 6 0
-    number_past wrong whole e =
-        rw (le-ltb (length p) 12 header.long, header.known, eq-eqb (length p) (whole_length writes (byte p 2)) whole, e)
+-- past the check 5, the check 6 decides
+pub number_past : (p : List ℕ) (access : Access) → KnownHeader p access → length p ≡ whole_length access.writes (byte p 2)
+    → packet_number p ≡ cond (wrong_field (byte p 1) (byte p 2) (byte p 3) (byte p 7)) 6 0
+number_past p access header whole =
+    rw (le-ltb (length p) 12 header.long, header.known, eq-eqb (length p) (whole_length access.writes (byte p 2)) whole)
 
 -- ---- the edition: what is not refused for bit 7 is looked at as where the bit is ignored
 
 module _ (edition : ℕ) (p : List ℕ) where
-  pub number_bit_7 : 12 ≤ length p → refuses_bit7 edition (byte p 0) ≡ true → number_under edition p ≡ 4
-  number_bit_7 long e = rw (le-ltb (length p) 12 long, e)
-
-  pub number_short_under : length p < 12 → number_under edition p ≡ 3
-  number_short_under h = rw (lt-ltb (length p) 12 h)
-
   pub number_under_lem : refuses_bit7 edition (byte p 0) ≡ false → number_under edition p ≡ packet_number p
   number_under_lem e = rw e
-
-  pub decodes_under : (r : Decoded) → refuses_bit7 edition (byte p 0) ≡ false → Decodes p r → DecodesUnder edition p r
-  decodes_under (Asks request) e d = (number_under_lem e ∙ d.0, d.1)
-  decodes_under (Refused refusal) e d = number_under_lem e ∙ d
 
   -- a packet without a fault is not refused for it
   not_refused : (refuses : Bool) → refuses_bit7 edition (byte p 0) ≡ refuses → number_under edition p ≡ 0 → refuses ≡ false
@@ -102,7 +45,7 @@ module _ (edition : ℕ) (p : List ℕ) where
   sound_under n = sym (number_under_lem (accepted n)) ∙ n
 
 pub number_short : (p : List ℕ) → length p < 12 → packet_number p ≡ 3
-number_short p h = number_short_under 1 p h
+number_short p h = rw (lt-ltb (length p) 12 h)
 
 -- with bit 7 clear, no edition refuses it
 pub clear_accepted : (edition first : ℕ) → bit7_set first ≡ false → refuses_bit7 edition first ≡ false
@@ -142,7 +85,7 @@ write_long p e w =
 
 -- ---- trusted packets ask for the trusted space, and no other packet does
 
-last_two : (a b : Bool) → is_trusted (target_of (cond a (Known false Trusted) (cond b (Known true Trusted) Unknown))) ≡ (a || b)
+last_two : (a b : Bool) → is_trusted (target_of (cond a (known false Trusted) (cond b (known true Trusted) None))) ≡ (a || b)
 last_two true b = refl
 last_two false true = refl
 last_two false false = refl
@@ -152,8 +95,8 @@ unfolding type_of
 type_trusted code = go (eqb code 0x04) (eqb code 0x44) (eqb code 0x05) (eqb code 0x45) refl refl refl refl
   where
     go : (a b c d : Bool) → eqb code 0x04 ≡ a → eqb code 0x44 ≡ b → eqb code 0x05 ≡ c → eqb code 0x45 ≡ d
-        → is_trusted (target_of (cond a (Known false Type0) (cond b (Known true Type0) (cond c (Known false Type1) (cond d (Known true Type1)
-        (cond (eqb code 0x1b) (Known false Trusted) (cond (eqb code 0x5b) (Known true Trusted) Unknown)))))))
+        → is_trusted (target_of (cond a (known false Type0) (cond b (known true Type0) (cond c (known false Type1) (cond d (known true Type1)
+        (cond (eqb code 0x1b) (known false Trusted) (cond (eqb code 0x5b) (known true Trusted) None)))))))
         ≡ (eqb code 0x1b || eqb code 0x5b)
     go true b c d e f g h = rw (eqb-true code 0x04 e)
     go false true c d e f g h = rw (eqb-true code 0x44 f)

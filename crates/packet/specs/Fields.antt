@@ -1,12 +1,12 @@
 -- Document 01, "The packet": "Bytes as sent". Assumes nothing.
-use Rattle.std.specs.Prelude.{ℕ, ◌+◌, ◌*◌, Bool, true, false, not, ◌&&◌, cond, List, [], ◌∷◌, eqb}
+use Rattle.std.specs.Prelude.{ℕ, ◌+◌, ◌*◌, Bool, true, false, not, ◌&&◌, cond, List, [], ◌∷◌, Option, Some, None, eqb}
 use Rattle.answers.specs.Checks.{any}
 use Rattle.words.specs.Bytes.{byte, four}
 use Rattle.words.specs.Fields.{bits, bit}
 use Rattle.packet.specs.declared.Id.{Id}
+use Rattle.packet.specs.declared.Access.{Access}
+use Rattle.packet.specs.declared.Target.{Target}
 use Rattle.packet.specs.declared.Target.TheVariants.{Type0, Type1, Trusted}
-use Rattle.packet.specs.declared.TypeCode.{TypeCode}
-use Rattle.packet.specs.declared.TypeCode.TheVariants.{Known, Unknown}
 
 -- "0: bit 7 reserved and ignored; bits 6 to 0 the type code."
 abbrev pub type_code : ℕ → ℕ
@@ -63,15 +63,18 @@ abbrev pub data_of : List ℕ → List ℕ
 data_of p = four p 12
 
 -- "Six type codes are served: 04h and 44h (read, write, Type 0), 05h and 45h (read, write, Type 1), 1Bh and 5Bh (trusted read, write)."
-unfoldable pub type_of : ℕ → TypeCode
+abbrev pub known : Bool → Target → Option Access
+known writes target = Some (record { writes = writes; target = target })
+
+unfoldable pub type_of : ℕ → Option Access
 type_of code =
-    cond (eqb code 0x04) (Known false Type0)
-    (cond (eqb code 0x44) (Known true Type0)
-    (cond (eqb code 0x05) (Known false Type1)
-    (cond (eqb code 0x45) (Known true Type1)
-    (cond (eqb code 0x1b) (Known false Trusted)
-    (cond (eqb code 0x5b) (Known true Trusted)
-    Unknown)))))
+    cond (eqb code 0x04) (known false Type0)
+    (cond (eqb code 0x44) (known true Type0)
+    (cond (eqb code 0x05) (known false Type1)
+    (cond (eqb code 0x45) (known true Type1)
+    (cond (eqb code 0x1b) (known false Trusted)
+    (cond (eqb code 0x5b) (known true Trusted)
+    None)))))
 
 -- "TC, Attr and last enables must be 0 and Length must be 1, else 6.": bytes 1, 2, 3 and 7
 abbrev pub wrong_field : ℕ → ℕ → ℕ → ℕ → Bool

@@ -1,34 +1,32 @@
 -- Document 01, "The packet": the checks 3 to 6, lowest number first, and the request that a packet with none of those faults is.
 -- Assumes nothing.
-use Rattle.std.specs.Prelude.{ℕ, Bool, true, false, not, ◌&&◌, ◌||◌, List, [], ◌∷◌, ◌≡◌, eqb, ltb, length}
+use Rattle.std.specs.Prelude.{ℕ, Bool, true, false, not, ◌&&◌, ◌||◌, List, [], ◌∷◌, Option, Some, None, Result, Ok, Err, ◌≡◌, eqb, ltb, length}
+use Rattle.answers.specs.declared.Refusal.{Refusal}
 use Rattle.answers.specs.Checks.{Check, check, first_that_applies}
 use Rattle.answers.specs.Numbers.{number_of}
 use Rattle.words.specs.Bytes.{byte}
 use Rattle.packet.specs.declared.Target.{Target}
 use Rattle.packet.specs.declared.Target.TheVariants.{Type0, Type1, Trusted}
-use Rattle.packet.specs.declared.TypeCode.{TypeCode}
-use Rattle.packet.specs.declared.TypeCode.TheVariants.{Known, Unknown}
+use Rattle.packet.specs.declared.Access.{Access}
 use Rattle.packet.specs.declared.Request.{Request}
-use Rattle.packet.specs.declared.Decoded.{Decoded}
-use Rattle.packet.specs.declared.Decoded.TheVariants.{Asks, Refused}
 use Rattle.packet.specs.Fields.{type_code, refuses_bit7, type_of, poison, requester_of, first_enables, device_of, function_of, offset_of, wrong_field, whole_length}
 
 -- the type of a packet, by its first byte
-abbrev pub typed : List ℕ → TypeCode
+abbrev pub typed : List ℕ → Option Access
 typed p = type_of (type_code (byte p 0))
 
-abbrev pub unknown : TypeCode → Bool
-unknown (Known writes target) = false
-unknown Unknown = true
+abbrev pub unknown : Option Access → Bool
+unknown (Some access) = false
+unknown None = true
 
-abbrev pub writes_of : TypeCode → Bool
-writes_of (Known writes target) = writes
-writes_of Unknown = false
+abbrev pub writes_of : Option Access → Bool
+writes_of (Some access) = access.writes
+writes_of None = false
 
 -- (no request has an unknown type: it is refused)
-abbrev pub target_of : TypeCode → Target
-target_of (Known writes target) = target
-target_of Unknown = Type1
+abbrev pub target_of : Option Access → Target
+target_of (Some access) = access.target
+target_of None = Type1
 
 -- "3 the packet has fewer than 12 bytes; 4 the type code isn't one of the six; 5 the packet length doesn't fit its type and digest bit;
 -- 6 a fixed header field has another value"; and 4 also where, 02, 9/13, the edition "gives answer 4 when [bit 7] is set"
@@ -84,10 +82,10 @@ trusted_under edition p = not (refuses_bit7 edition (byte p 0)) && trusted p
 
 -- what `packet::decode_under` answers: the request of a packet without a fault, else the refusal with the lowest number. An edition that is neither 1 nor 2 is no
 -- board's (02, 9/13: "Any other edition is answer 1", which the board gives before): here it ignores bit 7, as 1 does
-abbrev pub DecodesUnder : ℕ → List ℕ → Decoded → Type 0
-DecodesUnder edition p (Asks request) = (number_under edition p ≡ 0) × (request ≡ request_of p)
-DecodesUnder edition p (Refused refusal) = number_under edition p ≡ number_of refusal
+abbrev pub DecodesUnder : ℕ → List ℕ → Result Request Refusal → Type 0
+DecodesUnder edition p (Ok request) = (number_under edition p ≡ 0) × (request ≡ request_of p)
+DecodesUnder edition p (Err refusal) = number_under edition p ≡ number_of refusal
 
 -- what `packet::decode` answers, which ignores bit 7
-abbrev pub Decodes : List ℕ → Decoded → Type 0
+abbrev pub Decodes : List ℕ → Result Request Refusal → Type 0
 Decodes p r = DecodesUnder 1 p r

@@ -9,24 +9,26 @@ mod decoding;
 mod fields;
 mod reply;
 
-use answers::Refusal;
 pub use decoding::{decode, decode_under};
+pub use fields::type_of;
 pub use reply::{with_data, without_data};
 
-// The editions of byte 0 that a board may have: the first ignores bit 7, and the second refuses what has it set.
+// The editions of byte 0 that a board may have: the first ignores bit 7, and the second refuses what has it set. (Numbers and no enum: a host gives
+// any number, and a board with another edition answers 1.)
 pub const EDITION_1: u32 = 1;
 
 pub const EDITION_2: u32 = 2;
 
-// A requester or completer ID, as its two bytes are sent.
-#[derive(Clone, Copy)]
+// A requester or completer ID, as its two bytes are sent. (In C's layout: a host's structs hold it.)
+#[repr(C)]
+#[derive(Clone, Copy, PartialEq, Eq, Default)]
 pub struct Id {
     pub high: u8,
     pub low: u8,
 }
 
 // Where a request is meant for.
-#[derive(Clone, Copy)]
+#[derive(Clone, Copy, PartialEq, Eq)]
 pub enum Target {
     Type0,
     Type1,
@@ -37,23 +39,19 @@ impl Target {
     pub fn is_trusted(self) -> bool
         ensures { result ≡ is_trusted self }
     {
-        match self {
-            Target::Type0 => false,
-            Target::Type1 => false,
-            Target::Trusted => true,
-        }
+        matches!(self, Target::Trusted)
     }
 }
 
 // What a type code stands for: whether it writes, and where it goes.
-#[derive(Clone, Copy)]
-pub enum TypeCode {
-    Known(bool, Target),
-    Unknown,
+#[derive(Clone, Copy, PartialEq, Eq)]
+pub struct Access {
+    pub writes: bool,
+    pub target: Target,
 }
 
 // What a packet without a fault asks for.
-#[derive(Clone, Copy)]
+#[derive(Clone, Copy, PartialEq, Eq)]
 pub struct Request {
     pub target: Target,
     pub writes: bool,
@@ -67,26 +65,17 @@ pub struct Request {
     pub offset: usize,
 }
 
-#[derive(Clone, Copy)]
-pub enum Decoded {
-    Asks(Request),
-    Refused(Refusal),
-}
-
 // What a completion says of the access: it was done, or it is an Unsupported Request (UR) and was not.
-#[derive(Clone, Copy)]
+#[derive(Clone, Copy, PartialEq, Eq)]
 pub enum Status {
-    Success,
-    Unsupported,
+    Success = 0x00,
+    Unsupported = 0x20,
 }
 
 impl Status {
     pub fn byte(self) -> u8
         ensures { result ≡ status_byte self }
     {
-        match self {
-            Status::Success => 0x00,
-            Status::Unsupported => 0x20,
-        }
+        self as u8
     }
 }

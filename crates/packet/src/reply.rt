@@ -5,6 +5,7 @@ ghost use Rattle.packet.specs.Completion.{with_data, without_data};
 use super::{Id, Status};
 
 // A successful read: 16 bytes.
+#[tactic(auto, unfolding(crate::specs::Completion::with_data))]
 pub fn with_data(completer: Id, requester: Id, tag: u8, four: [u8; 4]) -> [u8; 16]
     ensures { result ≡ with_data completer requester tag four }
 {
@@ -29,6 +30,7 @@ pub fn with_data(completer: Id, requester: Id, tag: u8, four: [u8; 4]) -> [u8; 1
 }
 
 // Any other: 12 bytes, with the status.
+#[tactic(auto, unfolding(crate::specs::Completion::without_data))]
 pub fn without_data(completer: Id, status: Status, requester: Id, tag: u8) -> [u8; 12]
     ensures { result ≡ without_data completer status requester tag }
 {

@@ -9,6 +9,7 @@ use lib.Dec.{eqb}
 use lib.Bits.{bit_and, and_mask, and_high, and_block, and_le_l, and_le_r, and_zero_r, or_zero_r}
 use Rattle.words.specs.Fields.{bit, joined}
 use Rattle.registers.specs.Merge.{lowest_set, enabled, merged_byte}
+use Rattle.std.specs.Int.{w32, to_le_bytes}
 use Rattle.registers.specs.Inner.{mask_of, enabled_bytes}
 use Rattle.registers.proofs.Masks.{masks_merge}
 
@@ -46,8 +47,9 @@ lowest n h =
 pub mask_fits : (copies by : ℕ) → by ≤ 255 → bit_and copies 0x01010101 * by < 0x100000000
 mask_fits copies by small = lt_of_le_of_lt (mul-le-mul (and_le_r copies 0x01010101) small) (omega arith)
 
-pub highest_fits : (n : ℕ) → n < 0x100000000 → n / 0x1000000 < 256
-highest_fits n small = omega arith
+-- the library's four bytes of a number that has no more
+pub bytes_apart : (n : ℕ) → n < 0x100000000 → to_le_bytes w32 n ≡ apart n
+bytes_apart n small = ap (λ (highest : ℕ). n % 0x100 ∷ n / 0x100 % 0x100 ∷ n / 0x10000 % 0x100 ∷ highest ∷ []) (omega arith)
 
 -- four bytes, joined and taken apart again
 module _ (a b c d : ℕ) (ha : a < 256) (hb : b < 256) (hc : c < 256) (hd : d < 256) where

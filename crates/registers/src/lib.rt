@@ -7,6 +7,7 @@ ghost use Rattle.registers.specs.Inner.{enabled_bytes, UnderMask};
 ghost use Rattle.registers.specs.Shown.{shown};
 
 // The data bit where the rule bit is 1, the old bit where it is 0; then 0 where the mark and the data bit are 1.
+#[tactic(auto, using(crate::proofs::Masks::masks_merge))]
 fn merge_byte(old: u8, rule: u8, mark: u8, new: u8) -> u8
     ensures { result ≡ merged_byte old rule mark new }
 {
@@ -20,12 +21,7 @@ fn enabled_bytes(enables: u8) -> [u8; 4]
 {
     let copies = (enables as u32 % 16) * 0x0020_4081;
     let mask = (copies & 0x0101_0101) * 255;
-    [
-        (mask % 0x100) as u8,
-        (mask / 0x100 % 0x100) as u8,
-        (mask / 0x1_0000 % 0x100) as u8,
-        (mask / 0x100_0000) as u8,
-    ]
+    mask.to_le_bytes()
 }
 
 // A byte after a write, under the mask of its enable: without it, no bit is writable and none is marked.
@@ -49,6 +45,7 @@ pub fn merge(old: [u8; 4], rules: [u8; 4], marks: [u8; 4], new: [u8; 4], enables
 }
 
 // Four bytes as a read returns them: all of them.
+#[tactic(auto, unfolding(crate::specs::Shown::shown))]
 pub fn show(bytes: [u8; 4]) -> [u8; 4]
     ensures { result ≡ shown bytes }
 {

@@ -16,12 +16,11 @@ use Rattle.words.specs.Bytes.{byte}
 use Rattle.words.specs.Fields.{bit}
 use Rattle.packet.specs.declared.Target.{Target}
 use Rattle.packet.specs.declared.Target.TheVariants.{Type0, Type1, Trusted}
-use Rattle.packet.specs.declared.TypeCode.{TypeCode}
-use Rattle.packet.specs.declared.TypeCode.TheVariants.{Known}
+use Rattle.packet.specs.declared.Access.{Access}
+use Rattle.std.specs.Prelude.{Option, Result, Ok}
+use Rattle.answers.specs.declared.Refusal.{Refusal}
 use Rattle.packet.specs.declared.Request.{Request}
-use Rattle.packet.specs.declared.Decoded.{Decoded}
-use Rattle.packet.specs.declared.Decoded.TheVariants.{Asks}
-use Rattle.packet.specs.Fields.{type_code, type_of, data_of, wrong_field, whole_length}
+use Rattle.packet.specs.Fields.{known, type_code, type_of, data_of, wrong_field, whole_length}
 use Rattle.packet.specs.Request.{unknown, writes_of, target_of, packet_number, request_of, is_trusted, trusted, Decodes}
 use Rattle.packet.proofs.Laws.{trusted_target}
 use Rattle.packet.proofs.Unique.{decode_unique}
@@ -60,7 +59,7 @@ pub record BecameType0 (p q : List ℕ) : Type 0 where
   pub faultless : packet_number q ≡ 0
   pub request : request_of q ≡ at_type0 (request_of p)
   pub «data» : data_of q ≡ data_of p
-  pub read : (d : Decoded) → Decodes q d → d ≡ Asks (at_type0 (request_of p))
+  pub read : (d : Result Request Refusal) → Decodes q d → d ≡ Ok (at_type0 (request_of p))
 
 -- the last router of a row makes it Type 0, and those before it change nothing
 pub record LastTurns (row : List Router) (p end : List ℕ) : Type 0 where
@@ -95,7 +94,7 @@ AtMostOnce = (row : List Router) (p end : List ℕ) → Way row p end → (Unalt
 
 abbrev pub WhatLeavesIsWritten : Type 0
 WhatLeavesIsWritten =
-    (ports : List Port) (p buffer : List ℕ) (place count : ℕ) (after : List ℕ) → Routes ports p buffer (Leaves place count) after
+    (ports : List Port) (p buffer : List ℕ) (place count : ℕ) (after : List ℕ) → Routes ports p buffer (Ok (Leaves place count)) after
     → Written ports p buffer count after
 
 -- ---- what leaves, by whether it turns
@@ -149,8 +148,8 @@ trusted_never_alters row p end e (Way.onward router more _ left _ w way) =
 -- the two codes of Type 1 are a read and a write, and so are they as Type 0
 pub record Turned (first : ℕ) : Type 0 where
   pub writes : Bool
-  pub from : type_of (type_code first) ≡ Known writes Type1
-  pub to : type_of (type_code (128 * bit 7 first + type0_code (type_code first))) ≡ Known writes Type0
+  pub from : type_of (type_code first) ≡ known writes Type1
+  pub to : type_of (type_code (128 * bit 7 first + type0_code (type_code first))) ≡ known writes Type0
 
 small_code : (c : ℕ) → type0_code c < 128
 small_code c = go (eqb c 0x45)
@@ -176,7 +175,7 @@ turned_codes first =
     code_is c e = ap (λ (x : ℕ). type_code (128 * bit 7 first + type0_code x)) e ∙ low_code (bit 7 first) (type0_code c) (small_code c)
 
 -- the number of a packet, by what its type code stands for
-abbrev number_as : TypeCode → List ℕ → ℕ
+abbrev number_as : Option Access → List ℕ → ℕ
 number_as code rest =
     first_that_applies (check 3 (ltb (suc (length rest)) 12)
     ∷ check 4 (unknown code)
@@ -185,7 +184,7 @@ number_as code rest =
     ∷ [])
 
 same_number : (first : ℕ) (rest : List ℕ) → Turned first → packet_number (as_type0 (first ∷ rest)) ≡ packet_number (first ∷ rest)
-same_number first rest t = ap (λ (c : TypeCode). number_as c rest) t.to ∙ sym (ap (λ (c : TypeCode). number_as c rest) t.from)
+same_number first rest t = ap (λ (c : Option Access). number_as c rest) t.to ∙ sym (ap (λ (c : Option Access). number_as c rest) t.from)
 
 became : (first : ℕ) (rest : List ℕ) → Turned first → packet_number (first ∷ rest) ≡ 0 → BecameType0 (first ∷ rest) (as_type0 (first ∷ rest))
 unfolding request_of
@@ -200,7 +199,7 @@ became first rest t e =
       faultless = number;
       request = request;
       «data» = refl;
-      read = λ d h. decode_unique (as_type0 (first ∷ rest)) d (Asks (at_type0 (request_of (first ∷ rest)))) h (number, sym request);
+      read = λ d h. decode_unique (as_type0 (first ∷ rest)) d (Ok (at_type0 (request_of (first ∷ rest)))) h (number, sym request);
     }
 
 became_type0 : (p : List ℕ) → packet_number p ≡ 0 → target_in p ≡ Type1 → BecameType0 p (as_type0 p)

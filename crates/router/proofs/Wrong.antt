@@ -6,6 +6,7 @@ use mathlib.Core.List.{List, [], ◌∷◌}
 use mathlib.Core.Logic.{⊎_elim}
 use mathlib.Core.Path.{◌≡◌, refl, sym, ap, ◌∙◌}
 use native.Mathlib.Omega.{arith}
+use Rattle.std.specs.Prelude.{Ok}
 use lib.ListN.{length, replicate, take, drop}
 use lib.Seq.{take-append_seam}
 use borrow.Author.Tests.{le-leb}
@@ -144,13 +145,13 @@ twenty = replicate 20 0xee
 
 -- UR to everything, with the packet written or not; and a router by which everything leaves, as Type 0
 abbrev pub unsupporting : AnyRouter
-unsupporting ports p buffer = told Unsupported buffer
+unsupporting ports p buffer = told (Ok Unsupported) buffer
 
 abbrev pub writing : AnyRouter
-writing ports p buffer = told Unsupported (over p buffer)
+writing ports p buffer = told (Ok Unsupported) (over p buffer)
 
 abbrev pub taking : AnyRouter
-taking ports p buffer = told (Leaves 0 (length p)) (over (as_type0 p) buffer)
+taking ports p buffer = told (Ok (Leaves 0 (length p))) (over (as_type0 p) buffer)
 
 pub record SuchRoutersExist : Type 0 where
   -- a range inside another, in either order, and ranges that share one end: each is there, and the router that gives no 1

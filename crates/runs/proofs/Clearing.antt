@@ -1,4 +1,4 @@
--- THEOREM. No server with one of these faults meets the promise of `board::serve`, whatever else it does: for each fault, and of the first four in either space,
+-- THEOREM. No server with one of these faults meets the promise of `Board::serve`, whatever else it does: for each fault, and of the first four in either space,
 -- the board and the packets that show it. Assumes nothing.
 use Prim.Native.Nat.{ℕ, zero, suc, ◌+◌, ◌%◌}
 use mathlib.Core.Bool.{Bool, true, false, cond}

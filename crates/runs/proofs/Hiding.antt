@@ -1,4 +1,4 @@
--- THEOREM. No server that hides a byte of a word from a read, or returns no data where no byte is enabled, meets the promise of `board::serve`, whatever else it
+-- THEOREM. No server that hides a byte of a word from a read, or returns no data where no byte is enabled, meets the promise of `Board::serve`, whatever else it
 -- does: in the trusted space, at A and elsewhere, for any board and any read that succeeds, whatever it enables, it is not right both about that board and about the
 -- same board with any other value of that byte. Assumes nothing.
 use Prim.Native.Nat.{ℕ, zero, suc, ◌+◌, ◌≤◌, ◌<◌}

@@ -1,4 +1,4 @@
--- No server that does what document 01 wants refused meets the promise of `board::serve`, whatever else it does, nor does one that falls into
+-- No server that does what document 01 wants refused meets the promise of `Board::serve`, whatever else it does, nor does one that falls into
 -- a newcomer's trap: for each the board and the packets that show it. Assumes nothing.
 use Prim.Native.Nat.{ℕ}
 use mathlib.Core.Bool.{Bool, true, false, not, ◌&&◌, cond}

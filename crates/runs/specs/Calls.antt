@@ -2,13 +2,12 @@
 use Rattle.std.specs.Prelude.{List, [], ◌∷◌, ◌≡◌, ℕ, length}
 use Rattle.capture.specs.declared.Capture.{Capture}
 use Rattle.capture.specs.Kept.{forgotten}
-use Rattle.board.specs.declared.Served.{Served}
 use Rattle.board.specs.Description.{Board}
 use Rattle.board.specs.Serving.{Outcome}
-use Rattle.board.specs.Promise.{after_call, seen, shows, Serves}
+use Rattle.board.specs.Promise.{Served, after_call, seen, shows, Serves}
 use Rattle.runs.specs.Run.{Event, packet, reset}
 
--- a call of `board::serve`: the packet and the reply as lent, the result, and the two spaces and the reply at its end; or a call of
+-- a call of `Board::serve`: the packet and the reply as lent, what it tells, and the two spaces and the reply at its end; or a call of
 -- `board::reset`: its result
 pub data Call : Type 0 where
   called : (bytes reply : List ℕ) (result : Served) (ordinary trusted replied : List ℕ) → Call
@@ -23,7 +22,7 @@ abbrev pub events_of : List Call → List Event
 events_of [] = []
 events_of (call ∷ calls) = event_of call ∷ events_of calls
 
--- what the caller holds after a call: the capture that was handed back, and the spaces as the call left them
+-- what the caller holds after a call: the capture as it then is, and the spaces as the call left them
 abbrev pub holds : Board → Call → Board
 holds d (called bytes reply result ordinary trusted replied) = after_call d result.capture ordinary trusted
 holds d (was_reset kept) = record { description = d.description; capture = kept; ordinary = d.ordinary; trusted = d.trusted }

@@ -18,7 +18,7 @@ use Rattle.runs.specs.Bench.{changed}
 abbrev pub Server : Type 0
 Server = Board → List ℕ → List ℕ → Seen
 
--- what the promise of `board::serve` wants seen
+-- what the promise of `Board::serve` wants seen
 abbrev pub promised : Server
 promised d p reply = shows (serve d p (length reply)) reply
 

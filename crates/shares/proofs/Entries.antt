@@ -1,4 +1,4 @@
--- Demand 3 of the entries: any calls of `board::serve` and `board::reset` that meet their promises obey both halves, in what the calls
+-- Demand 3 of the entries: any calls of `Board::serve` and `board::reset` that meet their promises obey both halves, in what the calls
 -- themselves showed and the caller then holds. Assumes nothing.
 use Prim.Native.Nat.{ℕ}
 use mathlib.Core.Bool.{Bool}

@@ -1,7 +1,8 @@
--- Demand 3 of the entries themselves: what calls of `board::serve` and `board::reset` showed, and both halves of it. Assumes nothing.
+-- Demand 3 of the entries themselves: what calls of `Board::serve` and `board::reset` showed, and both halves of it. Assumes nothing.
 use Rattle.std.specs.Prelude.{ℕ, Bool, List, [], ◌≡◌, take}
 use Rattle.std.proofs.Math.Option.{Option}
-use Rattle.answers.specs.Numbers.{answer_of}
+use Rattle.answers.specs.Numbers as numbers
+use Rattle.board.specs.Promise.{count_of}
 use Rattle.capture.specs.declared.Capture.{Capture}
 use Rattle.board.specs.Description.{Space, Board, WellDescribed}
 use Rattle.runs.specs.Run.{Event}
@@ -11,11 +12,11 @@ use Rattle.shares.specs.Views.{Sight, edition_of, ordinary_packet, trusted_packe
 
 -- the number that a call answered, and the part of the reply that it says it wrote (a reset answers and writes nothing)
 abbrev pub answered : Call → ℕ
-answered (called bytes reply result ordinary trusted replied) = answer_of result.answer
+answered (called bytes reply result ordinary trusted replied) = numbers.answered result.answer
 answered (was_reset kept) = 0
 
 abbrev pub wrote : Call → List ℕ
-wrote (called bytes reply result ordinary trusted replied) = take result.length replied
+wrote (called bytes reply result ordinary trusted replied) = take (count_of result.answer) replied
 wrote (was_reset kept) = []
 
 -- at a call: its number, the written part of the reply, and the bytes of a space that the caller then holds

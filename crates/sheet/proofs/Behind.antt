@@ -6,8 +6,7 @@ use mathlib.Core.Path.{◌≡◌, refl, ap}
 use lib.ListN.{length, get_or}
 use Rattle.board.proofs.Computing.{computing}
 use Rattle.lists.specs.declared.Kind.TheVariants.{Extended}
-use Rattle.lists.specs.declared.Walked.{Walked}
-use Rattle.lists.specs.Walks.{Roomy, Walks, number_given}
+use Rattle.lists.specs.Walks.{Roomy, Walks, number_given, count_given, Walked}
 use Rattle.lists.proofs.Decides.{served_lists, served_iff_legal}
 use Rattle.lists.proofs.Lost.{lost, whole_now}
 use Rattle.records.specs.Required.{sized}
@@ -20,7 +19,7 @@ ReadsAlike = ((dvsec_says lost 0x140).number ≡ 0) × (dvsec_says lost 0x140 �
 
 abbrev pub RecordBehind : Type 0
 RecordBehind = (room : List ℕ) (r : Walked) (after : List ℕ) → Roomy Extended room → Walks Extended lost room r after
-    → (number_given r ≡ 0) × (r.count ≡ 4) × (get_or after 1 0 ≡ 0x140) × ReadsAlike
+    → (number_given r ≡ 0) × (count_given r ≡ 4) × (get_or after 1 0 ≡ 0x140) × ReadsAlike
 
 lost_whole : length lost ≡ 4096
 unfolding lost

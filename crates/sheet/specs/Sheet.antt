@@ -7,8 +7,7 @@ use Rattle.runs.specs.Bench.{zeros, holding, bench, p1, p2, changed}
 use Rattle.records.specs.DvsecRule.{dvsec_says, dvsec_body}
 use Rattle.records.specs.DualRule.{dual_says}
 use Rattle.lists.specs.declared.Kind.TheVariants.{Extended}
-use Rattle.lists.specs.declared.Walked.{Walked}
-use Rattle.lists.specs.Walks.{Roomy, Walks, number_given}
+use Rattle.lists.specs.Walks.{Roomy, Walks, number_given, place_given, Walked}
 
 -- the number and the written reply bytes; a reply of 16 bytes is lent
 abbrev pub answer : Outcome → List ℕ
@@ -69,4 +68,4 @@ sheet =
 -- in the place of document 01's 7: "as `extended 12 100 refused` for P12"
 abbrev pub TwelfthHolds : Type 0
 TwelfthHolds = (room : List ℕ) (r : Walked) (after : List ℕ) → Roomy Extended room → Walks Extended circle room r after
-    → (number_given r ≡ 12) × (r.place ≡ 0x100)
+    → (number_given r ≡ 12) × (place_given r ≡ 0x100)

@@ -1,4 +1,3 @@
-pub mod Told
 pub mod Bodies
 pub mod Numbers
 pub mod Sequence

@@ -1,4 +1,3 @@
 pub mod Packets
 pub mod Walks
 pub mod Records
-pub mod Inner

@@ -1,4 +1,4 @@
--- What the exported functions for packets promise: `board::serve`'s promise, with a host's numbers in the place of enums. Assumes nothing.
+-- What the exported functions for packets promise: `Board::serve`'s promise, with a host's numbers in the place of enums. Assumes nothing.
 use Rattle.std.specs.Prelude.{ℕ, cond, List, ◌≡◌, eqb, length}
 use Rattle.capture.specs.declared.Capture.{Capture}
 use Rattle.capture.specs.declared.Capture.TheVariants.{Nothing, Number}
@@ -41,7 +41,7 @@ abbrev pub host_seen : HostServed → List ℕ → List ℕ → List ℕ → Hos
 host_seen r ordinary trusted reply =
     record { number = r.number; count = r.length; capture = r.capture; ordinary = ordinary; trusted = trusted; reply = reply }
 
--- what it should see, by what a caller of `board::serve` should
+-- what it should see, by what a caller of `Board::serve` should
 abbrev pub host_shows : HostCapture → Seen → HostSeen
 host_shows kept shown =
     record {

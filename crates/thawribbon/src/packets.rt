@@ -2,72 +2,68 @@
 ghost use Rattle.std.specs.Prelude.{◌≡◌};
 ghost use Rattle.capture.specs.Kept.{forgotten};
 ghost use Rattle.board.specs.Promise.{space_of};
-ghost use Rattle.thawribbon.specs.Packets.{described, kept_by, told_capture, HostServes};
-ghost use Rattle.thawribbon.specs.Inner.{told_served};
+ghost use Rattle.thawribbon.specs.Packets.{kept_by, told_capture, HostServes};
 
 use super::{HostCapture, HostDescription, HostServed};
-use board::{Description, Served};
+use board::{Board, Description};
 use capture::Capture;
 
-fn description_of(description: HostDescription) -> Description
-    ensures { result ≡ described description }
-{
-    Description {
-        function: description.function,
-        a: description.a as usize,
-        b: description.b as usize,
-        edition: description.edition,
+impl From<HostDescription> for Description {
+    ghost use Rattle.std.specs.Prelude.{◌≡◌};
+    ghost use Rattle.thawribbon.specs.Packets.{described};
+
+    ghost from_gives = { λ given d. d ≡ described given };
+
+    fn from(given: HostDescription) -> Description {
+        Description {
+            function: given.function,
+            a: given.a as usize,
+            b: given.b as usize,
+            edition: given.edition,
+        }
     }
 }
 
-fn capture_of(kept: HostCapture) -> Capture
-    ensures { result ≡ kept_by kept }
-{
-    if kept.captured == 0 {
-        return Capture::Nothing;
-    }
-    Capture::Number {
-        bus: kept.bus,
-        device: kept.device,
+impl From<HostCapture> for Capture {
+    ghost use Rattle.std.specs.Prelude.{◌≡◌};
+    ghost use Rattle.thawribbon.specs.Packets.{kept_by};
+
+    ghost from_gives = { λ kept c. c ≡ kept_by kept };
+
+    fn from(kept: HostCapture) -> Capture {
+        if kept.captured == 0 {
+            return Capture::Nothing;
+        }
+        Capture::Number {
+            bus: kept.bus,
+            device: kept.device,
+        }
     }
 }
 
-fn told_capture(capture: Capture) -> HostCapture
-    ensures { result ≡ told_capture capture }
-{
-    match capture {
-        Capture::Nothing => HostCapture {
-            captured: 0,
-            bus: 0,
-            device: 0,
-        },
-        Capture::Number { bus, device } => HostCapture {
-            captured: 1,
-            bus,
-            device,
-        },
+impl From<Capture> for HostCapture {
+    ghost use Rattle.std.specs.Prelude.{◌≡◌};
+    ghost use Rattle.thawribbon.specs.Packets.{told_capture};
+
+    ghost from_gives = { λ c told. told ≡ told_capture c };
+
+    fn from(capture: Capture) -> HostCapture {
+        match capture {
+            Capture::Nothing => HostCapture {
+                captured: 0,
+                bus: 0,
+                device: 0,
+            },
+            Capture::Number { bus, device } => HostCapture {
+                captured: 1,
+                bus,
+                device,
+            },
+        }
     }
 }
 
-// A refusal hands the capture back as it was given.
-fn told_served(kept: HostCapture, served: Served) -> HostServed
-    ensures { result ≡ told_served kept served }
-{
-    let answer = served.answer;
-    let number = answer.number();
-    let after = served.capture;
-    let capture = if number == 0 {
-        told_capture(after)
-    } else {
-        kept
-    };
-    HostServed {
-        length: served.length,
-        number,
-        capture,
-    }
-}
-
+// (A board's parts come one by one: no struct of this interface has more than 16 bytes.)
 #[unsafe(no_mangle)]
 pub extern "C" fn thawribbon_serve(
     description: HostDescription,
@@ -83,24 +79,34 @@ pub extern "C" fn thawribbon_serve(
 ) -> HostServed
     ensures { HostServes description kept (space_of ordinary.old ordinary_rules.now ordinary_marks.now) (space_of trusted.old trusted_rules.now trusted_marks.now) packet.now reply.old result ordinary.new trusted.new reply.new }
 {
-    let served = board::serve(
-        description_of(description),
-        capture_of(kept),
+    let mut board = Board {
+        description: Description::from(description),
+        capture: Capture::from(kept),
         ordinary,
         ordinary_rules,
         ordinary_marks,
         trusted,
         trusted_rules,
         trusted_marks,
-        packet,
-        reply,
-    );
-    told_served(kept, served)
+    };
+    match board.serve(packet, reply) {
+        Ok(length) => HostServed {
+            length,
+            number: 0,
+            capture: HostCapture::from(board.capture),
+        },
+        // A refusal hands the capture back as it was given.
+        Err(refusal) => HostServed {
+            length: 0,
+            number: refusal.number(),
+            capture: kept,
+        },
+    }
 }
 
 #[unsafe(no_mangle)]
 pub extern "C" fn thawribbon_reset(kept: HostCapture) -> HostCapture
     ensures { result ≡ told_capture (forgotten (kept_by kept)) }
 {
-    told_capture(board::reset(capture_of(kept)))
+    HostCapture::from(board::reset(Capture::from(kept)))
 }

@@ -11,13 +11,11 @@ ghost use Rattle.words.specs.Fields.{joined, word_or_zero};
 pub const SPACE: usize = 0x1000;
 
 // The four bytes at `at`, or four zeros where they do not all lie in `space`.
+#[tactic(auto, unfolding(crate::specs::Bytes::four_or_zero))]
 pub fn four(space: &[u8], at: usize) -> [u8; 4]
     ensures { result ≡ four_or_zero space.now at }
 {
-    if space.len() < 4 {
-        return [0; 4];
-    }
-    if space.len() - 4 < at {
+    if space.len() < 4 || space.len() - 4 < at {
         return [0; 4];
     }
     [space[at], space[at + 1], space[at + 2], space[at + 3]]
@@ -27,44 +25,32 @@ pub fn four(space: &[u8], at: usize) -> [u8; 4]
 pub fn joined(first: u8, second: u8, third: u8, fourth: u8) -> u32
     ensures { result ≡ joined first second third fourth }
 {
-    (fourth as u32) << 24 | (third as u32) << 16 | (second as u32) << 8 | first as u32
+    u32::from_le_bytes([first, second, third, fourth])
 }
 
 // The little-endian word at `at`, or 0 where its four bytes do not all lie in `space`.
+#[tactic(auto, unfolding(crate::specs::Bytes::four_or_zero, crate::specs::Fields::word_or_zero))]
 pub fn word(space: &[u8], at: usize) -> u32
     ensures { result ≡ word_or_zero space.now at }
 {
-    let bytes = four(space, at);
-    joined(bytes[0], bytes[1], bytes[2], bytes[3])
+    u32::from_le_bytes(four(space, at))
 }
 
 // Whether an offset is a multiple of 4 from a lowest to a highest one.
+#[tactic(auto, unfolding(crate::specs::Places::placed))]
 pub fn placed(at: usize, low: usize, high: usize) -> bool
     ensures { result ≡ placed at low high }
 {
-    if at & 3 != 0 {
-        return false;
-    }
-    if at < low {
-        return false;
-    }
-    at <= high
+    at % 4 == 0 && low <= at && at <= high
 }
 
 // Stores `bytes` at `at`, and says whether they fitted. Where they do not, nothing is stored.
 pub fn put(space: &mut [u8], at: usize, bytes: &[u8]) -> bool
     ensures { Puts space.old at bytes.now result space.new }
 {
-    if space.len() < bytes.len() {
+    if space.len() < bytes.len() || space.len() - bytes.len() < at {
         return false;
     }
-    if space.len() - bytes.len() < at {
-        return false;
-    }
-    let mut done = 0;
-    while done < bytes.len() {
-        space[at + done] = bytes[done];
-        done += 1;
-    }
+    space[at..at + bytes.len()].copy_from_slice(bytes);
     true
 }

@@ -1,23 +1,22 @@
--- `lists::walk` meets its contract: the sizes are tested in the order of the numbers, and each list is walked. Assumes nothing.
-use borrow.Author.Rules.{rules}
-use mathlib.Core.Path.{subst}
-use native.Mathlib.Omega.{arith}
+-- `lists::walk` meets its contract: each list is walked. Assumes nothing.
+use mathlib.Core.Path.{◌≡◌, sym}
+use mathlib.Core.List.{List}
+use Prim.Native.Nat.{ℕ}
+use Rattle.std.specs.Prelude.{Result}
 use Rattle.lists.specs.declared.Kind.{Kind}
-use Rattle.lists.specs.Walks.{Roomy, Walks.misdescribed, Walks.roomless}
-use Rattle.lists.proofs.Walking.{refuses}
+use Rattle.lists.specs.declared.Kind.TheVariants.{Compatible, Extended, Trusted}
+use Rattle.lists.specs.Walks.{Walks, Walked}
 use Rattle.lists.proofs.walk.Goals as goal
 
-pub returns-then-space-ne-SPACE : goal.returns-then-space-ne-SPACE
-returns-then-space-ne-SPACE c = misdescribed c.if-space-ne-SPACE.true (refuses _ c.refused.ensures)
-
-pub returns-then-room-maximum : goal.returns-then-room-maximum
-returns-then-room-maximum c = roomless (omega arith) (λ roomy. omega arith) (refuses _ c.refused-then-room-maximum.ensures)
-
-pub walk_short-requires : goal.walk_short-requires
-walk_short-requires c = (search rules, subst (λ (k : Kind). Roomy k c.args.room.now) c.in-Compatible.is (search rules))
+-- a list of the space that was lent, and not of another with the same bytes
+same : {kind of : Kind} {s t room after : List ℕ} {r : Walked} → kind ≡ of → t ≡ s → Walks of t room r after → Walks kind s room r after
+same e f w = rw (e, sym f) w
 
 pub returns-in-Compatible : goal.returns-in-Compatible
-returns-in-Compatible c = rw c.in-Compatible.is c.walk_short.ensures
+returns-in-Compatible c = same c.in-Compatible.is c.in-Ok.ensures.1.same c.walk_list.ensures
 
-pub returns-in_default : goal.returns-in_default
-returns-in_default c = c.walk_short-in_default.ensures
+pub returns-in-Extended : goal.returns-in-Extended
+returns-in-Extended c = same c.in-Extended.is c.in-Ok.ensures.1.same c.walk_list-in-Extended.ensures
+
+pub returns-in-Trusted : goal.returns-in-Trusted
+returns-in-Trusted c = same c.in-Trusted.is c.in-Ok.ensures.1.same c.walk_list-in-Trusted.ensures

@@ -7,7 +7,7 @@ use Rattle.lists.specs.Inner.{offset_of, Underway, Waits}
 use Rattle.lists.proofs.chase.chase.Given as goal
 
 abbrev pub invariant-loop-at : goal.invariant-loop-at
-invariant-loop-at l = Underway l.kind l.space l.log l.count (offset_of l.kind l.position) × (length l.log ≡ length l.initial.log) × Waits l.kind l.space l.count l.waiting
+invariant-loop-at g l = Underway g.L.List.kind l.space l.log l.count (offset_of g.L.List.kind l.position) × (length l.log ≡ length l.initial.log) × Waits g.L.List.kind l.space l.count l.waiting
 
 abbrev pub decreases-loop-at : goal.decreases-loop-at
-decreases-loop-at l = length l.log - l.count
+decreases-loop-at g l = length l.log - l.count

@@ -1,12 +1,7 @@
 -- `lists::marks::first_again` meets its contract. The loop's invariant: the words of the places that were passed are different, and they and no
 -- others are marked. Assumes nothing.
-use Prim.Native.Nat.{◌-◌, ◌≤◌}
-use lib.ListN.{length}
 use Rattle.lists.proofs.Marking.{Marked}
 use Rattle.lists.proofs.marks.first_again.Given as goal
 
 abbrev pub invariant-loop-index : goal.invariant-loop-index
-invariant-loop-index l = Marked l.log l.marks l.index × (l.index ≤ length l.log)
-
-abbrev pub decreases-loop-index : goal.decreases-loop-index
-decreases-loop-index l = length l.log - l.index
+invariant-loop-index l = Marked l.log l.marks l.index
