@@ -18,8 +18,9 @@ pub const EDITION_1: u32 = 1;
 
 pub const EDITION_2: u32 = 2;
 
-// A requester or completer ID, as its two bytes are sent.
-#[derive(Clone, Copy, PartialEq, Eq)]
+// A requester or completer ID, as its two bytes are sent. (In the order of C: a host's structs hold it.)
+#[repr(C)]
+#[derive(Clone, Copy, PartialEq, Eq, Default)]
 pub struct Id {
     pub high: u8,
     pub low: u8,
