@@ -52,7 +52,7 @@ fn moved_up(waiting: usize, last: usize, count: usize) -> usize
 // mark. No `for` over the log: a chain may end where it is full.
 #[tactic(auto, using(crate::proofs::Following::chase_ends))]
 pub(crate) fn chase<L: List>(
-    space: &[u8],
+    space: &[u8; words::SPACE],
     log: &mut [u16],
     passed: usize,
     from: usize,

@@ -20,6 +20,7 @@ const BELOW_BASE: u64 = 0xfff;
 // The least index while enabled.
 const LEAST_INDEX: u64 = 12;
 
+#[tactic(auto, unfolding(crate::specs::Capability::is_multicast))]
 pub(crate) fn is_multicast(header: u32) -> bool
     ensures { result ≡ is_multicast header }
 {

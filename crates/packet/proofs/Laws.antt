@@ -5,7 +5,6 @@ use mathlib.Core.List.Memᴰ
 use mathlib.Core.List.{List, [], ◌∷◌}
 use mathlib.Core.Path.{◌≡◌, refl, sym, ◌∙◌}
 use native.Mathlib.Omega.{arith}
-use lib.Bits.{bit_and, and_mask}
 use lib.Dec.{eqb, ltb}
 use lib.ListN.{length}
 use Rattle.std.specs.Prelude.{None}
@@ -17,10 +16,6 @@ use Rattle.packet.specs.declared.Target.TheVariants.{Type0, Type1, Trusted}
 use Rattle.packet.specs.Fields.{type_code, bit7_set, refuses_bit7, known, type_of, digest, whole_length, wrong_field}
 use Rattle.packet.specs.Request.{typed, writes_of, checks_under, number_under, packet_checks, packet_number, request_of, target_of, is_trusted, trusted, trusted_under}
 use Rattle.packet.specs.Inner.{KnownHeader}
-
--- byte 0 without bit 7 is the type code
-pub code_is : (first k : ℕ) → bit_and first 127 ≡ k → type_code first ≡ k
-code_is first k h = omega (arith, and_mask first 7)
 
 -- past the check 5, the check 6 decides
 pub number_past : (p : List ℕ) (access : Access) → KnownHeader p access → length p ≡ whole_length access.writes (byte p 2)

@@ -83,10 +83,10 @@ pub(super) fn offset_of(ten: u8, eleven: u8) -> usize
     usize::from(u16::from_be_bytes([ten & 0x0f, eleven & 0xfc]))
 }
 
-fn length_field(two: u8, three: u8) -> usize
+fn length_field(two: u8, three: u8) -> u16
     ensures { result ≡ length_field two three }
 {
-    usize::from(u16::from_be_bytes([two & 0x03, three]))
+    u16::from_be_bytes([two & 0x03, three])
 }
 
 // TC, Attr or the last enables are not 0, or Length is not 1.
