@@ -10,7 +10,7 @@ use multicast::{Judged, Record};
 
 // What becomes of a packet: the verdict is 0 where the number says that it is refused, 1 no hit, 2 dropped, 3 leaves.
 #[repr(C)]
-#[derive(Clone, Copy)]
+#[derive(Clone, Copy, Default)]
 pub struct HostJudged {
     pub ports: u32,
     pub number: u8,
@@ -28,34 +28,31 @@ pub extern "C" fn thawribbon_multicast(space: &[u8], at: usize, groups: &mut Rec
     answers::number(&read)
 }
 
-fn told_judged(judged: Result<Judged, Refusal>) -> HostJudged
-    ensures { result ≡ told_judged judged }
-{
-    match judged {
-        Err(refusal) => HostJudged {
-            ports: 0,
-            number: refusal.number(),
-            verdict: 0,
-            group: 0,
-        },
-        Ok(Judged::NoHit) => HostJudged {
-            ports: 0,
-            number: 0,
-            verdict: 1,
-            group: 0,
-        },
-        Ok(Judged::Dropped { group }) => HostJudged {
-            ports: 0,
-            number: 0,
-            verdict: 2,
-            group,
-        },
-        Ok(Judged::Leaves { group, ports }) => HostJudged {
-            ports,
-            number: 0,
-            verdict: 3,
-            group,
-        },
+impl From<Result<Judged, Refusal>> for HostJudged {
+    ghost from_gives = { λ judged host. host ≡ told_judged judged };
+
+    fn from(judged: Result<Judged, Refusal>) -> HostJudged {
+        match judged {
+            Ok(Judged::NoHit) => HostJudged {
+                verdict: 1,
+                ..HostJudged::default()
+            },
+            Ok(Judged::Dropped { group }) => HostJudged {
+                verdict: 2,
+                group,
+                ..HostJudged::default()
+            },
+            Ok(Judged::Leaves { group, ports }) => HostJudged {
+                ports,
+                number: 0,
+                verdict: 3,
+                group,
+            },
+            Err(refusal) => HostJudged {
+                number: refusal.number(),
+                ..HostJudged::default()
+            },
+        }
     }
 }
 
@@ -63,5 +60,5 @@ fn told_judged(judged: Result<Judged, Refusal>) -> HostJudged
 pub extern "C" fn thawribbon_judge(ports: &[Record], entering: usize, address: u64) -> HostJudged
     ensures { HostJudges ports.now entering address result }
 {
-    told_judged(multicast::judge(ports, entering, address))
+    HostJudged::from(multicast::judge(ports, entering, address))
 }
