@@ -4,6 +4,7 @@ ghost use Rattle.lists.specs.Table.{describe};
 ghost use Rattle.lists.specs.Inner.{offset_of, Leads, Underway, Chases};
 
 use crate::table::{self, List};
+use words::SPACE;
 
 // Where a pointer leads: "the next offset, the end, or a fault". A Result of an Option is no plainer than the three.
 #[derive(Clone, Copy)]
@@ -52,7 +53,7 @@ fn moved_up(waiting: usize, last: usize, count: usize) -> usize
 // mark. No `for` over the log: a chain may end where it is full.
 #[tactic(auto, using(crate::proofs::Following::chase_ends))]
 pub(crate) fn chase<L: List>(
-    space: &[u8],
+    space: &[u8; SPACE],
     log: &mut [u16],
     passed: usize,
     from: usize,

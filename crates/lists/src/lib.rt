@@ -11,6 +11,7 @@ use answers::Refusal;
 use chase::{Step, Stopped};
 use table::{Compatible, Extended, List, Trusted};
 pub use table::{COMPATIBLE_MAXIMUM, EXTENDED_MAXIMUM, TRUSTED_MAXIMUM};
+use words::SPACE;
 
 mod chase; // chase.rt: a chain is followed, a step at a time
 mod marks; // marks.rt: where a list comes back for the first time
@@ -50,22 +51,30 @@ pub fn walk(kind: Kind, space: &[u8], room: &mut [u16]) -> Result<usize, Refused
     }
 }
 
-// With a short log at first: a chain that ends in it is listed.
+// The sizes are looked at first.
 fn walk_list<L: List>(space: &[u8], room: &mut [u16]) -> Result<usize, Refused>
     ensures { Walks L.kind space.now room.old result room.new }
 {
-    if space.len() != words::SPACE {
+    let Ok(space) = <&[u8; SPACE]>::try_from(space) else {
         return Err(Refused {
             refusal: Refusal::BadDescription,
             place: 0,
         });
-    }
+    };
     if room.len() < L::maximum() {
         return Err(Refused {
             refusal: Refusal::NoRoom,
             place: 0,
         });
     }
+    walk_short::<L>(space, room)
+}
+
+// The walk with a short log: a chain that ends in it is listed.
+fn walk_short<L: List>(space: &[u8; SPACE], room: &mut [u16]) -> Result<usize, Refused>
+    requires { Roomy L.kind room.old }
+    ensures { Walks L.kind space.now room.old result room.new }
+{
     let mut log = [0u16; SHORT];
     let start = table::first::<L>(space);
     match chase::chase::<L>(space, &mut log, 0, start) {
@@ -76,7 +85,7 @@ fn walk_list<L: List>(space: &[u8], room: &mut [u16]) -> Result<usize, Refused>
 
 // The walk from where it stopped: with a long log where the short one was full and the list may be longer, and else it is broken.
 fn go_on<L: List>(
-    space: &[u8],
+    space: &[u8; SPACE],
     short: &[u16],
     stopped: Stopped,
     room: &mut [u16],
@@ -93,7 +102,7 @@ fn go_on<L: List>(
 
 // The walk from where a short log was full: to the list's maximum.
 fn walk_long<L: List>(
-    space: &[u8],
+    space: &[u8; SPACE],
     short: &[u16],
     position: usize,
     room: &mut [u16],

@@ -38,5 +38,5 @@ returns-then-space-eq0 c = empty c.args.space.now c.if-space-eq0.true
 
 pub returns : goal.returns
 returns c =
-    starts c.args.space.now c.word.result c.requires c.if-space-eq0.false c.word.ensures
-    (omega (arith, c.type_inv.space 0x34))
+    starts c.args.space.now c.word.result c.told-space c.if-space-eq0.false c.word.ensures
+    (omega (arith, c.fits-space 0x34))

@@ -16,4 +16,4 @@ unfolding trusted_start
 starts s n size e = record { is = and_mask n 12 ∙ omega (arith, e ∙ word_inside s 0x004 (omega arith)); small = mask_lt n 12 }
 
 pub returns : goal.returns
-returns c = starts c.args.space.now c.word.result c.requires c.word.ensures
+returns c = starts c.args.space.now c.word.result c.told-space c.word.ensures
