@@ -86,11 +86,11 @@ fn walk_short<L: List>(space: &[u8; SPACE], room: &mut [u16]) -> Result<usize, R
 // The walk from where it stopped: with a long log where the short one was full and the list may be longer, and else it is broken.
 fn go_on<L: List>(
     space: &[u8; SPACE],
-    short: &[u16],
+    short: &[u16; SHORT],
     stopped: Stopped,
     room: &mut [u16],
 ) -> Result<usize, Refused>
-    requires { Stops L.kind space.now short.now stopped.count (offset_of L.kind stopped.position) × Roomy L.kind room.old × (length short.now ≡ 48) }
+    requires { Stops L.kind space.now short.now stopped.count (offset_of L.kind stopped.position) × Roomy L.kind room.old }
     ensures { Walks L.kind space.now room.old result room.new }
 {
     let Stopped { count, position } = stopped;
@@ -103,11 +103,11 @@ fn go_on<L: List>(
 // The walk from where a short log was full: to the list's maximum.
 fn walk_long<L: List>(
     space: &[u8; SPACE],
-    short: &[u16],
+    short: &[u16; SHORT],
     position: usize,
     room: &mut [u16],
 ) -> Result<usize, Refused>
-    requires { Underway L.kind space.now short.now (length short.now) (offset_of L.kind position) × Roomy L.kind room.old × (length short.now ≡ 48) × (48 < (describe L.kind).maximum) }
+    requires { Underway L.kind space.now short.now 48 (offset_of L.kind position) × Roomy L.kind room.old × (48 < (describe L.kind).maximum) }
     ensures { Walks L.kind space.now room.old result room.new }
 {
     let mut log = [0u16; LONG];
