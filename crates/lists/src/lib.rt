@@ -51,7 +51,8 @@ pub fn walk(kind: Kind, space: &[u8], room: &mut [u16]) -> Result<usize, Refused
     }
 }
 
-// The sizes are looked at first.
+// The sizes are looked at first. From there on the space's is in its type; the room's depends on the list, and stands in three contracts (`Roomy`): a
+// struct for the two would be no plainer.
 fn walk_list<L: List>(space: &[u8], room: &mut [u16]) -> Result<usize, Refused>
     ensures { Walks L.kind space.now room.old result room.new }
 {
