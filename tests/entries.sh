@@ -1,35 +1,45 @@
 # docs/ENTRIES.md and the sources say the same of every public entry: it has a row; its contract has no `requires` and promises one thing, the
 # definition that the row names, applied to what was lent and what came back; and the theorem that the row names speaks of two results that
-# meet that definition. An entry is a `pub fn` of a crate's lib.rt (a method as Type::name), or one that lib.rt hands on by `pub use`.
+# meet that definition. An entry is a `pub fn` of a crate's lib.rt, one that lib.rt hands on by `pub use`, or a `pub fn` of a type in any file, as
+# Type::name. What a trait asks of a type (==, From) promises what the trait's laws say, and has no row.
 work=$(mktemp -d) || exit 2
 trap 'rm -rf "$work"' EXIT
+
+# The type of an `impl` line, without its lifetimes and parameters.
+type_of='function type_of(line) { sub(/^impl(<[^>]*>)? /, "", line); sub(/[< ].*/, "", line); return line "::" }'
 
 entries() { # CRATE: a line 'NAME FILE' for each entry
     lib=crates/$1/src/lib.rt
     [ -f "$lib" ] || return
-    awk -v c="$1" '/^impl /{t=$2"::"} /^}/{t=""} /^ *pub( extern "C")? fn /{sub(/^ *pub( extern "C")? fn /,""); sub(/[<(].*/,""); print c"::"t $0, FILENAME}' "$lib"
+    awk -v c="$1" -v lib="$lib" "$type_of"' /^impl/{t=type_of($0)} /^}/{t=""}
+        /^ *pub( extern "C")? fn / && (t != "" || FILENAME == lib) {sub(/^ *pub( extern "C")? fn /,""); sub(/[<(].*/,""); print c"::"t $0, FILENAME}' crates/"$1"/src/*.rt
     sed -nE 's/^pub use ([a-z_]+)::([a-z_]+);$/\1 \2/p; s/^pub use ([a-z_]+)::\{([a-z_, ]+)\};$/\1 \2/p' "$lib" | while read -r module names; do
         for name in ${names//,/ }; do echo "$1::$name crates/$1/src/$module.rt"; done
     done
 }
 
-# What another crate could call and this page would not see: a public module, a handed-on glob or renaming, a method outside lib.rt.
+# What another crate could call and this page would not see: a public module or trait, a handed-on glob or renaming.
 unseen() { # CRATE
     lib=crates/$1/src/lib.rt
     [ -f "$lib" ] || return
     grep -nE '^pub (mod|use) ' "$lib" | grep -vE '^[0-9]+:pub use [a-z_]+::([a-z_]+|[A-Z_]+|\{[a-z_]+(, [a-z_]+)*\}|\{[A-Z_]+(, [A-Z_]+)*\});$' | sed "s|^|$lib: |"
-    for file in crates/"$1"/src/*.rt; do
-        [ "$file" = "$lib" ] || awk '/^impl /{t=1} /^}/{t=0} t && /^ *pub( extern "C")? fn /{print FILENAME": a public method outside lib.rt: "$0}' "$file"
-    done
+    grep -nE '^pub trait ' crates/"$1"/src/*.rt /dev/null | sed 's/$/: a public trait/'
 }
 
 clauses() { # FILE NAME: from the signature of NAME, which may be Type::name, up to its body
-    awk -v n="$2" '/^impl /{t=$2"::"} /^}/{t=""} {line=$0; if (sub(/^ *pub( extern "C")? fn /,"",line) && sub(/[<(].*/,"",line) && t line == n) on=1}
+    awk -v n="$2" "$type_of"' /^impl/{t=type_of($0)} /^}/{t=""} {line=$0; if (sub(/^ *pub( extern "C")? fn /,"",line) && sub(/[<(].*/,"",line) && t line == n) on=1}
         on && /^ *\{$/ {exit} on {print}' "$1"
 }
 
 buffers() { # MARK, clauses on standard input: the names of the parameters that are lent by & or &mut, of any type
-    tr '\n' ' ' | sed 's/ requires .*//; s/ ensures .*//' | grep -oE "[a-z_]+: &('[a-z]+ )?$1" | sed 's/:.*//'
+    tr '\n' ' ' | sed 's/ requires .*//; s/ ensures .*//' | grep -oE "[a-z_]+: &('[a-z]+ )?$1|[(, ]&('[a-z]+ )?${1}self\b" | sed -E 's/:.*//; s/.*self/self/'
+}
+
+# How many buffers a call can write: one for each parameter behind a &mut, or, where that is a struct of the crate which holds such, one for each of these.
+written() { # CRATE TYPE::NAME, clauses on standard input
+    tr '\n' ' ' | sed 's/ requires .*//; s/ ensures .*//' | grep -oE "&('[a-z]+ )?mut (self\b|[A-Za-z0-9_]+|\[)" | sed -E "s/.* //; s/^self\$/${2%%::*}/" | while read -r type; do
+        cat crates/"$1"/src/*.rt | awk -v t="$type" '$0 ~ "^pub struct " t "[<; {]" {on = 1} /^}/{on = 0} on && /: &.*mut /{n++} END{print (n > 0 ? n : 1)}'
+    done | awk '{n += $1} END{print n + 0}'
 }
 
 parameters() { # clauses on standard input: the name of every parameter
@@ -39,13 +49,17 @@ parameters() { # clauses on standard input: the name of every parameter
 gives() { tr '\n' ' ' | sed -E 's/ (requires|ensures)( [a-z_]+)? \{.*//' | grep -q -e '->'; } # clauses on standard input: there is a result
 
 # says NAME WHEN: the promise has what is lent under this name, at this time: .now behind a &, .old and .new behind a &mut
-says() { printf '%s\n' "$promise" | grep -qE "(^|[ (])«?$1»?\.$2([ )]|\$)"; }
+says() { printf '%s\n' "$promise" | grep -qE "(^|[ (])«?$1»?\.$2([ ).]|\$)"; }
 
 # The promise is DEFINITION of something, or that the result, or what it tells, is that: nothing beside it, and nothing around it; and it
-# speaks of every buffer as it was lent, and of every one that can be written as it is left.
+# speaks of every buffer as it was lent, and of every one that can be written as it is left. Of a struct that is lent two clauses may stand beside it, of
+# just these shapes: that a field keeps the caller's own &mut (same_..), and that of what it says of a board nothing but the capture and the bytes differs
+# from what was lent (holds..).
 promises() { # DEFINITION, clauses on standard input
     cat >"$work/clauses"
-    text=$(tr '\n' ' ' <"$work/clauses" | sed -E 's/  +/ /g')
+    text=$(tr '\n' ' ' <"$work/clauses" | sed -E 's/  +/ /g
+        s/ ensures same_[a-z_]+ \{ ([a-z_]+)\.new\.([a-z_]+)\.ghost_name ≡ \1\.old\.\2\.ghost_name \}//g
+        s/ ensures holds[a-z_]* \{ ([a-z_]+) ([a-z_]+)\.new ≡ [a-z_]+ \(\1 \2\.old\) \2\.new\.capture \2\.new\.ordinary\.now \2\.new\.trusted\.now \}//g')
     case $text in *requires*) echo "it has a requires" && return ;; esac
     case $text in *'ensures*'* | *' ghost '*) echo "it has a clause of another kind" && return ;; esac
     [ "$(printf '%s' "$text" | grep -o 'ensures' | wc -l)" -eq 1 ] || { echo "it has $(printf '%s' "$text" | grep -o 'ensures' | wc -l) promises, and not one" && return; }
@@ -56,11 +70,14 @@ promises() { # DEFINITION, clauses on standard input
     else
         case $promise in *⊎* | *→* | *×* | *∨* | *↔* | *¬*) echo "its promise is $1 and something else: $promise" ;; esac
     fi
-    if gives <"$work/clauses" && ! printf '%s\n' "$promise" | grep -qE '(^|[ (])result([ ).]|$)'; then
+    if gives <"$work/clauses" && ! printf '%s\n' "$promise" | grep -qE '(^|[ (])result([ ).;]|$)'; then
         echo "its promise does not speak of the result: $promise"
     fi
     for name in $(parameters <"$work/clauses"); do
         printf '%s\n' "$promise" | grep -qE "(^|[ («])$name([ )».]|\$)" || echo "its promise does not speak of $name"
+    done
+    for name in $(grep -oE '^ *ensures same_[a-z_]+ \{ [a-z_]+' "$work/clauses" | sed 's/.* //' | sort -u); do
+        grep -qE "^ *ensures holds[a-z_]* \\{ [a-z_]+ $name\\.new ≡ " "$work/clauses" || echo "it does not say that nothing else of $name changes"
     done
     written=" $(buffers 'mut ' <"$work/clauses" | tr '\n' ' ')"
     for name in $(buffers '' <"$work/clauses"); do
@@ -122,7 +139,7 @@ check() { # [CRATE]: what is wrong with all crates, or with this one, a line eac
             [ -z "$why" ] || echo "$entry: $why"
             why=$(brings "$file" "${promise%%:*}" "${promise#*: }")
             [ -z "$why" ] || echo "$entry: $why"
-            wanted=$(clauses "$file" "${entry#*::}" | buffers 'mut ' | wc -l)
+            wanted=$(clauses "$file" "${entry#*::}" | written "$crate" "${entry#*::}")
             clauses "$file" "${entry#*::}" | gives && wanted=$((wanted + 1))
             [ "$wanted" -gt 0 ] || echo "$entry: it gives nothing and can write nothing, so it promises nothing"
             why=$(statement "crates/${theorem%%:*}.antt" "${theorem#*: }" | speaks "${promise#*: }" "$wanted")
@@ -159,8 +176,9 @@ noticed() { # NAME WORDS FILE SED: the copy with one file edited is told about i
     if cmp -s "$3" "$work/copy/$3"; then echo "FAILED entries, $1: the edit changes nothing"; return; fi
     if (cd "$work/copy" && check "$crate") | grep -qF "$2"; then echo "ok entries, $1 is noticed"; else echo "FAILED entries, $1 is not noticed"; fi
 }
-noticed 'a weakened promise' 'board::serve: its promise is not Serves' crates/board/src/serving.rt \
-    's/ensures \{ Serves .* \}/ensures { result.length ≤ 4096 }/'
+noticed 'a weakened promise' 'board::Board::serve: its promise is not Serves' crates/board/src/serving.rt \
+    's/ensures serves \{ Serves .* \}/ensures serves { IfOk result (λ length. length ≤ 4096) }/'
+noticed 'a struct whose rules may change' 'board::Board::serve: it does not say that nothing else of self changes' crates/board/src/serving.rt '/ensures holds/d'
 noticed 'a promise with a way out' 'lists::walk: its promise is Walks and something else' crates/lists/src/lib.rt \
     's/ensures \{ Walks (.*) \}/ensures { Walks \1 ⊎ Unit }/'
 noticed 'a way out on a second line' 'registers::show: its promise is shown and something else' crates/registers/src/lib.rt \
@@ -169,15 +187,15 @@ noticed 'a buffer that the promise leaves out' 'lists::walk: its promise does no
     's/room\.old/room.new/'
 noticed 'a second promise' 'words::four: it has 2 promises' crates/words/src/lib.rt \
     's/^(    ensures .*four_or_zero.*)$/\1\n\1/'
-noticed 'a definition of that name from elsewhere' 'board::serve: crates/board/src/serving.rt does not bring Serves in' crates/board/src/serving.rt \
+noticed 'a definition of that name from elsewhere' 'board::Board::serve: crates/board/src/serving.rt does not bring Serves in' crates/board/src/serving.rt \
     's/board\.specs\.Promise/board.specs.Easier/'
 noticed 'a requires' 'records::dvsec: it has a requires' crates/records/src/lib.rt \
     's/^(    ensures .*dvsec_says.*)$/    requires { at < 4096 }\n\1/'
-noticed 'a theorem about something else' 'board::serve: board/proofs/Unique: reset_unique: it does not speak' docs/ENTRIES.md \
+noticed 'a theorem about something else' 'board::Board::serve: board/proofs/Unique: reset_unique: it does not speak' docs/ENTRIES.md \
     's/board\/proofs\/Unique: serve_unique/board\/proofs\/Unique: reset_unique/'
 noticed 'a theorem that concludes nothing' 'words::four: words/proofs/Unique: four_unique: it concludes 0 equations' crates/words/proofs/Unique.antt \
     '/^pub four_unique/,/^four_unique/s/→ r ≡ q$/→ r ≡ r/'
-noticed 'a theorem that leaves a buffer out' 'board::serve: board/proofs/Unique: serve_unique: it concludes 3 equations' crates/board/proofs/Unique.antt \
+noticed 'a theorem that leaves a buffer out' 'board::Board::serve: board/proofs/Unique: serve_unique: it concludes 3 equations' crates/board/proofs/Unique.antt \
     "s/ × \(after ≡ after'\)//"
 noticed 'a promise that says nothing of the result' 'records::dvsec: its promise is not dvsec_says' crates/records/src/lib.rt \
     's/tells_dvsec result ≡ dvsec_says space\.now at \}/tells_dvsec other ≡ dvsec_says space.now at }/'

@@ -11,14 +11,12 @@ use lib.ListN.{length, take, drop}
 use lib.Seq.{take_at, drop_at}
 use borrow.Author.Tests.{ltb-false}
 use Rattle.answers.specs.Checks.{any}
-use Rattle.answers.specs.Numbers.{number_of}
+use Rattle.std.specs.Prelude.{Result, Ok, Err}
+use Rattle.answers.specs.declared.Refusal.{Refusal}
+use Rattle.answers.specs.Numbers.{answered}
 use Rattle.answers.proofs.Checks.{Lowest, Positive, Rising, none_applies, gives_lowest, gives_one_of}
 use Rattle.asking.specs.declared.Parts.{Parts}
-use Rattle.asking.specs.declared.Written.{Written}
-use Rattle.asking.specs.declared.Written.TheVariants.{Bytes}
-use Rattle.asking.specs.declared.Written.TheVariants as written
-use Rattle.asking.specs.declared.Heard.{Heard}
-use Rattle.asking.specs.declared.Heard.TheVariants.{Says, Refused}
+use Rattle.asking.specs.declared.Completion.{Completion}
 use Rattle.asking.specs.Writing.{outside, asks_write, whole_of, write_checks, write_number, packet_of, SeenWritten, told_written, shows_written, Writes}
 use Rattle.asking.specs.Reading.{read_checks, read_number, Reads}
 use Rattle.asking.proofs.Laws.{bytes_length}
@@ -47,14 +45,9 @@ pub record WriteAnswer (a : Parts) (new buffer : List ℕ) (seen : SeenWritten) 
   pub served : seen.number ≡ 0 → Served a new buffer seen
   pub refused : (seen.number ≡ 0 → ⊥) → Unwritten buffer seen
 
--- the number that an answer of the reader stands for
-abbrev pub number_heard : Heard → ℕ
-number_heard (Says completion) = 0
-number_heard (Refused refusal) = number_of refusal
-
-pub record ReadNumber (c : List ℕ) (r : Heard) : Type 0 where
-  pub lowest : Lowest (read_checks c) (number_heard r)
-  pub only : Memᴰ (number_heard r) (0 ∷ 3 ∷ 4 ∷ 5 ∷ 6 ∷ [])
+pub record ReadNumber (c : List ℕ) (r : Result Completion Refusal) : Type 0 where
+  pub lowest : Lowest (read_checks c) (answered r)
+  pub only : Memᴰ (answered r) (0 ∷ 3 ∷ 4 ∷ 5 ∷ 6 ∷ [])
 
 -- ---- the writer
 
@@ -112,7 +105,7 @@ module _ (a : Parts) (new buffer : List ℕ) where
       let shown = s ∙ refused_shown n e in
       record { count = ap (λ (x : SeenWritten). x.count) shown; stays = ap (λ (x : SeenWritten). x.buffer) shown }
 
-  pub write_answer : (w : Written) (after : List ℕ) → Writes a new buffer w after → WriteAnswer a new buffer (told_written w after)
+  pub write_answer : (w : Result ℕ Refusal) (after : List ℕ) → Writes a new buffer w after → WriteAnswer a new buffer (told_written w after)
   write_answer w after e =
       let cs = write_checks a (length buffer) in
       let n : write_number a (length buffer) ≡ (told_written w after).number = sym (ap (λ (x : SeenWritten). x.number) e ∙ number_shown) in
@@ -125,12 +118,12 @@ module _ (a : Parts) (new buffer : List ℕ) where
         refused = λ h. refused (told_written w after) _ n h e;
       }
 
-told_buffer : (w : Written) (after : List ℕ) → (told_written w after).buffer ≡ after
-told_buffer (Bytes count) after = refl
-told_buffer (written.Refused refusal) after = refl
+told_buffer : (w : Result ℕ Refusal) (after : List ℕ) → (told_written w after).buffer ≡ after
+told_buffer (Ok count) after = refl
+told_buffer (Err refusal) after = refl
 
 -- a served request stands at the buffer's start
-pub served_packet : (a : Parts) (new buffer : List ℕ) (w : Written) (after : List ℕ) → Writes a new buffer w after → (told_written w after).number ≡ 0
+pub served_packet : (a : Parts) (new buffer : List ℕ) (w : Result ℕ Refusal) (after : List ℕ) → Writes a new buffer w after → (told_written w after).number ≡ 0
     → (any (outside a) ≡ false) × (whole_of a ≤ length buffer) × ((told_written w after).count ≡ whole_of a)
     × (take (told_written w after).count after ≡ packet_of a new)
 served_packet a new buffer w after e z =
@@ -145,11 +138,11 @@ read_positive c = omega arith
 pub read_rising : (c : List ℕ) → Rising (read_checks c)
 read_rising c = omega arith
 
-number_is : (c : List ℕ) (r : Heard) → Reads c r → read_number c ≡ number_heard r
-number_is c (Says completion) e = e.0
-number_is c (Refused refusal) e = e
+number_is : (c : List ℕ) (r : Result Completion Refusal) → Reads c r → read_number c ≡ answered r
+number_is c (Ok completion) e = e.0
+number_is c (Err refusal) e = e
 
-pub read_number_lem : (c : List ℕ) (r : Heard) → Reads c r → ReadNumber c r
+pub read_number_lem : (c : List ℕ) (r : Result Completion Refusal) → Reads c r → ReadNumber c r
 read_number_lem c r e =
     record {
       lowest = subst (Lowest (read_checks c)) (number_is c r e) (gives_lowest (read_checks c) (read_positive c) (read_rising c));

@@ -1,16 +1,15 @@
 -- Document 02, 5/13, the reader: "Then read completions back: success with data, success without, UR." Assumes nothing.
-use Rattle.std.specs.Prelude.{ℕ, Bool, not, cond, ◌||◌, ◌&&◌, List, [], ◌∷◌, ◌≡◌, eqb, ltb, length}
+use Rattle.std.specs.Prelude.{ℕ, Bool, not, cond, ◌||◌, ◌&&◌, List, [], ◌∷◌, ◌≡◌, Result, Ok, Err, eqb, ltb, length}
+use Rattle.answers.specs.declared.Refusal.{Refusal}
 use Rattle.answers.specs.Checks.{Check, check, first_that_applies, any}
 use Rattle.answers.specs.Numbers.{number_of}
-use Rattle.words.specs.Bytes.{byte}
+use Rattle.words.specs.Bytes.{byte, four}
 use Rattle.packet.specs.declared.Status.TheVariants.{Success, Unsupported}
 use Rattle.packet.specs.Completion.{status_byte}
 use Rattle.asking.specs.declared.Said.{Said}
 use Rattle.asking.specs.declared.Said.TheVariants.{Shown, Done}
 use Rattle.asking.specs.declared.Said.TheVariants as said
 use Rattle.asking.specs.declared.Completion.{Completion}
-use Rattle.asking.specs.declared.Heard.{Heard}
-use Rattle.asking.specs.declared.Heard.TheVariants.{Says, Refused}
 
 -- a completion has data, by its first byte
 abbrev pub has_data : List ℕ → Bool
@@ -52,7 +51,7 @@ read_number c = first_that_applies (read_checks c)
 
 -- "success with data, success without, UR"
 abbrev pub said_by : List ℕ → Said
-said_by c = cond (has_data c) (Shown (byte c 12) (byte c 13) (byte c 14) (byte c 15)) (cond (eqb (byte c 6) (status_byte Success)) Done said.Unsupported)
+said_by c = cond (has_data c) (Shown (four c 12)) (cond (eqb (byte c 6) (status_byte Success)) Done said.Unsupported)
 
 -- the completion that bytes without a fault are
 unfoldable pub completion_of : List ℕ → Completion
@@ -65,6 +64,6 @@ completion_of c =
     }
 
 -- the promise of `asking::read_completion`: the completion, or the refusal with the lowest number
-abbrev pub Reads : List ℕ → Heard → Type 0
-Reads c (Says completion) = (read_number c ≡ 0) × (completion ≡ completion_of c)
-Reads c (Refused refusal) = read_number c ≡ number_of refusal
+abbrev pub Reads : List ℕ → Result Completion Refusal → Type 0
+Reads c (Ok completion) = (read_number c ≡ 0) × (completion ≡ completion_of c)
+Reads c (Err refusal) = read_number c ≡ number_of refusal

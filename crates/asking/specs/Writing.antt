@@ -1,14 +1,13 @@
 -- Document 02, 5/13, the writer: "from kind, requester, tag, target, offset, enables and data (ignored for a read), write the 12 or 16 bytes into a
 -- lent buffer". Assumes nothing.
-use Rattle.std.specs.Prelude.{ℕ, zero, suc, ◌+◌, ◌*◌, ◌/◌, ◌%◌, Bool, not, cond, List, [], ◌∷◌, ◌++◌, ◌≡◌, eqb, ltb, length, drop}
+use Rattle.std.specs.Prelude.{ℕ, zero, suc, ◌+◌, ◌*◌, ◌/◌, ◌%◌, Bool, not, cond, List, [], ◌∷◌, ◌++◌, ◌≡◌, Result, Ok, Err, eqb, ltb, length, drop}
+use Rattle.answers.specs.declared.Refusal.{Refusal}
 use Rattle.answers.specs.Checks.{Check, check, first_that_applies, any}
 use Rattle.answers.specs.Numbers.{number_of}
 use Rattle.words.specs.Bytes.{four}
 use Rattle.packet.specs.Fields.{type_of}
 use Rattle.packet.specs.Request.{unknown, writes_of}
 use Rattle.asking.specs.declared.Parts.{Parts}
-use Rattle.asking.specs.declared.Written.{Written}
-use Rattle.asking.specs.declared.Written.TheVariants.{Bytes, Refused}
 
 -- "Refuse with 1 [..] a device over 31, a function over 7, an offset over FFCh or not a multiple of 4, or enables over 15"
 abbrev pub out_of_range : Parts → List Bool
@@ -63,9 +62,9 @@ pub record SeenWritten : Type 0 where
   pub count : ℕ
   pub buffer : List ℕ
 
-abbrev pub told_written : Written → List ℕ → SeenWritten
-told_written (Bytes count) after = record { number = 0; count = count; buffer = after }
-told_written (Refused refusal) after = record { number = number_of refusal; count = 0; buffer = after }
+abbrev pub told_written : Result ℕ Refusal → List ℕ → SeenWritten
+told_written (Ok count) after = record { number = 0; count = count; buffer = after }
+told_written (Err refusal) after = record { number = number_of refusal; count = 0; buffer = after }
 
 -- what it should show: bytes past the written ones stay as lent, all of them where it is refused
 unfoldable pub shows_written : Parts → List ℕ → List ℕ → SeenWritten
@@ -75,5 +74,5 @@ shows_written a new buffer =
     record { number = n; count = length bytes; buffer = bytes ++ drop (length bytes) buffer }
 
 -- the promise of `asking::write_request`: the parts, the data and the buffer as lent, the result, and the buffer at its end
-abbrev pub Writes : Parts → List ℕ → List ℕ → Written → List ℕ → Type 0
+abbrev pub Writes : Parts → List ℕ → List ℕ → Result ℕ Refusal → List ℕ → Type 0
 Writes a new buffer r after = told_written r after ≡ shows_written a new buffer

@@ -6,13 +6,13 @@ mod judging;
 mod reading;
 mod writing;
 
-use answers::Refusal;
 use packet::Id;
 pub use reading::read_completion;
 pub use writing::write_request;
 
 // The parts of a request, but for a write's data. The kind is the type code: 04h, 44h (read, write, Type 0), 05h, 45h (Type 1), 1Bh, 5Bh (trusted).
-#[derive(Clone, Copy)]
+// (A byte and no enum: any kind may be given, and one outside these six is answered 1.)
+#[derive(Clone, Copy, PartialEq, Eq)]
 pub struct Parts {
     pub kind: u8,
     pub requester: Id,
@@ -24,32 +24,19 @@ pub struct Parts {
     pub enables: u8,
 }
 
-// How many bytes of the buffer are written, or why none is.
-#[derive(Clone, Copy)]
-pub enum Written {
-    Bytes(usize),
-    Refused(Refusal),
-}
-
 // What a completion says of the access: a read was done and showed these four bytes, a write was done, or it is an Unsupported Request (UR) and
-// nothing was done. (An enum that holds an array is not covered by the kit: DECISIONS 51.)
-#[derive(Clone, Copy)]
+// nothing was done.
+#[derive(Clone, Copy, PartialEq, Eq)]
 pub enum Said {
-    Shown(u8, u8, u8, u8),
+    Shown([u8; 4]),
     Done,
     Unsupported,
 }
 
-#[derive(Clone, Copy)]
+#[derive(Clone, Copy, PartialEq, Eq)]
 pub struct Completion {
     pub completer: Id,
     pub requester: Id,
     pub tag: u8,
     pub said: Said,
-}
-
-#[derive(Clone, Copy)]
-pub enum Heard {
-    Says(Completion),
-    Refused(Refusal),
 }

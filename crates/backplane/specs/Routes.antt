@@ -1,19 +1,18 @@
--- What the function that is exported for a switch promises: `router::route`'s promise, with a host's numbers in the place of the enum. Assumes nothing.
-use Rattle.std.specs.Prelude.{ℕ, cond, List, ◌≡◌, length}
+-- What the function that is exported for a switch promises: `router::route`'s promise, with a host's numbers in the place of the result. Assumes nothing.
+use Rattle.std.specs.Prelude.{ℕ, cond, List, Ok, Err, ◌≡◌, length}
 use Rattle.answers.specs.Numbers.{number_of}
 use Rattle.ports.specs.declared.Port.{Port}
-use Rattle.ports.specs.declared.Choice.{Choice}
-use Rattle.router.specs.declared.Verdict.{Verdict}
-use Rattle.router.specs.declared.Verdict.TheVariants.{Leaves, Unsupported, Refused}
+use Rattle.ports.specs.Choice.{Choice}
+use Rattle.router.specs.declared.Verdict.TheVariants.{Leaves, Unsupported}
 use Rattle.router.specs.Routing.{decide, route}
-use Rattle.router.specs.Promise.{Seen, shows}
+use Rattle.router.specs.Promise.{Routed, Seen, shows}
 use Rattle.backplane.specs.declared.HostRouted.{HostRouted}
 
 -- a verdict, as a host is told it: `leaves` is 1 where the packet leaves and else 0
-abbrev pub told_verdict : Verdict → HostRouted
-told_verdict (Leaves port count) = record { length = count; number = 0; leaves = 1; port = port }
-told_verdict Unsupported = record { length = 0; number = 0; leaves = 0; port = 0 }
-told_verdict (Refused refusal) = record { length = 0; number = number_of refusal; leaves = 0; port = 0 }
+abbrev pub told_verdict : Routed → HostRouted
+told_verdict (Ok (Leaves port count)) = record { length = count; number = 0; leaves = 1; port = port }
+told_verdict (Ok Unsupported) = record { length = 0; number = 0; leaves = 0; port = 0 }
+told_verdict (Err refusal) = record { length = 0; number = number_of refusal; leaves = 0; port = 0 }
 
 -- what a host sees after a call: the result, and the lent buffer
 pub record HostSees : Type 0 where

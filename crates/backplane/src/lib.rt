@@ -1,17 +1,18 @@
 #![tactic(auto)]
-// What a host of the switch links, in C or Rust: `router::route`, with plain numbers in the place of the enum. What it promises for every list of
+// What a host of the switch links, in C or Rust: `router::route`, with plain numbers in the place of the result. What it promises for every list of
 // ports, packet and buffer is specs/Routes.antt. A slice is a pointer and a length; where the length is 0 the pointer is not followed.
 // It is a crate of its own, so that the board's functions are compiled as they are without it (docs/DECISIONS.md, 41). The two halves of
 // `router::route` are called, and not that itself.
 ghost use Rattle.std.specs.Prelude.{◌≡◌};
 ghost use Rattle.backplane.specs.Routes.{told_verdict, HostDecides, HostRoutes};
 
+use answers::Refusal;
 use ports::{Choice, Port};
 use router::Verdict;
 
-// The number; and where `leaves` is 1, the port's place in the list and how many bytes leave by it. All else is 0.
+// The number; and where `leaves` is 1, the port's place in the list and how many bytes leave by it. All else is 0. (C has no enum with values.)
 #[repr(C)]
-#[derive(Clone, Copy)]
+#[derive(Clone, Copy, Default)]
 pub struct HostRouted {
     pub length: usize,
     pub number: u8,
@@ -19,28 +20,23 @@ pub struct HostRouted {
     pub port: u8,
 }
 
-fn told_verdict(verdict: Verdict) -> HostRouted
-    ensures { result ≡ told_verdict verdict }
-{
-    match verdict {
-        Verdict::Leaves { port, length } => HostRouted {
-            length,
-            number: 0,
-            leaves: 1,
-            port,
-        },
-        Verdict::Unsupported => HostRouted {
-            length: 0,
-            number: 0,
-            leaves: 0,
-            port: 0,
-        },
-        Verdict::Refused(refusal) => HostRouted {
-            length: 0,
-            number: refusal.number(),
-            leaves: 0,
-            port: 0,
-        },
+impl From<Result<Verdict, Refusal>> for HostRouted {
+    ghost from_gives = { λ routed host. host ≡ told_verdict routed };
+
+    fn from(routed: Result<Verdict, Refusal>) -> HostRouted {
+        match routed {
+            Ok(Verdict::Leaves { port, length }) => HostRouted {
+                length,
+                number: 0,
+                leaves: 1,
+                port,
+            },
+            Ok(Verdict::Unsupported) => HostRouted::default(),
+            Err(refusal) => HostRouted {
+                number: refusal.number(),
+                ..HostRouted::default()
+            },
+        }
     }
 }
 
@@ -48,7 +44,7 @@ fn told_verdict(verdict: Verdict) -> HostRouted
 fn decide(choice: Choice, packet: &[u8], leaving: &mut [u8]) -> HostRouted
     ensures { HostDecides choice packet.now leaving.old result leaving.new }
 {
-    told_verdict(router::decide(choice, packet, leaving))
+    router::decide(choice, packet, leaving).into()
 }
 
 #[unsafe(no_mangle)]

@@ -67,12 +67,6 @@ unfolding badly_described
 described_well e kept o t wo wt in_range =
     rw (wo.bytes, wo.rules, wo.marks, wt.bytes, wt.rules, wt.marks, in_range, wo.once, wt.once)
 
--- whole rules and marks, by the test that the code makes
-pub whole : (s : Space) → wrong_sizes s ≡ false → (length s.rules ≡ 4096) × (length s.marks ≡ 4096)
-whole s e =
-    let n = none_of (wrong_size s.bytes ∷ wrong_size s.rules ∷ wrong_size s.marks ∷ []) e in
-    (right_size s.rules n.1.0, right_size s.marks n.1.1.0)
-
 -- the editions from 1 to 2 are those that the request names
 pub edition_below : (edition : ℕ) → edition < 1 → other_edition edition ≡ true
 edition_below edition h = rw (ne_eqb edition 1 (λ e. omega (arith, e)), ne_eqb edition 2 (λ e. omega (arith, e)))

@@ -18,7 +18,7 @@ ServeUnique =
     (d : Board) (p reply : List ℕ) (r q : Served) (o t after o' t' after' : List ℕ) → Serves d p reply r o t after → Serves d p reply q o' t' after'
     → (r ≡ q) × (o ≡ o') × (t ≡ t') × (after ≡ after')
 
-same_answer : (r q : Result ℕ Refusal) → answered r ≡ answered q → count_of r ≡ count_of q → r ≡ q
+pub same_answer : (r q : Result ℕ Refusal) → answered r ≡ answered q → count_of r ≡ count_of q → r ≡ q
 same_answer (Ok n) (Ok m) e f = ap Ok f
 same_answer (Ok n) (Err q) e f = absurd (number_positive q (sym e))
 same_answer (Err r) (Ok m) e f = absurd (number_positive r e)

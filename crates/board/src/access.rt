@@ -81,12 +81,11 @@ impl Board<'_> {
         requires { Readable self.now.description self.now.ordinary.now self.now.trusted.now request }
         ensures { result ≡ picked_word self.now.description self.now.ordinary.now self.now.trusted.now request }
     {
-        if request.target.is_trusted() {
-            words::four(self.trusted, request.offset)
-        } else if request.offset == self.description.a {
-            words::four(self.trusted, self.description.b)
-        } else {
-            words::four(self.ordinary, request.offset)
+        let offset = request.offset;
+        match request.target {
+            Target::Trusted => words::four(self.trusted, offset),
+            _ if offset == self.description.a => words::four(self.trusted, self.description.b),
+            _ => words::four(self.ordinary, offset),
         }
     }
 

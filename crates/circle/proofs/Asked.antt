@@ -11,6 +11,8 @@ use native.Mathlib.Omega.{arith}
 use lib.Dec.{eqb}
 use lib.ListN.{length, take}
 use borrow.Author.Tests.{eqb-true, eqb-false, eq-eqb, le-ltb, ltb-false, not-false}
+use Rattle.std.specs.Prelude.{Option, Some, None, Result, Ok}
+use Rattle.answers.specs.declared.Refusal.{Refusal}
 use Rattle.answers.specs.Checks.{any}
 use Rattle.answers.proofs.Checks.{none_applies, none_of}
 use Rattle.words.specs.Bytes.{byte, four}
@@ -19,26 +21,23 @@ use Rattle.words.proofs.Laws.{listed, listed_from}
 use Rattle.packet.specs.declared.Id.{Id}
 use Rattle.packet.specs.declared.Target.{Target}
 use Rattle.packet.specs.declared.Target.TheVariants.{Type0, Type1, Trusted}
-use Rattle.packet.specs.declared.TypeCode.{TypeCode}
-use Rattle.packet.specs.declared.TypeCode.TheVariants.{Known, Unknown}
+use Rattle.packet.specs.declared.Access.{Access}
 use Rattle.packet.specs.declared.Request.{Request}
-use Rattle.packet.specs.declared.Decoded.{Decoded}
-use Rattle.packet.specs.declared.Decoded.TheVariants.{Asks}
+use Rattle.packet.specs.Fields as fields
 use Rattle.packet.specs.Fields.{type_code, bit7_set, type_of, poison, wrong_field, whole_length, data_of}
 use Rattle.packet.specs.Request.{typed, unknown, writes_of, target_of, packet_checks, number_under, packet_number, request_of, DecodesUnder}
 use Rattle.packet.proofs.Laws.{number_past, number_under_lem, clear_accepted, sound_under, positive, whole_is}
 use Rattle.packet.proofs.Unique.{decode_under_unique}
 use Rattle.asking.specs.declared.Parts.{Parts}
-use Rattle.asking.specs.declared.Written.{Written}
 use Rattle.asking.specs.Writing.{outside, asks_write, header_of, packet_of, told_written, Writes}
 use Rattle.circle.specs.Plain.{Octets, Plain, kind_of, parts_of}
 use Rattle.asking.proofs.Laws.{bytes_length}
 use Rattle.asking.proofs.Numbers.{served_packet}
 
 -- the statements. The first: what the decoder reads from a packet written from these parts and data
-pub record ReadAs (a : Parts) (new packet : List ℕ) (r : Decoded) : Type 0 where
+pub record ReadAs (a : Parts) (new packet : List ℕ) (r : Result Request Refusal) : Type 0 where
   pub request : Request
-  pub asks : r ≡ Asks request
+  pub asks : r ≡ Ok request
   pub parts : parts_of request ≡ a
   pub unpoisoned : request.poisoned ≡ false
   pub «data» : request.writes ≡ true → data_of packet ≡ four new 0
@@ -46,14 +45,14 @@ pub record ReadAs (a : Parts) (new packet : List ℕ) (r : Decoded) : Type 0 whe
 -- every accepted request is read by the board's decoder as the same request: kind, fields, offset, enables and data
 abbrev pub AcceptedReadsBack : Type 0
 AcceptedReadsBack =
-    (edition : ℕ) (a : Parts) (new buffer : List ℕ) (w : Written) (after : List ℕ) (r : Decoded) → Writes a new buffer w after
+    (edition : ℕ) (a : Parts) (new buffer : List ℕ) (w : Result ℕ Refusal) (after : List ℕ) (r : Result Request Refusal) → Writes a new buffer w after
     → (told_written w after).number ≡ 0 → DecodesUnder edition (take (told_written w after).count after) r → ReadAs a new (take (told_written w after).count after) r
 
 -- every packet without digest and with its reserved bits clear is what the writer writes for what the decoder reads. Its poison is clear too:
 -- document 02 gives the writer none
 abbrev pub PlainIsWritten : Type 0
 PlainIsWritten =
-    (edition : ℕ) (p : List ℕ) (q : Request) → Octets p → DecodesUnder edition p (Asks q) → Plain p → q.poisoned ≡ false
+    (edition : ℕ) (p : List ℕ) (q : Request) → Octets p → DecodesUnder edition p (Ok q) → Plain p → q.poisoned ≡ false
     → (any (outside (parts_of q)) ≡ false) × (packet_of (parts_of q) (data_of p) ≡ p)
 
 -- so the packets that the writer can write are exactly those that decode and are plain and without poison
@@ -78,19 +77,19 @@ kind_plain false Trusted = refl
 kind_plain true Trusted = refl
 
 -- each type has one kind
-kind_is : (code : ℕ) (writes : Bool) (target : Target) → type_of code ≡ Known writes target → code ≡ kind_of writes target
+kind_is : (code : ℕ) (writes : Bool) (target : Target) → type_of code ≡ fields.known writes target → code ≡ kind_of writes target
 unfolding type_of
 kind_is code writes target =
     go (eqb code 0x04) (eqb code 0x44) (eqb code 0x05) (eqb code 0x45) (eqb code 0x1b) (eqb code 0x5b) refl refl refl refl refl refl
   where
-    give : (w : Bool) (t : Target) → eqb code (kind_of w t) ≡ true → Known w t ≡ Known writes target → code ≡ kind_of writes target
-    give w t e h = eqb-true code (kind_of w t) e ∙ ap (λ (x : TypeCode). kind_of (writes_of x) (target_of x)) h
+    give : (w : Bool) (t : Target) → eqb code (kind_of w t) ≡ true → fields.known w t ≡ fields.known writes target → code ≡ kind_of writes target
+    give w t e h = eqb-true code (kind_of w t) e ∙ ap (λ (x : Option Access). kind_of (writes_of x) (target_of x)) h
 
     go : (a b c d e f : Bool) → eqb code 0x04 ≡ a → eqb code 0x44 ≡ b → eqb code 0x05 ≡ c → eqb code 0x45 ≡ d → eqb code 0x1b ≡ e
         → eqb code 0x5b ≡ f
-        → cond a (Known false Type0) (cond b (Known true Type0) (cond c (Known false Type1) (cond d (Known true Type1)
-        (cond e (Known false Trusted) (cond f (Known true Trusted) Unknown)))))
-        ≡ Known writes target → code ≡ kind_of writes target
+        → cond a (fields.known false Type0) (cond b (fields.known true Type0) (cond c (fields.known false Type1) (cond d (fields.known true Type1)
+        (cond e (fields.known false Trusted) (cond f (fields.known true Trusted) None)))))
+        ≡ fields.known writes target → code ≡ kind_of writes target
     go true b c d e f h i j k l m x = give false Type0 h x
     go false true c d e f h i j k l m x = give true Type0 i x
     go false false true d e f h i j k l m x = give false Type1 j x
@@ -99,7 +98,7 @@ kind_is code writes target =
     go false false false false false true h i j k l m x = give true Trusted m x
     go false false false false false false h i j k l m x = absurd (apart (ap unknown x))
 
-type_of_kind : (writes : Bool) (target : Target) → type_of (kind_of writes target) ≡ Known writes target
+type_of_kind : (writes : Bool) (target : Target) → type_of (kind_of writes target) ≡ fields.known writes target
 unfolding type_of
 type_of_kind false Type0 = refl
 type_of_kind true Type0 = refl
@@ -117,15 +116,15 @@ code_of_kind true Type1 = refl
 code_of_kind false Trusted = refl
 code_of_kind true Trusted = refl
 
-is_known : (t : TypeCode) → unknown t ≡ false → t ≡ Known (writes_of t) (target_of t)
-is_known (Known writes target) e = refl
-is_known Unknown e = absurd (apart e)
+is_known : (t : Option Access) → unknown t ≡ false → t ≡ fields.known (writes_of t) (target_of t)
+is_known (Some access) e = refl
+is_known None e = absurd (apart e)
 
 -- ---- a written packet is read
 
 -- what the check 1 leaves
 record Accepted (a : Parts) : Type 0 where
-  known : type_of a.kind ≡ Known (asks_write a) (target_of (type_of a.kind))
+  known : type_of a.kind ≡ fields.known (asks_write a) (target_of (type_of a.kind))
   kind : a.kind ≡ kind_of (asks_write a) (target_of (type_of a.kind))
   device : a.device ≤ 31
   function : a.function ≤ 7
@@ -250,9 +249,11 @@ module _ (a : Parts) (new : List ℕ) where
     sound : packet_number (packet_of a new) ≡ 0
     sound =
         let i = accepted a e in
-        number_past (packet_of a new) (asks_write a) (target_of (type_of a.kind))
-        (record { long = rw (whole, byte_2) (long (asks_write a)); known = typed_is ∙ i.known })
-        false whole (sym fields_are)
+        rw (
+          number_past (packet_of a new) (record { writes = asks_write a; target = target_of (type_of a.kind) })
+              (record { long = rw (whole, byte_2) (long (asks_write a)); known = typed_is ∙ i.known }) whole,
+          fields_are,
+        )
 
     -- bit 7 is clear, so that no edition refuses it
     pub first_clear : bit7_set (byte (packet_of a new) 0) ≡ false
@@ -305,13 +306,13 @@ parts_back a e =
       enables = a.enables;
     }
 
-read_as : (edition : ℕ) (a : Parts) (new : List ℕ) (r : Decoded) → any (outside a) ≡ false → DecodesUnder edition (packet_of a new) r
+read_as : (edition : ℕ) (a : Parts) (new : List ℕ) (r : Result Request Refusal) → any (outside a) ≡ false → DecodesUnder edition (packet_of a new) r
     → ReadAs a new (packet_of a new) r
 unfolding asked
 read_as edition a new r e d =
     record {
       request = asked a;
-      asks = decode_under_unique edition (packet_of a new) r (Asks (asked a)) d (packet_number_lem a new e edition, sym (request_is a new e));
+      asks = decode_under_unique edition (packet_of a new) r (Ok (asked a)) d (packet_number_lem a new e edition, sym (request_is a new e));
       parts = parts_back a e;
       unpoisoned = refl;
       «data» = data_is a new e;
@@ -371,7 +372,7 @@ clear_1_0 : (n : ℕ) → n < 4 → bits 1 0 n ≡ 0 → n ≡ 0
 clear_1_0 n h e = omega arith
 
 module _ (p : List ℕ) (octets : Octets p) (e : packet_number p ≡ 0) (plain : Plain p) (clean : poison (byte p 2) ≡ 0) where
-  known : typed p ≡ Known (writes_of (typed p)) (target_of (typed p))
+  known : typed p ≡ fields.known (writes_of (typed p)) (target_of (typed p))
   known = is_known (typed p) (none_applies (packet_checks p) (positive p) e _ (Memᴰ.tail (Memᴰ.head refl)))
 
   code : byte p 0 ≡ kind_of (writes_of (typed p)) (target_of (typed p))
@@ -418,7 +419,7 @@ module _ (p : List ℕ) (octets : Octets p) (e : packet_number p ≡ 0) (plain :
       ∷ []
 
   -- the type is read again from the kind
-  type_back : type_of (parts_of (request_of p)).kind ≡ Known (writes_of (typed p)) (target_of (typed p))
+  type_back : type_of (parts_of (request_of p)).kind ≡ fields.known (writes_of (typed p)) (target_of (typed p))
   unfolding request_of
   type_back = type_of_kind (writes_of (typed p)) (target_of (typed p))
 

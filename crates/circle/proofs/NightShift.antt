@@ -14,6 +14,7 @@ use lib.Dec.{ltb}
 use lib.ListN.{length, take}
 use lib.Seq.{take_at}
 use borrow.Author.Tests.{ltb-true}
+use Rattle.std.specs.Prelude.{Result, Ok, Err}
 use Rattle.answers.specs.declared.Refusal.{Refusal}
 use Rattle.answers.specs.Checks.{any}
 use Rattle.answers.proofs.Unique.{number_positive}
@@ -28,21 +29,17 @@ use Rattle.packet.specs.Fields.{data_of}
 use Rattle.packet.specs.Request.{request_of}
 use Rattle.packet.specs.Completion.{status_byte, without_data}
 use Rattle.asking.specs.declared.Parts.{Parts}
-use Rattle.asking.specs.declared.Written.{Written}
 use Rattle.asking.specs.declared.Said.{Said}
 use Rattle.asking.specs.declared.Said.TheVariants.{Done, Unsupported}
 use Rattle.asking.specs.declared.Completion.{Completion}
-use Rattle.asking.specs.declared.Heard.{Heard}
-use Rattle.asking.specs.declared.Heard.TheVariants.{Says, Refused}
 use Rattle.asking.specs.Writing.{outside, asks_write, packet_of, told_written, Writes}
 use Rattle.asking.specs.Reading.{read_number, Reads}
 use Rattle.asking.proofs.Numbers.{served_packet}
 use Rattle.circle.proofs.Asked.{asked, packet_number_lem, request_is, data_is}
-use Rattle.board.specs.declared.Served.{Served}
 use Rattle.board.specs.Description.{Space, doubly_marked, Board, WellDescribed}
 use Rattle.board.specs.Access.{unsupported, read_word, shown_word}
 use Rattle.board.specs.Serving.{Outcome, completer_of, respond, serve_number, refused, serve}
-use Rattle.board.specs.Promise.{Seen, after_call, shows, Serves}
+use Rattle.board.specs.Promise.{Served, count_of, Seen, after_call, shows, Serves}
 use Rattle.board.proofs.Outcomes.{respond_unsupported, respond_write}
 use Rattle.board.proofs.Refusals.{outcome_number}
 use Rattle.board.proofs.Laws.{Well, well_described}
@@ -63,7 +60,7 @@ holding d r ordinary trusted = after_call d r.capture ordinary trusted
 -- the request that was written, the board's answer to it and what was read: each meets its promise
 pub record Asked (a : Parts) (new : List ℕ) (d : Board) : Type 0 where
   pub buffer : List ℕ
-  pub written : Written
+  pub written : Result ℕ Refusal
   pub sent : List ℕ
   pub writes : Writes a new buffer written sent
   pub accepted : (told_written written sent).number ≡ 0
@@ -73,8 +70,8 @@ pub record Asked (a : Parts) (new : List ℕ) (d : Board) : Type 0 where
   pub trusted : List ℕ
   pub replied : List ℕ
   pub serves : Serves d (take (told_written written sent).count sent) reply served ordinary trusted replied
-  pub heard : Heard
-  pub reads : Reads (take served.length replied) heard
+  pub heard : Result Completion Refusal
+  pub reads : Reads (take (count_of served.answer) replied) heard
 
 -- the board that is then held
 abbrev pub held : {a : Parts} {new : List ℕ} {d : Board} → Asked a new d → Board
@@ -82,9 +79,9 @@ held {d = d} s = holding d s.served s.ordinary s.trusted
 
 -- the sentence: the completion is for this request, and means what it says. What is refused instead of read changes nothing; a reply under 16 bytes was lent
 pub record Sentence (a : Parts) (new : List ℕ) (d : Board) (s : Asked a new d) : Type 0 where
-  pub says : (c : Completion) → s.heard ≡ Says c
+  pub says : (c : Completion) → s.heard ≡ Ok c
       → (c.requester ≡ a.requester) × (c.tag ≡ a.tag) × (c.completer ≡ completer_of (held s)) × Means d (held s) a new c.said
-  pub silent : (refusal : Refusal) → s.heard ≡ Refused refusal → (held s ≡ d) × (length s.reply < 16)
+  pub silent : (refusal : Refusal) → s.heard ≡ Err refusal → (held s ≡ d) × (length s.reply < 16)
 
 abbrev pub SuccessfulMeansLanded : Type 0
 SuccessfulMeansLanded = (a : Parts) (new : List ℕ) (d : Board) → WellDescribed d → (s : Asked a new d) → Sentence a new d s
@@ -242,11 +239,11 @@ module _ (a : Parts) (new : List ℕ) (d : Board) (well : WellDescribed d) (s : 
   held_is = call_holds d packet s.reply s.served s.ordinary s.trusted s.replied called
 
   -- the bytes that are read are those that the board wrote
-  taken : take s.served.length s.replied ≡ (serve d packet room).written
+  taken : take (count_of s.served.answer) s.replied ≡ (serve d packet room).written
   unfolding shows
   taken =
-      ap (take s.served.length) (ap (λ (x : Seen). x.reply) called)
-      ∙ take_at (serve d packet room).written _ s.served.length (sym (ap (λ (x : Seen). x.count) called))
+      ap (take (count_of s.served.answer)) (ap (λ (x : Seen). x.reply) called)
+      ∙ take_at (serve d packet room).written _ (count_of s.served.answer) (sym (ap (λ (x : Seen). x.count) called))
 
   read_by : Reads (serve d packet room).written s.heard
   read_by = subst (λ (x : List ℕ). Reads x s.heard) taken s.reads
@@ -262,7 +259,7 @@ module _ (a : Parts) (new : List ℕ) (d : Board) (well : WellDescribed d) (s : 
   served_by : ltb room 16 ≡ false → (serve d packet room).number ≡ 0
   served_by e = outcome_number d packet room ∙ number_by false e
 
-  says_by : (short : Bool) → ltb room 16 ≡ short → (c : Completion) → Reads (serve d packet room).written (Says c)
+  says_by : (short : Bool) → ltb room 16 ≡ short → (c : Completion) → Reads (serve d packet room).written (Ok c)
       → (c.requester ≡ a.requester) × (c.tag ≡ a.tag) × (c.completer ≡ completer_of (held s)) × Means d (held s) a new c.said
   says_by true e c r =
       let z : read_number [] ≡ 0 = ap (λ (x : Outcome). read_number x.written) (sym (refused_by e)) ∙ r.0 in
@@ -278,7 +275,7 @@ module _ (a : Parts) (new : List ℕ) (d : Board) (well : WellDescribed d) (s : 
             (subst (λ (x : Board). Means d x a new (meant d packet room).said) (sym held_is) (means_meant a new inside d well room n)),
       )
 
-  silent_by : (short : Bool) → ltb room 16 ≡ short → (refusal : Refusal) → Reads (serve d packet room).written (Refused refusal)
+  silent_by : (short : Bool) → ltb room 16 ≡ short → (refusal : Refusal) → Reads (serve d packet room).written (Err refusal)
       → (held s ≡ d) × (room < 16)
   silent_by true e refusal r = (held_is ∙ ap (λ (x : Outcome). x.after) (refused_by e), ltb-true room 16 e)
   silent_by false e refusal r =

@@ -9,18 +9,15 @@ use native.Mathlib.Nat.{le_of_eq}
 use lib.ListN.{length, take, drop, replicate}
 use lib.Seq.{take_at, take-length, drop-length}
 use borrow.Author.Tests.{le-ltb}
-use Rattle.answers.specs.declared.Answer.TheVariants.{Done}
+use Rattle.std.specs.Prelude.{Ok}
 use Rattle.answers.specs.Checks.{any}
 use Rattle.asking.specs.declared.Parts.{Parts}
-use Rattle.asking.specs.declared.Written.TheVariants.{Bytes}
-use Rattle.asking.specs.declared.Heard.TheVariants.{Says}
 use Rattle.asking.specs.Writing.{outside, whole_of, write_number, packet_of, Writes}
 use Rattle.asking.specs.Reading.{read_number, completion_of, Reads}
 use Rattle.asking.proofs.Numbers.{packet_length, served_shown}
-use Rattle.board.specs.declared.Served.{Served}
 use Rattle.board.specs.Description.{Board, WellDescribed}
 use Rattle.board.specs.Serving.{Outcome, serve}
-use Rattle.board.specs.Promise.{over, shows, Serves}
+use Rattle.board.specs.Promise.{Served, count_of, over, shows, Serves}
 use Rattle.board.proofs.Refusals.{outcome_number}
 use Rattle.circle.specs.Replies.{meant}
 use Rattle.circle.proofs.Asked.{packet_number_lem}
@@ -30,7 +27,7 @@ use Rattle.circle.proofs.NightShift.{Asked}
 -- the statement
 abbrev pub AnyMayBeAsked : Type 0
 AnyMayBeAsked =
-    (a : Parts) (new : List ℕ) (d : Board) → any (outside a) ≡ false → WellDescribed d → (s : Asked a new d) × (s.heard ≡ Says (meant d (packet_of a new) 16))
+    (a : Parts) (new : List ℕ) (d : Board) → any (outside a) ≡ false → WellDescribed d → (s : Asked a new d) × (s.heard ≡ Ok (meant d (packet_of a new) 16))
 
 nothing_behind : (l : List ℕ) → l ++ drop (length l) l ≡ l
 nothing_behind l = ap (λ (x : List ℕ). l ++ x) (drop-length l) ∙ append-nil l
@@ -40,7 +37,7 @@ module _ (a : Parts) (new : List ℕ) (inside : any (outside a) ≡ false) where
   p = packet_of a new
 
   -- a buffer that just holds the request
-  writes_it : Writes a new p (Bytes (length p)) p
+  writes_it : Writes a new p (Ok (length p)) p
   writes_it =
       let n : write_number a (length p) ≡ 0 = rw (inside, le-ltb (length p) (whole_of a) (le_of_eq (sym (packet_length a new)))) in
       sym (served_shown a new p n ∙ ap (λ (x : List ℕ). record { number = 0; count = length p; buffer = x }) (nothing_behind p))
@@ -56,7 +53,7 @@ module _ (a : Parts) (new : List ℕ) (inside : any (outside a) ≡ false) where
     served_it = outcome_number d p 16 ∙ rw (well, packet_number_lem a new inside d.description.edition)
 
     served : Served
-    served = record { answer = Done; length = length o.written; capture = o.after.capture }
+    served = record { answer = Ok (length o.written); capture = o.after.capture }
 
     serves_it : Serves d p reply served o.after.ordinary.bytes o.after.trusted.bytes (over o.written reply)
     unfolding shows served reply
@@ -71,7 +68,7 @@ module _ (a : Parts) (new : List ℕ) (inside : any (outside a) ≡ false) where
           reply = over o.written reply;
         }
 
-    reads_it : Reads (take served.length (over o.written reply)) (Says (completion_of o.written))
+    reads_it : Reads (take (count_of served.answer) (over o.written reply)) (Ok (completion_of o.written))
     unfolding served
     reads_it =
         let t : take (length o.written) (over o.written reply) ≡ o.written = take_at o.written (drop (length o.written) reply) _ refl in
@@ -81,7 +78,7 @@ module _ (a : Parts) (new : List ℕ) (inside : any (outside a) ≡ false) where
     it_is =
         record {
           buffer = p;
-          written = Bytes (length p);
+          written = Ok (length p);
           sent = p;
           writes = writes_it;
           accepted = refl;
@@ -93,11 +90,11 @@ module _ (a : Parts) (new : List ℕ) (inside : any (outside a) ≡ false) where
           serves =
               subst (λ (x : List ℕ). Serves d x reply served o.after.ordinary.bytes o.after.trusted.bytes (over o.written reply))
               (sym (take-length p)) serves_it;
-          heard = Says (completion_of o.written);
+          heard = Ok (completion_of o.written);
           reads = reads_it;
         }
 
 pub any_may_be_asked : AnyMayBeAsked
 unfolding it_is
 any_may_be_asked a new d inside well =
-    (it_is a new inside d well, ap Says (replies_read_back d (packet_of a new) 16 (served_it a new inside d well)).same)
+    (it_is a new inside d well, ap Ok (replies_read_back d (packet_of a new) 16 (served_it a new inside d well)).same)

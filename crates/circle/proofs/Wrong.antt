@@ -6,14 +6,14 @@ use mathlib.Core.List.{List, [], ◌∷◌}
 use mathlib.Core.Path.{◌≡◌, refl, sym, ap, ◌∙◌}
 use native.Mathlib.Omega.{arith}
 use borrow.Author.Tests.{ne_eqb, eqb-true, ltb-false, not-false}
+use Rattle.std.specs.Prelude.{Result, Ok}
+use Rattle.answers.specs.declared.Refusal.{Refusal}
 use Rattle.answers.proofs.Checks.{NoneOf, none_of}
 use Rattle.words.specs.Bytes.{byte}
 use Rattle.packet.specs.Fields.{type_of}
 use Rattle.packet.specs.Request.{unknown}
 use Rattle.asking.specs.declared.Parts.{Parts}
-use Rattle.asking.specs.declared.Written.{Written}
 use Rattle.asking.specs.declared.Completion.{Completion}
-use Rattle.asking.specs.declared.Heard.TheVariants.{Says}
 use Rattle.asking.specs.Writing.{outside, asks_write, told_written, write_number, Writes}
 use Rattle.asking.specs.Reading.{has_data, other_status, read_number, Reads}
 use Rattle.asking.proofs.Numbers.{served_packet}
@@ -21,7 +21,7 @@ use Rattle.circle.proofs.Exactly.{sound}
 
 -- the statements, of whatever a writer answers and leaves. It writes for a device over 31, which spills into the bus or is cut, for enables over 15, which
 -- spill into the last enables, for an offset that is no multiple of 4, which it may drop to one, or for a kind outside the six; it writes data for a read
-pub record WrongWritersCaught (a : Parts) (new buffer : List ℕ) (w : Written) (after : List ℕ) (meets : Writes a new buffer w after) : Type 0 where
+pub record WrongWritersCaught (a : Parts) (new buffer : List ℕ) (w : Result ℕ Refusal) (after : List ℕ) (meets : Writes a new buffer w after) : Type 0 where
   pub device : 31 < a.device → (told_written w after).number ≡ 0 → ⊥
   pub enables : 15 < a.enables → (told_written w after).number ≡ 0 → ⊥
   pub offset : (a.offset % 4 ≡ 0 → ⊥) → (told_written w after).number ≡ 0 → ⊥
@@ -29,7 +29,7 @@ pub record WrongWritersCaught (a : Parts) (new buffer : List ℕ) (w : Written) 
   pub read_data : asks_write a ≡ false → (told_written w after).number ≡ 0 → 12 < (told_written w after).count → ⊥
 
 -- a reader that takes a status other than 00h and 20h, or a UR with data
-pub record WrongReadersCaught (c : List ℕ) (completion : Completion) (meets : Reads c (Says completion)) : Type 0 where
+pub record WrongReadersCaught (c : List ℕ) (completion : Completion) (meets : Reads c (Ok completion)) : Type 0 where
   pub status : (byte c 6 ≡ 0x00 → ⊥) → (byte c 6 ≡ 0x20 → ⊥) → ⊥
   pub with_data : byte c 0 ≡ 0x4a → byte c 6 ≡ 0x20 → ⊥
 
@@ -53,8 +53,8 @@ pub record ShownBy : Type 0 where
 
 abbrev pub WrongAskersCaught : Type 0
 WrongAskersCaught =
-    ((a : Parts) (new buffer : List ℕ) (w : Written) (after : List ℕ) (meets : Writes a new buffer w after) → WrongWritersCaught a new buffer w after meets)
-    × ((c : List ℕ) (completion : Completion) (meets : Reads c (Says completion)) → WrongReadersCaught c completion meets)
+    ((a : Parts) (new buffer : List ℕ) (w : Result ℕ Refusal) (after : List ℕ) (meets : Writes a new buffer w after) → WrongWritersCaught a new buffer w after meets)
+    × ((c : List ℕ) (completion : Completion) (meets : Reads c (Ok completion)) → WrongReadersCaught c completion meets)
     × ShownBy
 
 -- ---- writers
@@ -62,7 +62,7 @@ WrongAskersCaught =
 contrary : (b : Bool) → b ≡ false → b ≡ true → ⊥
 contrary b f t = let z : ◌≡◌ {A = ℕ} 0 1 = ap (λ (x : Bool). cond x 1 0) (sym f ∙ t) in omega (arith, z)
 
-module _ (a : Parts) (new buffer : List ℕ) (w : Written) (after : List ℕ) (meets : Writes a new buffer w after) where
+module _ (a : Parts) (new buffer : List ℕ) (w : Result ℕ Refusal) (after : List ℕ) (meets : Writes a new buffer w after) where
   none : (told_written w after).number ≡ 0 → NoneOf (outside a)
   none n = none_of (outside a) (served_packet a new buffer w after meets n).0
 
@@ -84,7 +84,7 @@ other_status_lem : (with_data : Bool) (six : ℕ) → other_status with_data six
 other_status_lem true six e h k = contrary (other_status true six) e (rw (ne_eqb six 0x00 h))
 other_status_lem false six e h k = contrary (other_status false six) e (rw (ne_eqb six 0x00 h, ne_eqb six 0x20 k))
 
-readers : (c : List ℕ) (completion : Completion) (meets : Reads c (Says completion)) → WrongReadersCaught c completion meets
+readers : (c : List ℕ) (completion : Completion) (meets : Reads c (Ok completion)) → WrongReadersCaught c completion meets
 readers c completion meets =
     let s = sound c meets.0 in
     record {

@@ -1,6 +1,6 @@
 -- "The replies of document 01" (02, 5/13): what `serve` gives from some well-described board and some packet. Assumes nothing.
 use Rattle.std.specs.Prelude.{ℕ, ◌<◌, cond, List, ◌≡◌}
-use Rattle.words.specs.Bytes.{byte}
+use Rattle.words.specs.Bytes.{byte, four}
 use Rattle.packet.specs.Request.{request_of}
 use Rattle.capture.specs.declared.Capture.{Capture}
 use Rattle.capture.specs.declared.Capture.TheVariants.{Nothing, Number}
@@ -39,7 +39,7 @@ NoReplyHas first k x = (c : List ℕ) → Reply c → byte c 0 ≡ first → byt
 
 -- four bytes, said to be shown
 abbrev pub shown_four : List ℕ → Said
-shown_four four = Shown (byte four 0) (byte four 1) (byte four 2) (byte four 3)
+shown_four word = Shown (four word 0)
 
 -- what a board means by its reply to a packet without a fault: "success with data, success without, UR", with the board's completer ID as it then is,
 -- and the packet's requester ID and tag

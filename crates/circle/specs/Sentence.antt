@@ -2,7 +2,7 @@
 -- bits at that place of that space equal the data and nothing else changed (at A: nothing changed); "success with data": the data is what the space
 -- shows there; UR: nothing changed. With 02, 6/13, a third case: "A marked bit becomes 0 if the enabled data bit is 1, else stays." With 02, 7/13, what the
 -- space shows is "all four bytes whatever the enables, also at A". Assumes nothing.
-use Rattle.std.specs.Prelude.{ℕ, ◌+◌, ◌≤◌, ◌<◌, Bool, true, false, cond, List, [], ◌∷◌, ◌⊎◌, ◌≡◌, eqb, length}
+use Rattle.std.specs.Prelude.{ℕ, ◌+◌, ◌≤◌, ◌<◌, Bool, true, false, cond, List, ◌⊎◌, ◌≡◌, eqb, length}
 use Rattle.words.specs.Bytes.{byte, four}
 use Rattle.words.specs.Fields.{bit}
 use Rattle.registers.specs.Merge.{enabled}
@@ -60,5 +60,5 @@ shown_there d a =
 -- what it means that a completion says something: the board before and after, the request's parts and data
 abbrev pub Means : Board → Board → Parts → List ℕ → Said → Type 0
 Means d e a new Done = (asks_write a ≡ true) × Landed d e a new
-Means d e a new (Shown w x y z) = (asks_write a ≡ false) × ((w ∷ x ∷ y ∷ z ∷ []) ≡ shown_there d a) × (e ≡ d)
+Means d e a new (Shown word) = (asks_write a ≡ false) × (word ≡ shown_there d a) × (e ≡ d)
 Means d e a new Unsupported = e ≡ d

@@ -1,80 +1,90 @@
 // Lists of many headers, put by hand.
-use crate::spaces::Store;
+use crate::boards::Function;
+use crate::faults::Wrong;
+use crate::spaces::Buffer;
 use crate::tokens::Tokens;
-use crate::{spaces, tokens, vocabulary};
+use crate::vocabulary::Word;
 
 // What a header of an extended or a trusted list says of itself that is put in this way.
 const ID: usize = 0x000b;
 
 const VERSION: usize = 1;
 
-// Puts so many headers of a list, the first at an offset and each other at the one before it with a step added. Each points to the
-// next, and the last to a pointer of its own. The numbers are the count, the first, the step and that pointer. Says whether all fit; where
-// not, nothing is put.
-pub fn put_chain(store: &mut Store, tokens: &Tokens) -> bool {
-    if !go_along(store, tokens, false) {
-        return false;
-    }
-    go_along(store, tokens, true)
+// So many headers of a list, the first at an offset and each other at the one before it with a step added. Each points to the next, and the last to a pointer
+// of its own.
+#[derive(Clone, Copy)]
+struct Chain {
+    is_short: bool,
+    count: usize,
+    first: usize,
+    step: usize,
+    last: usize,
 }
 
-fn go_along(store: &mut Store, tokens: &Tokens, putting: bool) -> bool {
-    let list = tokens::word(tokens, 1);
-    let headers = tokens::at(tokens, 2);
-    let by = tokens::at(tokens, 4);
-    let mut at = tokens::at(tokens, 3);
-    let mut done = 0;
-    while done < headers {
-        let following = std::num::wrapping_add_usize(at, by) % 65536;
-        done += 1;
-        let next = if done < headers {
-            following
+impl Chain {
+    fn offset(self, header: usize) -> usize {
+        self.first.wrapping_add(header.wrapping_mul(self.step)) % 0x10000
+    }
+
+    // Where a header points to.
+    fn next(self, header: usize) -> usize {
+        if header.wrapping_add(1) < self.count {
+            self.offset(header.wrapping_add(1))
         } else {
-            tokens::at(tokens, 5)
-        };
-        if !is_header(list, at, next) {
-            return false;
+            self.last
         }
-        if putting {
-            put_header(store, list, at, next);
+    }
+
+    // Whether a header lies in its space, and can hold its pointer.
+    fn fits(self, header: usize) -> bool {
+        if self.is_short {
+            self.offset(header) <= 0xfe && self.next(header) <= 0xff
+        } else {
+            self.offset(header) <= 0xffc && self.next(header) <= 0xfff
         }
-        at = following;
     }
-    0 < headers
-}
 
-// A header that lies in its space, and a pointer that it can hold.
-fn is_header(list: usize, at: usize, next: usize) -> bool {
-    if list == vocabulary::COMPATIBLE {
-        return if 0xfe < at { false } else { next <= 0xff };
+    fn all_fit(self) -> bool {
+        (0..self.count).all(|header| self.fits(header))
     }
-    if 0xffc < at { false } else { next <= 0xfff }
-}
 
-fn put_header(store: &mut Store, list: usize, at: usize, next: usize) {
-    match list {
-        vocabulary::COMPATIBLE => put_short(store, at, next),
-        vocabulary::EXTENDED => put_long(store, at, ID, VERSION, next),
-        _ => put_long(
-            store,
-            std::num::wrapping_add_usize(spaces::TRUSTED, at),
-            ID,
-            VERSION,
-            next,
-        ),
+    fn put(self, space: &mut Buffer) {
+        for header in 0..self.count {
+            let offset = self.offset(header);
+            let next = self.next(header);
+            if self.is_short {
+                space.put_at(offset, &[0x05, low(next)]);
+            } else {
+                put_long(space, offset, ID, VERSION, next);
+            }
+        }
     }
 }
 
-// ID byte, next byte.
-fn put_short(store: &mut Store, place: usize, next: usize) {
-    words::put(store, place, &[0x05, low(next)]);
+// Puts a chain. Where it does not fit, or has no header, nothing is put.
+pub fn put_chain(function: &mut Function, tokens: Tokens) -> Result<(), Wrong> {
+    let chain = Chain {
+        is_short: tokens.is(1, Word::Compatible),
+        count: tokens.number(2),
+        first: tokens.number(3),
+        step: tokens.number(4),
+        last: tokens.number(5),
+    };
+    if chain.count == 0 || !chain.all_fit() {
+        return Err(Wrong::NoChain);
+    }
+    if tokens.is(1, Word::Trusted) {
+        chain.put(&mut function.trusted.bytes);
+    } else {
+        chain.put(&mut function.ordinary.bytes);
+    }
+    Ok(())
 }
 
 // ID 15:0, version 19:16, next 31:20.
-pub fn put_long(store: &mut Store, place: usize, id: usize, version: usize, next: usize) {
-    words::put(
-        store,
-        place,
+pub fn put_long(space: &mut Buffer, offset: usize, id: usize, version: usize, next: usize) {
+    space.put_at(
+        offset,
         &[
             low(id),
             low(id >> 8),

@@ -1,215 +1,138 @@
 // A completion is read back, as a test host does it. The number, its fields and what it says of the access are told, or held against what is
 // expected.
-use crate::saying::put_bytes;
-use crate::slots::Desk;
-use crate::spaces::Store;
+use crate::bench::Bench;
+use crate::desks::Desk;
+use crate::saying::Bytes;
 use crate::tokens::Tokens;
-use crate::wording::say;
-use crate::{explaining, judging, packets, pieces, spaces, texts, tokens, vocabulary, wording};
-use asking::{Completion, Heard, Said};
-
-// What a completion says of the access; a refusal has nothing that it says.
-const NOTHING: usize = 0;
-
-const SHOWN: usize = 1;
-
-const DONE: usize = 2;
-
-const UNSUPPORTED: usize = 3;
-
-// Where a field begins among the fields: completer, requester, tag, and the data of a completion that has some.
-const COMPLETER: usize = 0;
-
-const REQUESTER: usize = 2;
-
-const TAG: usize = 4;
-
-const DATA: usize = 5;
-
-const FIELDS: usize = 9;
-
-type Fields = [u8; FIELDS];
+use crate::vocabulary::Word;
+use crate::{explaining, judging, packets, say};
+use answers::Refusal;
+use asking::{Completion, Said};
+use std::fmt;
+use std::fmt::{Display, Formatter};
 
 // Says whether this is a check that was right.
-pub fn ask(desk: &mut Desk, tokens: &Tokens, store: &mut Store) -> bool {
-    packets::take_bytes(desk, tokens, store);
-    match asking::read_completion(packets::sent(desk, store)) {
-        Heard::Refused(refusal) => answer(desk, tokens, refusal.number(), NOTHING, &[]),
-        Heard::Says(completion) => read(desk, tokens, completion),
+pub fn ask(bench: &mut Bench, tokens: Tokens) -> bool {
+    packets::take_bytes(bench, tokens);
+    let heard = asking::read_completion(bench.sent());
+    if tokens.is_check() && judge(&bench.desk, tokens, heard) {
+        return true;
     }
-}
-
-fn read(desk: &Desk, tokens: &Tokens, completion: Completion) -> bool {
-    let said = said_of(completion);
-    let fields = fields_of(completion);
-    answer(
-        desk,
-        tokens,
-        0,
-        said,
-        pieces::part(&fields, 0, length_of(said)),
-    )
-}
-
-fn said_of(completion: Completion) -> usize {
-    let said = completion.said;
-    match said {
-        Said::Shown(_, _, _, _) => SHOWN,
-        Said::Done => DONE,
-        Said::Unsupported => UNSUPPORTED,
-    }
-}
-
-fn length_of(said: usize) -> usize {
-    if said == SHOWN { FIELDS } else { DATA }
-}
-
-fn fields_of(completion: Completion) -> Fields {
-    let completer = completion.completer;
-    let requester = completion.requester;
-    let said = completion.said;
-    let shown = shown_by(said);
-    [
-        completer.high,
-        completer.low,
-        requester.high,
-        requester.low,
-        completion.tag,
-        shown[0],
-        shown[1],
-        shown[2],
-        shown[3],
-    ]
-}
-
-fn shown_by(said: Said) -> [u8; 4] {
-    match said {
-        Said::Shown(first, second, third, fourth) => [first, second, third, fourth],
-        Said::Done | Said::Unsupported => [0; 4],
-    }
-}
-
-// A completion as it was read, or a refusal, which has no fields.
-fn answer(desk: &Desk, tokens: &Tokens, number: u8, said: usize, fields: &[u8]) -> bool {
-    if tokens::is_check(tokens) {
-        if judge(desk, tokens, number, said, fields) {
-            return true;
+    match heard {
+        Ok(completion) => {
+            explaining::put_number(0, "read");
+            tell(completion);
         }
+        Err(refusal) => explaining::put_asking_refusal(refusal),
     }
-    explaining::put_asking_number(number);
-    tell(said, fields);
     false
 }
 
 // What is read back in the reply of a board; nothing where there is no reply.
 pub fn tell_reply(reply: &[u8]) {
-    match asking::read_completion(reply) {
-        Heard::Refused(_) => {}
-        Heard::Says(completion) => {
-            let fields = fields_of(completion);
-            tell(said_of(completion), &fields);
+    if let Ok(completion) = asking::read_completion(reply) {
+        tell(completion);
+    }
+}
+
+fn tell(completion: Completion) {
+    say!("  reads: ");
+    match completion.said {
+        Said::Shown(shown) => {
+            let data = Bytes(&shown);
+            say!("success with data{data}");
+        }
+        Said::Done => say!("success without data"),
+        Said::Unsupported => say!("UR"),
+    }
+    let completer = [completion.completer.high, completion.completer.low];
+    let requester = [completion.requester.high, completion.requester.low];
+    let completer = Bytes(&completer);
+    let requester = Bytes(&requester);
+    let tag = completion.tag;
+    say!("; completer{completer}, requester{requester} tag {tag:02X}\n");
+}
+
+// The number, what is said, and each field: all are expected. A refusal says nothing and has no fields.
+fn judge(desk: &Desk, tokens: Tokens, heard: Result<Completion, Refusal>) -> bool {
+    let wanted = judging::first_of(&[Word::Shown, Word::Done, Word::Unsupported], tokens);
+    let answered = judging::number(desk, tokens, answers::number(&heard));
+    match heard {
+        Ok(completion) => {
+            let said = judging::said(desk, Some(word_of(completion.said)), wanted);
+            answered & said & judge_completion(desk, tokens, completion)
+        }
+        Err(_) => {
+            let said = judging::said(desk, None, wanted);
+            answered & said & judge_fields(desk, tokens, &[], &[], &[], &[])
         }
     }
 }
 
-fn tell(said: usize, fields: &[u8]) {
-    if said == NOTHING {
-        return;
-    }
-    say(wording::READS);
-    tell_said(said, fields);
-    spaces::tell_part(wording::COMPLETER, fields, COMPLETER, 2);
-    spaces::tell_part(wording::REQUESTER, fields, REQUESTER, 2);
-    spaces::tell_part(wording::TAG, fields, TAG, 1);
-    say(wording::END);
-}
-
-fn tell_said(said: usize, fields: &[u8]) {
+fn word_of(said: Said) -> Word {
     match said {
-        SHOWN => spaces::tell_part(wording::READS_DATA, fields, DATA, 4),
-        DONE => say(wording::READS_DONE),
-        _ => say(wording::READS_UR),
+        Said::Shown(_) => Word::Shown,
+        Said::Done => Word::Done,
+        Said::Unsupported => Word::Unsupported,
     }
 }
 
-// The number, what is said, and each field: all are expected.
-fn judge(desk: &Desk, tokens: &Tokens, number: u8, said: usize, fields: &[u8]) -> bool {
-    let answered = judging::number(desk, tokens, number);
-    let told = judging::value(desk, wording::WRONG_SAID, said, wanted_said(tokens));
-    answered & told & judge_fields(desk, tokens, fields)
+fn judge_completion(desk: &Desk, tokens: Tokens, completion: Completion) -> bool {
+    let completer = [completion.completer.high, completion.completer.low];
+    let requester = [completion.requester.high, completion.requester.low];
+    let tag = [completion.tag];
+    match completion.said {
+        Said::Shown(shown) => { judge_fields(desk, tokens, &completer, &requester, &tag, &shown) }
+        Said::Done | Said::Unsupported => judge_fields(
+            desk,
+            tokens,
+            &completer,
+            &requester,
+            &tag,
+            &[],
+        ),
+    }
 }
 
-fn wanted_said(tokens: &Tokens) -> usize {
-    if is_wanted(tokens, vocabulary::SHOWN) {
-        return SHOWN;
-    }
-    if is_wanted(tokens, vocabulary::DONE) {
-        return DONE;
-    }
-    if is_wanted(tokens, vocabulary::UNSUPPORTED) {
-        return UNSUPPORTED;
-    }
-    NOTHING
-}
-
-// Whether a word is part of the expectation.
-pub fn is_wanted(tokens: &Tokens, word: usize) -> bool {
-    tokens::is_said(tokens, tokens::behind(tokens, word))
-}
-
-fn judge_fields(desk: &Desk, tokens: &Tokens, fields: &[u8]) -> bool {
-    let completer = judge_field(
-        desk,
-        tokens,
-        vocabulary::COMPLETER,
-        wording::WRONG_COMPLETER,
-        pieces::part(fields, COMPLETER, 2),
-    );
-    let requester = judge_field(
-        desk,
-        tokens,
-        vocabulary::REQUESTER,
-        wording::WRONG_REQUESTER,
-        pieces::part(fields, REQUESTER, 2),
-    );
-    let tag = judge_field(
-        desk,
-        tokens,
-        vocabulary::TAG,
-        wording::WRONG_TAG,
-        pieces::part(fields, TAG, 1),
-    );
-    let shown = judge_field(
-        desk,
-        tokens,
-        vocabulary::SHOWN,
-        wording::WRONG_SHOWN,
-        pieces::part(fields, DATA, 4),
-    );
-    completer & requester & tag & shown
+fn judge_fields(
+    desk: &Desk,
+    tokens: Tokens,
+    completer: &[u8],
+    requester: &[u8],
+    tag: &[u8],
+    shown: &[u8],
+) -> bool {
+    let completer = judge_field(desk, tokens, Word::Completer, completer);
+    let requester = judge_field(desk, tokens, Word::Requester, requester);
+    let tag = judge_field(desk, tokens, Word::Tag, tag);
+    completer & requester & tag & judge_field(desk, tokens, Word::Shown, shown)
 }
 
 // A field as it was read, and the bytes behind its word: four at most.
-fn judge_field(desk: &Desk, tokens: &Tokens, word: usize, text: usize, found: &[u8]) -> bool {
-    let place = tokens::behind(tokens, word);
-    let four = packets::four_at(tokens, place);
-    let wanted = pieces::part(&four, 0, tokens::numbers_from(tokens, place));
-    if texts::is(found, wanted) {
+fn judge_field(desk: &Desk, tokens: Tokens, word: Word, found: &[u8]) -> bool {
+    let numbers = tokens.expected(word);
+    let four = numbers.four(0);
+    let wanted = four.get(..numbers.count()).unwrap_or(&[]);
+    if found == wanted {
         return true;
     }
-    judging::begin_difference(desk);
-    say(text);
-    put_field(found);
-    say(wording::EXPECTED);
-    put_field(wanted);
-    say(wording::END);
+    let found = Field(found);
+    let wanted = Field(wanted);
+    desk.begin_difference();
+    say!("{word}{found}, expected{wanted}\n");
     false
 }
 
-fn put_field(field: &[u8]) {
-    if field.len() == 0 {
-        say(wording::NONE);
-    } else {
-        put_bytes(field);
+#[derive(Clone, Copy)]
+struct Field<'a>(&'a [u8]);
+
+impl Display for Field<'_> {
+    fn fmt<W: fmt::Write>(&self, f: &mut Formatter<W>) -> fmt::Result {
+        let bytes = Bytes(self.0);
+        if self.0.is_empty() {
+            write!(f, " none")
+        } else {
+            write!(f, "{bytes}")
+        }
     }
 }

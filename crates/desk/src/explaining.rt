@@ -1,360 +1,269 @@
 // What an answer means, in words: the number, what was asked, what the completion says, what is captured.
-use crate::packets::Outcome;
-use crate::saying::put;
-use crate::slots::Desk;
-use crate::spaces::{REPLY, Store};
-use crate::wording::{say, say_all, say_one, say_three, say_two};
-use crate::{marking, packets, pieces, slots, spaces, texts, wording};
+use crate::bench::{Bench, REPLY};
+use crate::boards::{Address, Board, Kept};
+use crate::packets::{self, Outcome};
+use crate::say;
+use crate::saying::Bytes;
+use crate::spaces::{self, Part};
 use answers::Refusal;
-use packet::{Decoded, Request, Target};
+use packet::{Request, Target};
 use reasons::Cause;
+use std::fmt;
+use std::fmt::{Display, Formatter};
 
-// What numbers mean at the switch, and then on the asking side, stands in the table below before what they mean at the board.
-pub const ROUTED: usize = 0;
+pub const ANSWERED: &str = "answered";
 
-pub const UNROUTED: usize = 1;
+const BAD_BOARD: &str =
+    "badly described: a buffer of another size than 1000, a number or an offset out of range, an edition other than 1 and 2, or a bit that is writable and marked";
 
-pub const BAD_PORTS: usize = 2;
+const BAD_PAIR: &str =
+    "badly described: functions with the same number, a buffer of another size than 1000, a number or an offset out of range, an edition other than 1 and 2, or a bit that is writable and marked";
 
-pub const SHORT_BUFFER: usize = 3;
-
-pub const TYPE_0: usize = 4;
-
-pub const NO_TCS: usize = 5;
-
-const ASKING: usize = 6;
-
-// And 1 where a packet is served: a list or a record has not all of its causes.
-const BAD_BOARD: usize = 13;
-
-// The same of a board of two functions.
-const BAD_PAIR: usize = 14;
-
-// And a 4 of a board for bit 7 alone.
-const BIT_7: usize = 15;
-
-// And 1 where an address is judged.
-pub const BAD_RECORDS: usize = 16;
-
-// And 0 of each question about a new board, in their order, and then 1 and 2.
-pub const PROPOSED: usize = 17;
-
-pub const BAD_STRUCTURES: usize = 20;
-
-pub const FEW_ENTRIES: usize = 21;
-
-const BOARD: usize = 22;
-
-// Of the reasons for UR, those of two functions.
-const FOR_TYPE_1: usize = 2;
-
-const FOR_NEITHER: usize = 7;
+const BIT_7: &str =
+    "bit 7 of byte 0 is set: under edition 2 it belongs to the format field, and none of the six has it";
 
 // An answer number and what it means.
-pub fn put_number(number: u8) {
-    put_number_as(number, meaning_of(number));
+pub fn put_number(number: u8, meaning: &str) {
+    say!("number {number}: {meaning}\n");
+}
+
+pub fn put_refusal(refusal: Refusal) {
+    put_number(refusal.number(), meaning_of(refusal));
+}
+
+// What a refusal means at the board.
+pub fn meaning_of(refusal: Refusal) -> &'static str {
+    match refusal {
+        Refusal::BadDescription =>
+            "badly described: a space of another size than 1000, or a number or an offset out of range",
+        Refusal::NoRoom => "no room: the reply's buffer or the list room is too small",
+        Refusal::ShortPacket => "the packet has fewer than 12 bytes",
+        Refusal::UnknownType => "byte 0 without bit 7 is none of the six type codes",
+        Refusal::WrongLength => "the packet's length does not fit its type and digest bit",
+        Refusal::WrongField => "TC, Attr or the last enables are not 0, or Length is not 1",
+        Refusal::OtherStructure => "another structure stands there",
+        Refusal::WrongExtent => "the structure's length is wrong, or it does not fit",
+        Refusal::NotOneFunction => "its function vector has not exactly one bit",
+        Refusal::BelowFloor => "a pointer below the floor",
+        Refusal::ComesBack => "a pointer to an offset that is in the chain already",
+        Refusal::WrongGroups =>
+            "Num Group is over Max Group, or the index is under C while enabled",
+        Refusal::NoLayout => "no layout: no proposal for these structures is accepted",
+        Refusal::NotAccepted => "the proposal is not accepted",
+    }
 }
 
 // The same on the asking side: 1 and 2 of a request that is written, the others of a completion that is read.
-pub fn put_asking_number(number: u8) {
-    put_number_as(number, ASKING + number as usize);
-}
-
-// The place in the table of what a number means at the board.
-pub fn meaning_of(number: u8) -> usize {
-    BOARD + number as usize
-}
-
-// The same, where the number means something else: the meaning's place in the table.
-pub fn put_number_as(number: u8, meaning: usize) {
-    say_one(wording::NUMBER, number as usize);
-    put_meaning(meaning);
-    say(wording::END);
-}
-
-// The board gives no 7: 11 and 12 stand in its place. Nothing gives 15 to 17 yet.
-fn put_meaning(number: usize) {
-    put(texts::entry(
-        b"routed
-unsupported request (UR): no port has this bus
-badly described: more than 32 ports, a secondary over its subordinate, or two ranges that meet
-no room: the buffer for what leaves has fewer than 20 bytes
-a Type 0 request, which no switch passes on
-a trusted request, and its port does not support TCS routing
-read
-no such request: a kind outside the six, a device over 1F, a function over 7, an offset over FFC or not a multiple of 4, or enables over F
-no room: the buffer is shorter than the request, which has 12 bytes, or 16 where it writes
-the completion has fewer than 12 bytes
-the first byte is neither 4A nor 0A
-the completion's length does not fit its first byte: 16 bytes after 4A, 12 after 0A
-a byte that no reply with this first byte has at its place
-badly described: a buffer of another size than 1000, a number or an offset out of range, an edition other than 1 and 2, or a bit that is writable and marked
-badly described: functions with the same number, a buffer of another size than 1000, a number or an offset out of range, an edition other than 1 and 2, or a bit that is writable and marked
-bit 7 of byte 0 is set: under edition 2 it belongs to the format field, and none of the six has it
-badly described: too many records, no such port, or a record that no capability gives
-a proposal, which is kept
-accepted
-written
-badly described: no structure or more than 3C0; one with ID 0, a version over F, or a length under 4 or over F00; or a space of another size than 1000
-no room: the list room has fewer entries than there are structures
-answered
-badly described: a space of another size than 1000, or a number or an offset out of range
-no room: the reply's buffer or the list room is too small
-the packet has fewer than 12 bytes
-byte 0 without bit 7 is none of the six type codes
-the packet's length does not fit its type and digest bit
-TC, Attr or the last enables are not 0, or Length is not 1
-
-another structure stands there
-the structure's length is wrong, or it does not fit
-its function vector has not exactly one bit
-a pointer below the floor
-a pointer to an offset that is in the chain already
-Num Group is over Max Group, or the index is under C while enabled
-no layout: no proposal for these structures is accepted
-
-
-
-the proposal is not accepted
-",
-        number,
-    ));
+pub fn put_asking_refusal(refusal: Refusal) {
+    let meaning = match refusal {
+        Refusal::BadDescription =>
+            "no such request: a kind outside the six, a device over 1F, a function over 7, an offset over FFC or not a multiple of 4, or enables over F",
+        Refusal::NoRoom =>
+            "no room: the buffer is shorter than the request, which has 12 bytes, or 16 where it writes",
+        Refusal::ShortPacket => "the completion has fewer than 12 bytes",
+        Refusal::UnknownType => "the first byte is neither 4A nor 0A",
+        Refusal::WrongLength =>
+            "the completion's length does not fit its first byte: 16 bytes after 4A, 12 after 0A",
+        Refusal::WrongField => "a byte that no reply with this first byte has at its place",
+        _ => meaning_of(refusal),
+    };
+    put_number(refusal.number(), meaning);
 }
 
 // A packet that was served: the number, what it asked for as the board read it, what the completion says of it, what is captured.
-pub fn packet(desk: &Desk, outcome: Outcome, store: &Store) {
-    put_answer(desk, outcome.number, store);
-    request(desk, packets::sent(desk, store), outcome.length, store);
-    captured(desk, outcome);
+pub fn packet(bench: &Bench, outcome: Outcome) {
+    let packet = bench.sent();
+    put_answer(&bench.board, outcome.answer, packet);
+    if let Ok(asked) = packet::decode_under(bench.board.edition(), packet) {
+        put_request(asked, packet);
+        put_reply(&bench.board, asked, bench.reply, outcome.length());
+    }
+    tell_captured(&bench.board, outcome.kept);
 }
 
-// The number; of a badly described board equal numbers, an edition that is none, and the bits that are marked twice.
-fn put_answer(desk: &Desk, number: u8, store: &Store) {
-    match number {
-        1 => {
-            put_bad(desk, number);
-            tell_edition(desk);
-            marking::tell(desk, store);
-        }
-        4 => put_number_as(number, unknown_type(packets::sent(desk, store))),
-        _ => put_number(number),
+fn put_answer(board: &Board, answer: Result<usize, Refusal>, packet: &[u8]) {
+    match answer {
+        Err(Refusal::BadDescription) => tell_bad(board),
+        Err(Refusal::UnknownType) => put_number(4, unknown_type(packet)),
+        Err(refusal) => put_refusal(refusal),
+        Ok(_) => put_number(0, ANSWERED),
     }
 }
 
-fn put_bad(desk: &Desk, number: u8) {
-    if slots::at(desk, slots::ROLE) == slots::ALONE {
-        put_number_as(number, BAD_BOARD);
-        return;
+// Of a badly described board equal numbers, an edition that is none, and the bits that are marked twice are told.
+fn tell_bad(board: &Board) {
+    put_number(1, if board.is_pair { BAD_PAIR } else { BAD_BOARD });
+    if board.is_pair && board.primary.number == board.alternate.number {
+        let number = board.primary.number;
+        say!("  both functions have the number {number:X}\n");
     }
-    put_number_as(number, BAD_PAIR);
-    if slots::at(desk, slots::FUNCTION) == slots::at(desk, slots::BESIDE_FUNCTION) {
-        say_one(wording::SAME_NUMBER, slots::at(desk, slots::FUNCTION));
-    }
-}
-
-fn tell_edition(desk: &Desk) {
-    match packets::edition_of(desk) {
+    let edition = board.edition;
+    match board.edition() {
         packet::EDITION_1 | packet::EDITION_2 => {}
-        _ => say_one(wording::OTHER_EDITION, slots::at(desk, slots::EDITION)),
+        _ => say!("  edition {edition:X} is neither 1 nor 2\n"),
+    }
+    for role in board.in_order() {
+        tell_twice(board, role, Part::Ordinary);
+        tell_twice(board, role, Part::Trusted);
+    }
+}
+
+// A bit that is both writable and cleared by writing 1 is hard to find by hand: so the first byte of each space that has such a bit is told.
+fn tell_twice(board: &Board, role: crate::boards::Role, part: Part) {
+    let function = board.function(role);
+    let space = match part {
+        Part::Ordinary => &function.ordinary,
+        _ => &function.trusted,
+    };
+    let Some(at) = space.first_twice() else {
+        return;
+    };
+    if let (Some(rule), Some(mark)) = (space.rules.lent().get(at), space.marks.lent().get(at)) {
+        say!("  ");
+        spaces::put_name(board, role, part);
+        say!(" {at:03X}: rule {rule:02X} and mark {mark:02X} have a bit in common\n");
     }
 }
 
 // Why a board gives 4: for bit 7, unless the type is unknown without it too.
-fn unknown_type(packet: &[u8]) -> usize {
+fn unknown_type(packet: &[u8]) -> &'static str {
     match packet::decode(packet) {
-        Decoded::Refused(refusal) => unknown_without(refusal),
-        Decoded::Asks(_) => BIT_7,
-    }
-}
-
-fn unknown_without(refusal: Refusal) -> usize {
-    match refusal {
-        Refusal::UnknownType => meaning_of(refusal.number()),
+        Err(Refusal::UnknownType) => meaning_of(Refusal::UnknownType),
         _ => BIT_7,
     }
 }
 
-// What the packet asks of a board of this edition, and what the board replied.
-fn request(desk: &Desk, packet: &[u8], replied: usize, store: &Store) {
-    match packet::decode_under(packets::edition_of(desk), packet) {
-        Decoded::Refused(_) => {}
-        Decoded::Asks(asked) => {
-            put_request(asked, packet);
-            if replied != 0 {
-                put_reply(reason_of(desk, asked), replied, store);
-            }
+// What a packet asks for, on a line of its own.
+pub fn put_request(asked: Request, packet: &[u8]) {
+    let bus = asked.bus;
+    let device = asked.device;
+    let function = asked.function;
+    let offset = asked.offset;
+    let enables = asked.enables;
+    put_kind(asked);
+    say!(
+        ", bus {bus:02X} device {device:02X} function {function:X}, offset {offset:03X}, enables {enables:04b}"
+    );
+    put_sender(asked, packet);
+}
+
+fn put_kind(asked: Request) {
+    let target = match asked.target {
+        Target::Type0 => "Type 0",
+        Target::Type1 => "Type 1",
+        Target::Trusted => "trusted",
+    };
+    let kind = match (asked.writes, asked.poisoned) {
+        (false, false) => "read",
+        (false, true) => "poisoned read",
+        (true, false) => "write",
+        (true, true) => "poisoned write",
+    };
+    say!("  asks: {target} {kind}");
+}
+
+fn put_sender(asked: Request, packet: &[u8]) {
+    let requester = asked.requester;
+    let high = requester.high;
+    let low = requester.low;
+    let tag = asked.tag;
+    if asked.writes {
+        let data = Bytes(packet.get(12..16).unwrap_or(&[]));
+        say!(", data{data}");
+    }
+    say!(", requester {high:02X} {low:02X} tag {tag:02X}\n");
+}
+
+// The completion as it is and taken apart from its bytes, where there is one; why it is unsupported, from the request.
+fn put_reply(board: &Board, asked: Request, reply: [u8; REPLY], length: usize) {
+    if length == 0 {
+        return;
+    }
+    let all = Bytes(reply.get(..length).unwrap_or(&[]));
+    let status = if reply[6] == 0 {
+        "successful"
+    } else {
+        reason_of(board, asked)
+    };
+    let completer = Bytes(&reply[4..6]);
+    let requester = Bytes(&reply[8..10]);
+    let tag = Bytes(&reply[10..11]);
+    say!("  reply:{all}\n  says: {status}; completer{completer}, requester{requester} tag{tag}");
+    if reply[0] == 0x4a {
+        let data = Bytes(&reply[12..16]);
+        say!(", data{data}");
+    }
+    say!("\n");
+}
+
+// Why a request is unsupported. Of two functions the primary answers what is for neither, whatever else it has to say of it.
+fn reason_of(board: &Board, asked: Request) -> &'static str {
+    let function = board.at_hand();
+    match reasons::why(
+        packets::describe(function, board.edition()),
+        function.capture(),
+        asked,
+    ) {
+        Some(Cause::Type1) => "unsupported request (UR): a Type 1 request",
+        _ if is_for_neither(board, asked.function) =>
+            "unsupported request (UR): a request for neither function, which the primary answers",
+        None => "unsupported request (UR): none",
+        Some(Cause::OtherFunction) =>
+            "unsupported request (UR): a Type 0 request for another function",
+        Some(Cause::NothingCaptured) =>
+            "unsupported request (UR): a trusted request while nothing is captured",
+        Some(Cause::OtherAddress) =>
+            "unsupported request (UR): a trusted request that does not name the captured bus and device and the board's function",
+        Some(Cause::PoisonedWrite) => "unsupported request (UR): a poisoned write",
+    }
+}
+
+fn is_for_neither(board: &Board, function: u8) -> bool {
+    board.is_pair && function != board.primary.number && function != board.alternate.number
+}
+
+// What is captured now.
+pub fn tell_captured(board: &Board, kept: Kept) {
+    let captured = Captured::of(board, kept);
+    say!("  captured: {captured}\n");
+}
+
+// What a board's function has captured; where there are two, what each of them has, the primary first.
+#[derive(Clone, Copy)]
+pub struct Captured {
+    kept: Kept,
+    is_pair: bool,
+}
+
+impl Captured {
+    pub fn of(board: &Board, kept: Kept) -> Captured {
+        Captured {
+            kept,
+            is_pair: board.is_pair,
         }
     }
 }
 
-// The place in the table of why it is unsupported. Of two functions the primary answers what is for neither, whatever else it has to say of it.
-fn reason_of(desk: &Desk, asked: Request) -> usize {
-    let reason = reason_number(cause_of(desk, asked));
-    if reason != FOR_TYPE_1 && is_for_neither(desk, asked.function as usize) {
-        return FOR_NEITHER;
-    }
-    reason
-}
-
-fn is_for_neither(desk: &Desk, function: usize) -> bool {
-    if slots::at(desk, slots::ROLE) == slots::ALONE {
-        return false;
-    }
-    function != slots::at(desk, slots::FUNCTION)
-        && function != slots::at(desk, slots::BESIDE_FUNCTION)
-}
-
-fn cause_of(desk: &Desk, asked: Request) -> Cause {
-    reasons::why(
-        packets::description_of(desk),
-        packets::capture_of(desk, slots::CAPTURED),
-        asked,
-    )
-}
-
-// What a packet asks for, on a line of its own.
-pub fn put_request(asked: Request, packet: &[u8]) {
-    let requester = asked.requester;
-    say(wording::ASKS);
-    put_kind(asked);
-    put_place(asked);
-    put_data(asked, packet);
-    say_three(
-        wording::SENDER,
-        requester.high as usize,
-        requester.low as usize,
-        asked.tag as usize,
-    );
-}
-
-fn put_kind(asked: Request) {
-    put(texts::entry(
-        b"Type 0 read
-Type 0 poisoned read
-Type 0 write
-Type 0 poisoned write
-Type 1 read
-Type 1 poisoned read
-Type 1 write
-Type 1 poisoned write
-trusted read
-trusted poisoned read
-trusted write
-trusted poisoned write
-",
-        std::num::wrapping_add_usize(target_number(asked), kind_number(asked)),
-    ));
-}
-
-fn target_number(asked: Request) -> usize {
-    let target = asked.target;
-    match target {
-        Target::Type0 => 0,
-        Target::Type1 => 4,
-        Target::Trusted => 8,
+impl Display for Captured {
+    fn fmt<W: fmt::Write>(&self, f: &mut Formatter<W>) -> fmt::Result {
+        let primary = Capture(self.kept.primary);
+        let alternate = Capture(self.kept.alternate);
+        if self.is_pair {
+            write!(f, "primary {primary}, alternate {alternate}")
+        } else {
+            write!(f, "{primary}")
+        }
     }
 }
 
-fn kind_number(asked: Request) -> usize {
-    let writes = asked.writes;
-    let poisoned = asked.poisoned;
-    if writes {
-        return if poisoned { 3 } else { 2 };
-    }
-    if poisoned { 1 } else { 0 }
-}
+#[derive(Clone, Copy)]
+struct Capture(Option<Address>);
 
-fn put_place(asked: Request) {
-    say_all(
-        wording::PLACE,
-        asked.bus as usize,
-        asked.device as usize,
-        asked.function as usize,
-        asked.offset,
-        asked.enables as usize,
-    );
-}
-
-fn put_data(asked: Request, packet: &[u8]) {
-    let writes = asked.writes;
-    if writes {
-        spaces::tell_part(wording::DATA, packet, 12, 4);
-    }
-}
-
-// The completion as it is and taken apart from its bytes; why it is unsupported, from the request.
-fn put_reply(reason: usize, length: usize, store: &[u8]) {
-    spaces::tell_part(wording::REPLY, store, REPLY, length);
-    say(wording::SAYS);
-    put_status(pieces::byte_of(store, REPLY + 6), reason);
-    spaces::tell_part(wording::COMPLETER, store, REPLY + 4, 2);
-    spaces::tell_part(wording::REQUESTER, store, REPLY + 8, 2);
-    spaces::tell_part(wording::TAG, store, REPLY + 10, 1);
-    put_read(store);
-    say(wording::END);
-}
-
-// The data of a completion that has some.
-fn put_read(store: &[u8]) {
-    if pieces::byte_of(store, REPLY) == 0x4a {
-        spaces::tell_part(wording::DATA, store, REPLY + 12, 4);
-    }
-}
-
-fn put_status(status: u8, reason: usize) {
-    put(texts::entry(
-        b"successful
-unsupported request (UR): none
-unsupported request (UR): a Type 1 request
-unsupported request (UR): a Type 0 request for another function
-unsupported request (UR): a trusted request while nothing is captured
-unsupported request (UR): a trusted request that does not name the captured bus and device and the board's function
-unsupported request (UR): a poisoned write
-unsupported request (UR): a request for neither function, which the primary answers
-",
-        if status == 0 { 0 } else { reason },
-    ));
-}
-
-fn reason_number(cause: Cause) -> usize {
-    match cause {
-        Cause::Supported => 1,
-        Cause::Type1 => FOR_TYPE_1,
-        Cause::OtherFunction => 3,
-        Cause::NothingCaptured => 4,
-        Cause::OtherAddress => 5,
-        Cause::PoisonedWrite => 6,
-    }
-}
-
-// What is captured now.
-pub fn captured(desk: &Desk, outcome: Outcome) {
-    put_captures(desk, wording::CAPTURED, outcome.captured, outcome.beside);
-    say(wording::END);
-}
-
-// A text, and behind it what the function at hand has captured; where there is one beside it, what each of the two has, the primary first.
-pub fn put_captures(desk: &Desk, text: usize, captured: usize, beside: usize) {
-    say(text);
-    match slots::at(desk, slots::ROLE) {
-        slots::ALONE => put_capture(captured),
-        slots::PRIMARY => put_both(captured, beside),
-        _ => put_both(beside, captured),
-    }
-}
-
-fn put_both(primary: usize, alternate: usize) {
-    say(wording::PRIMARY);
-    put_capture(primary);
-    say(wording::AND);
-    say(wording::ALTERNATE);
-    put_capture(alternate);
-}
-
-fn put_capture(number: usize) {
-    if number == slots::NOTHING {
-        say(wording::NOTHING);
-    } else {
-        say_two(wording::ADDRESS, number >> 8, number);
+impl Display for Capture {
+    fn fmt<W: fmt::Write>(&self, f: &mut Formatter<W>) -> fmt::Result {
+        match self.0 {
+            None => write!(f, "nothing"),
+            Some(Address { bus, device }) => write!(f, "bus {bus:02X} device {device:02X}"),
+        }
     }
 }

@@ -3,7 +3,7 @@ use crate::saying::put;
 
 pub fn help() {
     put(
-        b"A line is a statement. Numbers are hexadecimal; what follows a # is a comment. The end of the input (Ctrl-D) ends.
+        "A line is a statement. Numbers are hexadecimal; what follows a # is a comment. The end of the input (Ctrl-D) ends.
 The board:
   fresh              bytes 51 in the ordinary space, 72 in the trusted one, every rule 00
   open               the same with every rule FF

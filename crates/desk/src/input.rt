@@ -1,59 +1,70 @@
 // The piece of the input that is in memory: read after what is left of the piece before.
 ghost use Rattle.std.specs.Prelude.{◌≤◌, length};
 
-use crate::slots::Desk;
-use crate::{pieces, slots};
 use std::io::{IsTerminal, Read, Stdin};
 
-// Reads more, after the `rest` bytes that the piece begins with, and answers where it ends now: not past `rest` where nothing came. Notes
+// What is read at once; a line is shorter.
+pub const PIECE: usize = 4000;
+
+// How far the input is read.
+#[derive(Clone, Copy)]
+pub struct Reading {
+    // How many bytes of a line that is not whole yet the piece begins with.
+    pub rest: usize,
+    // The rest of a line that is too long is being read past.
+    pub skipping: bool,
+    // The input could not be read to its end.
+    pub unread: bool,
+    // Somebody types, and is asked for each line.
+    pub typed: bool,
+}
+
+impl Reading {
+    pub fn of(stdin: &Stdin) -> Reading {
+        Reading {
+            rest: 0,
+            skipping: false,
+            unread: false,
+            typed: stdin.is_terminal(),
+        }
+    }
+
+    // What is left of a line, `rest` bytes of it: given up where it fills the piece.
+    pub fn give_up(&mut self, rest: usize) {
+        if rest < PIECE {
+            self.rest = rest;
+        } else {
+            self.rest = 0;
+            self.skipping = true;
+        }
+    }
+
+    // Whether the last line that was read is whole.
+    pub fn is_between(self) -> bool {
+        !self.skipping && self.rest == 0
+    }
+}
+
+// Reads more, after the bytes that the piece begins with, and answers where it ends now: not past those where nothing came. Notes
 // where that is because the input could not be read.
-pub fn read_more(desk: &mut Desk, piece: &mut [u8], rest: usize, stdin: &mut Stdin) -> usize
+pub fn read_more(reading: &mut Reading, piece: &mut [u8], stdin: &mut Stdin) -> usize
     ensures { result ≤ length piece.new }
 {
+    let rest = reading.rest;
     if piece.len() <= rest {
         return 0;
     }
     match stdin.read(&mut piece[rest..]) {
         Ok(got) => rest + got,
         Err(_) => {
-            slots::set(desk, slots::UNREAD, 1);
+            reading.unread = true;
             rest
         }
     }
 }
 
-// 1 where somebody types the input.
-pub fn is_typed(stdin: &Stdin) -> usize {
-    if stdin.is_terminal() { 1 } else { 0 }
-}
-
-// Moves what stands from `from` to `end` to the front, and answers how many bytes these are.
-pub fn keep_rest(piece: &mut [u8], from: usize, end: usize) -> usize {
-    if end < from {
-        return 0;
-    }
-    if piece.len() < end {
-        return 0;
-    }
-    let rest = end - from;
-    let mut done = 0;
-    while done < rest {
-        piece[done] = piece[from + done];
-        done += 1;
-    }
-    rest
-}
-
-// The line without the carriage return at its end, as other systems write one.
-pub fn without_return(line: &[u8]) -> &[u8] {
-    let last = std::num::wrapping_sub_usize(line.len(), 1);
-    if pieces::is_at(line, last, b'\r') {
-        return pieces::between(line, 0, last);
-    }
-    line
-}
-
-// Whether a carriage return stands within a line.
-pub fn has_return(line: &[u8]) -> bool {
-    pieces::place_of(line, 0, line.len(), b'\r') < line.len()
+// Moves the last bytes before `end`, so many of them, to the front.
+pub fn keep_rest(piece: &mut [u8], end: usize, rest: usize) {
+    let from = end.saturating_sub(rest).min(piece.len());
+    piece.rotate_left(from);
 }

@@ -1,60 +1,68 @@
 // What was found is held against what a line expects. Every difference is told, of a reply, of what leaves, of what is written and of a list room
 // the first; a check without one is as expected.
-use crate::slots::Desk;
+use crate::desks::Desk;
+use crate::say;
+use crate::saying::{Hexadecimal, Perhaps};
 use crate::tokens::Tokens;
-use crate::wording::{say, say_one, say_three, say_two};
-use crate::{pieces, slots, tokens, vocabulary, wording};
+use crate::vocabulary::Word;
+use std::fmt::Display;
 
-// A question has been asked. Where it is a check, it is counted, and a word is said if it was right.
-pub fn count(desk: &mut Desk, tokens: &Tokens, right: bool) {
-    if tokens::is_check(tokens) {
-        slots::count(desk, slots::CHECKS);
-    }
-    if right {
-        slots::count(desk, slots::RIGHT);
-        say(wording::AS_EXPECTED);
-    }
-}
-
-// A difference begins to be told; who calls goes on, and ends the line.
-pub fn begin_difference(desk: &Desk) {
-    say_one(wording::DIFFERENCE, slots::at(desk, slots::LINE));
-}
-
-// Two values, and the text that tells where they are not the same. Says whether they are.
-pub fn value(desk: &Desk, text: usize, found: usize, wanted: usize) -> bool {
+// Two values, where they are not the same. Says whether they are.
+fn same<T: PartialEq + Display + Drop>(desk: &Desk, what: &str, found: T, wanted: T) -> bool {
     if found == wanted {
         return true;
     }
-    begin_difference(desk);
-    say_two(text, found, wanted);
+    desk.begin_difference();
+    say!("{what} {found}, expected {wanted}\n");
     false
 }
 
-// The value at a place of many, where it is another.
-pub fn entry(desk: &Desk, text: usize, at: usize, found: usize, wanted: usize) {
-    begin_difference(desk);
-    say_three(text, at, found, wanted);
+pub fn value(desk: &Desk, what: &str, found: usize, wanted: usize) -> bool {
+    same(desk, what, Hexadecimal(found), Hexadecimal(wanted))
+}
+
+// A port or a group, or none.
+pub fn perhaps(desk: &Desk, what: &str, found: Option<usize>, wanted: Option<usize>) -> bool {
+    same(desk, what, Perhaps(found), Perhaps(wanted))
+}
+
+// What a completion says of an access, or what becomes of a packet, by the word for it.
+pub fn said(desk: &Desk, found: Option<Word>, wanted: Option<Word>) -> bool {
+    same(desk, "says", Saying(found), Saying(wanted))
 }
 
 // The answer number, the only one in decimal: the expected one was read as its digits.
-pub fn number(desk: &Desk, tokens: &Tokens, found: u8) -> bool {
-    let digits = tokens::at(tokens, tokens::behind(tokens, vocabulary::NUMBER));
-    let wanted = std::num::wrapping_add_usize(10 * (digits % 256 / 16), digits % 16);
-    value(desk, wording::WRONG_NUMBER, found as usize, wanted)
+pub fn number(desk: &Desk, tokens: Tokens, found: u8) -> bool {
+    let digits = tokens.expected(Word::Number).byte(0);
+    same(desk, "number", found, 10 * (digits / 16) + digits % 16)
 }
 
-// The bytes of a buffer, one by one, up to the first that is another, and the text that tells it.
-pub fn bytes(desk: &Desk, text: usize, found: &[u8], wanted: &[u8]) -> bool {
-    let mut at = 0;
-    while at < found.len() {
-        let is = pieces::value_of(found, at);
-        let should = pieces::value_of(wanted, at);
+// The bytes of a buffer, one by one, up to the first that is another.
+pub fn bytes(desk: &Desk, what: &str, found: &[u8], wanted: &[u8]) -> bool {
+    for (at, (is, should)) in found.iter().zip(wanted).enumerate() {
         if is != should {
-            entry(desk, text, at, is, should);
+            desk.begin_difference();
+            say!("{what} {at:X} is {is:02X}, expected {should:02X}\n");
             return false;
         }
-        at += 1;
     }
     true
+}
+
+// The first of some words that is expected.
+pub fn first_of(words: &[Word], tokens: Tokens) -> Option<Word> {
+    words.iter().copied().find(|word| tokens.expects(*word))
+}
+
+// A word, or that nothing is said.
+#[derive(Clone, Copy, PartialEq, Eq)]
+struct Saying(Option<Word>);
+
+impl Display for Saying {
+    fn fmt<W: std::fmt::Write>(&self, f: &mut std::fmt::Formatter<W>) -> std::fmt::Result {
+        match self.0 {
+            Some(word) => write!(f, "{word}"),
+            None => write!(f, "nothing"),
+        }
+    }
 }

@@ -1,188 +1,120 @@
 // The headers of the proposal at the desk are written into a space of its board. The number and the extended list there are told, as the listing shows it,
 // with every word that is another; or each byte is held against what is expected.
-use crate::slots::Desk;
-use crate::spaces::{LONG, STORE, Store};
+use crate::bench::Bench;
+use crate::boards::Board;
+use crate::faults::Wrong;
+use crate::spaces::{self, Buffer, Part};
 use crate::tokens::Tokens;
-use crate::wording::say_one;
-use crate::{
-    chaining, judging, planning, slots, spaces, structures, tokens, unlaid, vocabulary, walking,
-    wording,
-};
-use answers::{Answer, Refusal};
-use layout::Structure;
+use crate::vocabulary::Word;
+use crate::{chaining, judging, planning, say, unlaid, walking};
+use answers::Refusal;
 
 // The last offset of a header, and the highest version.
 const LAST: usize = 0xffc;
 
 const HIGHEST: usize = 0xf;
 
-// Says whether this is a check that was right.
-pub fn ask(
-    desk: &Desk,
-    tokens: &Tokens,
-    store: &mut Store,
-    base: usize,
-    structures: &[Structure],
-    proposal: &[u16],
-) -> bool {
-    let before = *store;
-    let list = structures::list_of(desk, structures);
-    let proposed = structures::proposed(desk, proposal);
-    let answer = write(desk, store, base, list, proposed);
-    if tokens::is_check(tokens) {
-        if judge(
-            desk,
-            tokens,
-            answer.number(),
-            &wanted_of(tokens, base, &before),
-            store,
-        ) {
-            return true;
-        }
+// Says whether this is a check that was right. Headers that are expected fit into a space.
+pub fn ask(bench: &mut Bench, tokens: Tokens, part: Part) -> Result<bool, Wrong> {
+    let before = bench.board;
+    let mut wanted = before;
+    put_expected(wanted.at_hand_mut().buffer_mut(part), tokens)?;
+    let answer = write(bench, part);
+    if tokens.is_check() && judge(bench, tokens, answer, &wanted) {
+        return Ok(true);
     }
-    planning::put_number(tokens, answer.number());
-    tell(answer, list, proposed, spaces::lent(desk, store, base));
-    spaces::tell_changes(desk, &before, store);
-    false
+    planning::put_number(answer, "written");
+    tell(bench, answer, part);
+    spaces::tell_changes(&before, &bench.board);
+    Ok(false)
 }
 
-// The writer is lent a space out of the store, as far as the desk says, and what it leaves there is put back.
-fn write(
-    desk: &Desk,
-    store: &mut Store,
-    base: usize,
-    list: &[Structure],
-    proposed: &[u16],
-) -> Answer {
-    let mut space = spaces::copy_of(store, base);
-    let slot = std::num::wrapping_add_usize(slots::ORDINARY_SIZE, base / LONG);
-    let lent = spaces::within(desk, slot, &space);
-    let answer = layout::write(list, proposed, &mut space[..lent]);
-    spaces::put_back(store, base, &space);
-    answer
+// The writer is lent a space of the board, as far as the desk says.
+fn write(bench: &mut Bench, part: Part) -> Result<(), Refusal> {
+    let space = bench.board.at_hand_mut().buffer_mut(part).lent_mut();
+    layout::write(bench.structures.items(), bench.proposal.items(), space)
 }
 
 // The number, and every byte.
-fn judge(desk: &Desk, tokens: &Tokens, number: u8, wanted: &Store, after: &Store) -> bool {
-    let answered = judging::number(desk, tokens, number);
-    let differences = spaces::tell_differences(desk, true, after, wanted);
-    answered & (differences == 0)
-}
-
-fn tell(answer: Answer, list: &[Structure], proposed: &[u16], space: &[u8]) {
-    match answer {
-        Answer::Done => walking::tell_listing(space),
-        Answer::Refused(refusal) => tell_refused(refusal, list, proposed, space.len()),
-    }
+fn judge(bench: &Bench, tokens: Tokens, answer: Result<(), Refusal>, wanted: &Board) -> bool {
+    let answered = judging::number(&bench.desk, tokens, answers::number(&answer));
+    answered & spaces::judge(&bench.desk, &bench.board, wanted)
 }
 
 // A space of another size comes before the structures.
-fn tell_refused(refusal: Refusal, list: &[Structure], proposed: &[u16], size: usize) {
-    if size == words::SPACE {
-        unlaid::tell(refusal, list, proposed, 0);
-    } else {
-        say_one(wording::OTHER_SIZE, size);
+fn tell(bench: &Bench, answer: Result<(), Refusal>, part: Part) {
+    let space = bench.board.at_hand().buffer(part).lent();
+    let size = space.len();
+    match answer {
+        Ok(()) => walking::tell_listing(space),
+        Err(_) if size != words::SPACE => say!("  the space has {size:X} bytes\n"),
+        Err(refusal) => unlaid::tell(refusal, bench.structures.items(), bench.proposal.items(), 0),
     }
 }
 
-// Every byte as before, except the headers that are expected.
-fn wanted_of(tokens: &Tokens, base: usize, before: &Store) -> Store {
-    let mut wanted = *before;
-    put_expected(&mut wanted, tokens, base);
-    wanted
+// Headers as they are expected: each with its offset, ID and version, or so many that are alike, the first at an offset and each other at the one before it
+// with a step added.
+#[derive(Clone, Copy)]
+enum Headers<'a> {
+    Listed(Tokens<'a>),
+    Alike(Tokens<'a>),
 }
 
-// Whether every header that a line expects fits into a space.
-pub fn fits(tokens: &Tokens) -> bool {
-    let mut anywhere = [0; STORE];
-    put_expected(&mut anywhere, tokens, 0)
-}
-
-// Puts the headers that a line expects, one by one or so many that are alike. Says whether all fit.
-fn put_expected(store: &mut Store, tokens: &Tokens, base: usize) -> bool {
-    let listed = tokens::behind(tokens, vocabulary::HEADERS);
-    if tokens::is_said(tokens, listed) {
-        return put_headers(
-            store,
-            tokens,
-            base,
-            tokens::numbers_from(tokens, listed) / 3,
-            tokens::at(tokens, listed),
-            std::num::wrapping_add_usize(listed, 1),
-            3,
-        );
-    }
-    let alike = tokens::behind(tokens, vocabulary::ALIKE);
-    put_headers(
-        store,
-        tokens,
-        base,
-        tokens::at(tokens, alike),
-        tokens::at(tokens, std::num::wrapping_add_usize(alike, 1)),
-        std::num::wrapping_add_usize(alike, 3),
-        0,
-    )
-}
-
-// So many headers, the first at an offset: each points to the next, and the last to 0. The ID and the version of the first stand at a place of the line, and of
-// each other so much further there.
-fn put_headers(
-    store: &mut Store,
-    tokens: &Tokens,
-    base: usize,
-    count: usize,
-    first: usize,
-    from: usize,
-    by: usize,
-) -> bool {
-    let mut at = first;
-    let mut place = from;
-    let mut done = 0;
-    while done < count {
-        let following = offset_behind(tokens, at, place, by);
-        done += 1;
-        let next = if done < count { following } else { 0 };
-        if !put_header(store, tokens, base, at, place, next) {
-            return false;
+impl Headers<'_> {
+    fn count(self) -> usize {
+        match self {
+            Headers::Listed(numbers) => numbers.count() / 3,
+            Headers::Alike(numbers) => numbers.number(0),
         }
-        at = following;
-        place = std::num::wrapping_add_usize(place, by);
     }
-    true
+
+    // Where a header stands: the last points to 0.
+    fn offset(self, header: usize) -> usize {
+        match self {
+            _ if self.count() <= header => 0,
+            Headers::Listed(numbers) => numbers.number(header.wrapping_mul(3)),
+            Headers::Alike(numbers) => numbers
+                .number(1)
+                .wrapping_add(header.wrapping_mul(numbers.number(2))),
+        }
+    }
+
+    fn id(self, header: usize) -> usize {
+        match self {
+            Headers::Listed(numbers) => numbers.number(header.wrapping_mul(3).wrapping_add(1)),
+            Headers::Alike(numbers) => numbers.number(3),
+        }
+    }
+
+    fn version(self, header: usize) -> usize {
+        match self {
+            Headers::Listed(numbers) => numbers.number(header.wrapping_mul(3).wrapping_add(2)),
+            Headers::Alike(numbers) => numbers.number(4),
+        }
+    }
 }
 
-// Where the header behind one stands: its offset follows the version of this one, or, where they are alike, the step stands before the ID.
-fn offset_behind(tokens: &Tokens, at: usize, place: usize, by: usize) -> usize {
-    if by == 0 {
-        return std::num::wrapping_add_usize(
-            at,
-            tokens::at(tokens, std::num::wrapping_sub_usize(place, 1)),
-        );
+// Puts the headers that a line expects, if all fit into a space.
+fn put_expected(space: &mut Buffer, tokens: Tokens) -> Result<(), Wrong> {
+    let headers = if tokens.expects(Word::Headers) {
+        Headers::Listed(tokens.expected(Word::Headers))
+    } else {
+        Headers::Alike(tokens.expected(Word::Alike))
+    };
+    for header in 0..headers.count() {
+        put_header(space, headers, header)?;
     }
-    tokens::at(tokens, std::num::wrapping_add_usize(place, 2))
+    Ok(())
 }
 
-fn put_header(
-    store: &mut Store,
-    tokens: &Tokens,
-    base: usize,
-    at: usize,
-    place: usize,
-    next: usize,
-) -> bool {
-    let version = tokens::at(tokens, std::num::wrapping_add_usize(place, 1));
-    if LAST < at {
-        return false;
+// Each points to the next, and the last to 0.
+fn put_header(space: &mut Buffer, headers: Headers, header: usize) -> Result<(), Wrong> {
+    let offset = headers.offset(header);
+    let version = headers.version(header);
+    if LAST < offset || HIGHEST < version {
+        return Err(Wrong::NoHeader);
     }
-    if HIGHEST < version {
-        return false;
-    }
-    chaining::put_long(
-        store,
-        std::num::wrapping_add_usize(base, at),
-        tokens::at(tokens, place),
-        version,
-        next,
-    );
-    true
+    let next = headers.offset(header.wrapping_add(1));
+    chaining::put_long(space, offset, headers.id(header), version, next);
+    Ok(())
 }

@@ -1,9 +1,12 @@
 #![tactic(auto)]
 // The desk: statements from standard input, each answered at once. `help` lists them. What decides is the proved code of the crates
 // below; here only safety is promised, and that every session ends.
+mod bench;
+mod boards;
 mod capabilities;
 mod chaining;
 mod completions;
+mod desks;
 mod doing;
 mod explaining;
 mod faults;
@@ -14,48 +17,29 @@ mod judging;
 mod keeping;
 mod laying;
 mod leaving;
-mod marking;
+mod list;
 mod missing;
 mod packets;
-mod pieces;
 mod planning;
 mod reading;
 mod requests;
 mod routing;
+mod rules;
 mod saying;
 mod session;
-mod slots;
 mod spaces;
 mod structures;
-mod taking;
-mod texts;
 mod tokens;
 mod unlaid;
 mod verdicts;
 mod vocabulary;
 mod walking;
-mod wording;
 
-use keeping::MOST;
-use session::PIECE;
-use slots::SLOTS;
-use spaces::STORE;
-use walking::ROOM;
+use bench::Bench;
+use input::PIECE;
 
 fn main(rt: HostRuntime) {
-    let mut desk = [0; SLOTS];
+    let mut bench = Bench::new();
     let mut piece = [0; PIECE];
-    let mut store = [0; STORE];
-    let mut records = [[0; 7]; MOST];
-    let mut structures = [[0; 3]; structures::MOST];
-    let mut proposal = [0; ROOM];
-    session::run(
-        &mut desk,
-        &mut piece,
-        &mut store,
-        &mut records,
-        &mut structures,
-        &mut proposal,
-        &mut rt.stdin(),
-    );
+    session::run(&mut bench, &mut piece, &mut rt.stdin());
 }

@@ -1,93 +1,93 @@
 // Why an address hits no group, and why it is not judged at all: the first of the causes, in words.
-use crate::saying::put;
-use crate::wording::{say, say_one, say_three, say_two};
-use crate::{keeping, texts, wording};
+use crate::say;
 use multicast::{BASE, ENABLE, INDEX, MAX_GROUP, MOST_PORTS, NUM_GROUP, Record};
+use std::fmt;
+use std::fmt::{Display, Formatter};
 
-// A record that a capability could give has no fault; the others are in the order of the table below.
-const NO_FAULT: usize = 0;
+pub const REFUSED: &str =
+    "badly described: too many records, no such port, or a record that no capability gives";
 
-pub fn tell_no_hit(record: Record, port: usize, address: u64) {
+// Why no capability gives a record.
+#[derive(Clone, Copy)]
+enum Fault {
+    MaxGroup,
+    Enable,
+    Index,
+    Base,
+    NumGroup,
+    SmallWindow,
+}
+
+impl Display for Fault {
+    fn fmt<W: fmt::Write>(&self, f: &mut Formatter<W>) -> fmt::Result {
+        match self {
+            Fault::MaxGroup => write!(f, "Max Group is over 3F"),
+            Fault::Enable => write!(f, "Enable is neither 0 nor 1"),
+            Fault::Index => write!(f, "the index is over 3F"),
+            Fault::Base => write!(f, "the base is no multiple of 1000"),
+            Fault::NumGroup => write!(f, "Num Group is over Max Group"),
+            Fault::SmallWindow => write!(f, "the index is under C while enabled"),
+        }
+    }
+}
+
+pub fn tell_no_hit(list: &[Record], port: usize, address: u64) {
+    let Some(record) = list.get(port) else {
+        return;
+    };
     let base = record[BASE];
+    let last = record[NUM_GROUP];
     if record[ENABLE] == 0 {
-        say_one(wording::NOT_ENABLED, port);
-        return;
+        say!("  no hit: port {port:X} is not enabled\n");
+    } else if address < base {
+        say!("  no hit: the address is below {base:X}, the base of port {port:X}\n");
+    } else {
+        let group = (address - base) >> (record[INDEX] % 64);
+        say!(
+            "  no hit: it would be in group {group:X}, and the last one of port {port:X} is {last:X}\n"
+        );
     }
-    if address < base {
-        say_two(wording::BELOW_BASE, base as usize, port);
-        return;
-    }
-    say_three(
-        wording::PAST_LAST,
-        ((address - base) >> record[INDEX] % 64) as usize,
-        port,
-        record[NUM_GROUP] as usize,
-    );
 }
 
 pub fn tell_refused(list: &[Record], entering: usize) {
-    if MOST_PORTS < list.len() {
-        say_one(wording::TOO_MANY_RECORDS, list.len());
-        return;
+    let count = list.len();
+    if MOST_PORTS < count {
+        say!("  the list has {count:X} records, and may have 20\n");
+    } else if count <= entering {
+        say!("  no port {entering:X}: the list has {count:X} records, counted from port 0\n");
+    } else {
+        tell_faulty(list);
     }
-    if list.len() <= entering {
-        say_two(wording::NO_SUCH_PORT, entering, list.len());
-        return;
-    }
-    tell_record(list, first_faulty(list));
 }
 
-// The first port with a record that no capability gives, or the end of the list.
-fn first_faulty(list: &[Record]) -> usize {
-    let mut port = 0;
-    while port < list.len() {
-        if fault_of(list[port]) != NO_FAULT {
-            return port;
+// The first port with a record that no capability gives.
+fn tell_faulty(list: &[Record]) {
+    for (port, record) in list.iter().enumerate() {
+        if let Some(fault) = fault_of(record) {
+            say!("  port {port:X}: {fault}\n");
+            return;
         }
-        port += 1;
     }
-    port
 }
 
-fn tell_record(list: &[Record], port: usize) {
-    say_one(wording::NO_RECORD, port);
-    put(texts::entry(
-        b"its record is one that a capability gives
-Max Group is over 3F
-Enable is neither 0 nor 1
-the index is over 3F
-the base is no multiple of 1000
-Num Group is over Max Group
-the index is under C while enabled
-",
-        fault_of(keeping::record_at(list, port)),
-    ));
-    say(wording::END);
-}
-
-fn fault_of(record: Record) -> usize {
+fn fault_of(record: &Record) -> Option<Fault> {
     if 63 < record[MAX_GROUP] {
-        return 1;
+        return Some(Fault::MaxGroup);
     }
     if 1 < record[ENABLE] {
-        return 2;
+        return Some(Fault::Enable);
     }
     if 63 < record[INDEX] {
-        return 3;
+        return Some(Fault::Index);
     }
     if record[BASE] % 4096 != 0 {
-        return 4;
+        return Some(Fault::Base);
     }
-    fault_of_groups(record)
-}
-
-// Fields that do not go together.
-fn fault_of_groups(record: Record) -> usize {
     if record[MAX_GROUP] < record[NUM_GROUP] {
-        return 5;
+        return Some(Fault::NumGroup);
     }
-    if record[ENABLE] == 0 {
-        return NO_FAULT;
+    if record[ENABLE] == 1 && record[INDEX] < 12 {
+        return Some(Fault::SmallWindow);
     }
-    if record[INDEX] < 12 { 6 } else { NO_FAULT }
+    None
 }

@@ -1,114 +1,69 @@
 // Offsets are proposed for the structures of a new board, and a proposal is looked at: the number is told, with what is proposed or why nothing is, or held
 // against what is expected.
-use crate::slots::Desk;
+use crate::desks::Desk;
+use crate::list::List;
+use crate::structures::Proposal;
 use crate::tokens::Tokens;
-use crate::walking::{ROOM, Room, UNTOUCHED};
-use crate::wording::say_all;
-use crate::{explaining, judging, slots, structures, tokens, unlaid, vocabulary, walking, wording};
-use answers::Answer;
+use crate::walking::{self, ROOM, UNTOUCHED};
+use crate::{explaining, judging, say, unlaid};
+use answers::Refusal;
 use layout::Structure;
 
 // A proposal is kept. Says whether this is a check that was right.
-pub fn plan(
-    desk: &mut Desk,
-    tokens: &Tokens,
-    structures: &[Structure],
-    proposal: &mut Room,
-) -> bool {
+pub fn plan(desk: &Desk, tokens: Tokens, list: &[Structure], proposal: &mut Proposal) -> bool {
     let mut room = [UNTOUCHED; ROOM];
-    let list = structures::list_of(desk, structures);
-    let lent = walking::within_room(slots::at(desk, slots::ROOM), &room);
+    let lent = desk.room.min(ROOM);
     let answer = layout::plan(list, &mut room[..lent]);
-    let right = answer_plan(desk, tokens, answer, list, lent, &room);
-    if is_done(answer) {
-        *proposal = room;
-        slots::set(desk, slots::PROPOSED, list.len());
+    let count = if answer.is_ok() { list.len() } else { 0 };
+    if answer.is_ok() {
+        *proposal = List::of(room, count);
     }
-    right
-}
-
-pub fn is_done(answer: Answer) -> bool {
-    match answer {
-        Answer::Done => true,
-        Answer::Refused(_) => false,
-    }
-}
-
-fn answer_plan(
-    desk: &Desk,
-    tokens: &Tokens,
-    answer: Answer,
-    list: &[Structure],
-    lent: usize,
-    room: &Room,
-) -> bool {
-    let count = if is_done(answer) { list.len() } else { 0 };
-    if tokens::is_check(tokens) {
-        if judge_plan(desk, tokens, answer.number(), count, room) {
+    if tokens.is_check() {
+        let answered = judging::number(desk, tokens, answers::number(&answer));
+        if answered & walking::judge_room(desk, tokens, count, &room) {
             return true;
         }
     }
-    put_number(tokens, answer.number());
-    tell_plan(answer, list, lent, room);
+    put_number(answer, "a proposal, which is kept");
+    match answer {
+        Ok(()) => tell_placed(list, &room),
+        Err(refusal) => unlaid::tell(refusal, list, &[], lent),
+    }
     false
 }
 
-fn judge_plan(desk: &Desk, tokens: &Tokens, number: u8, count: usize, room: &Room) -> bool {
-    let answered = judging::number(desk, tokens, number);
-    answered & walking::judge_room(desk, tokens, count, room)
-}
-
-// A number, and what it means of a question about a new board.
-pub fn put_number(tokens: &Tokens, number: u8) {
-    let question = std::num::wrapping_sub_usize(tokens::word(tokens, 0), vocabulary::PLAN);
-    let meaning = match number {
-        0 => explaining::PROPOSED + question % 3,
-        1 => explaining::BAD_STRUCTURES,
-        2 => explaining::FEW_ENTRIES,
-        _ => explaining::meaning_of(number),
+// A number, and what it means of a question about a new board, with the meaning of a 0.
+pub fn put_number(answer: Result<(), Refusal>, done: &str) {
+    let meaning = match answer {
+        Ok(()) => done,
+        Err(Refusal::BadDescription) =>
+            "badly described: no structure or more than 3C0; one with ID 0, a version over F, or a length under 4 or over F00; or a space of another size than 1000",
+        Err(Refusal::NoRoom) =>
+            "no room: the list room has fewer entries than there are structures",
+        Err(refusal) => explaining::meaning_of(refusal),
     };
-    explaining::put_number_as(number, meaning);
-}
-
-fn tell_plan(answer: Answer, list: &[Structure], lent: usize, room: &[u16]) {
-    match answer {
-        Answer::Done => tell_placed(list, room),
-        Answer::Refused(refusal) => unlaid::tell(refusal, list, &room[..0], lent),
-    }
+    explaining::put_number(answers::number(&answer), meaning);
 }
 
 // Each structure at its offset.
 fn tell_placed(list: &[Structure], room: &[u16]) {
-    let mut place = 0;
-    while place < list.len() {
-        tell_structure(structures::offset_at(room, place), list[place]);
-        place += 1;
+    for (structure, offset) in list.iter().zip(room) {
+        let offset = *offset;
+        let id = structure.id;
+        let version = structure.version;
+        let length = structure.length;
+        say!("  {offset:03X}: ID {id:04X} version {version:X} length {length:X}\n");
     }
-}
-
-fn tell_structure(offset: usize, structure: Structure) {
-    say_all(
-        wording::PLACED,
-        offset,
-        structure[layout::ID] as usize,
-        structure[layout::VERSION] as usize,
-        structure[layout::LENGTH] as usize,
-        0,
-    );
 }
 
 // The proposal that is kept is looked at. Says whether this is a check that was right.
-pub fn accept(desk: &Desk, tokens: &Tokens, structures: &[Structure], proposal: &[u16]) -> bool {
-    let list = structures::list_of(desk, structures);
-    let proposed = structures::proposed(desk, proposal);
+pub fn accept(desk: &Desk, tokens: Tokens, list: &[Structure], proposed: &[u16]) -> bool {
     let answer = layout::check(list, proposed);
-    if tokens::is_check(tokens) {
-        if judging::number(desk, tokens, answer.number()) {
-            return true;
-        }
+    if tokens.is_check() && judging::number(desk, tokens, answers::number(&answer)) {
+        return true;
     }
-    put_number(tokens, answer.number());
-    if let Answer::Refused(refusal) = answer {
+    put_number(answer, "accepted");
+    if let Err(refusal) = answer {
         unlaid::tell(refusal, list, proposed, 0);
     }
     false

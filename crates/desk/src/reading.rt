@@ -1,151 +1,101 @@
 // A DVSEC or a Dual-BDF record of the board at the desk is asked for. Its number, its fields and its body are told, or held against what
 // is expected.
-use crate::slots::Desk;
+use crate::desks::Desk;
+use crate::saying::Bytes;
 use crate::tokens::Tokens;
-use crate::wording::{say, say_all, say_two};
-use crate::{capabilities, explaining, judging, pieces, spaces, tokens, vocabulary, wording};
-use records::{Alternate, DualRead, DvsecHeader, DvsecRead};
+use crate::vocabulary::Word;
+use crate::{explaining, judging, say};
+use answers::Refusal;
+use records::{Alternate, DvsecHeader};
 
-pub fn ask_dvsec(desk: &Desk, tokens: &Tokens, space: &[u8]) -> bool {
-    let at = tokens::at(tokens, 2);
-    let body = records::dvsec_body(space, at);
+pub fn ask_dvsec(desk: &Desk, tokens: Tokens, space: &[u8]) -> bool {
+    let at = tokens.number(2);
     match records::dvsec(space, at) {
-        DvsecRead::Refused(refusal) => refused(desk, tokens, refusal.number(), body),
-        DvsecRead::Found(header) => header_found(desk, tokens, header, body),
+        Err(refusal) => refused(desk, tokens, Word::Header, refusal),
+        Ok(header) => header_found(desk, tokens, header, records::dvsec_body(space, at)),
     }
 }
 
-fn header_found(desk: &Desk, tokens: &Tokens, header: DvsecHeader, body: &[u8]) -> bool {
-    answer(
-        desk,
-        tokens,
-        0,
-        &[
-            header.vendor as usize,
-            header.revision as usize,
-            header.id as usize,
-            header.length as usize,
-        ],
-        body,
-    )
-}
-
-// A Dual-BDF record has no body.
-pub fn ask_dual(desk: &Desk, tokens: &Tokens, space: &[u8]) -> bool {
-    match records::dual_bdf(space, tokens::at(tokens, 2)) {
-        DualRead::Refused(refusal) => refused(desk, tokens, refusal.number(), &space[..0]),
-        DualRead::Found(alternate) => alternate_found(desk, tokens, alternate, &space[..0]),
-    }
-}
-
-fn alternate_found(desk: &Desk, tokens: &Tokens, alternate: Alternate, body: &[u8]) -> bool {
-    answer(
-        desk,
-        tokens,
-        0,
-        &[alternate.function as usize, alternate.device as usize],
-        body,
-    )
-}
-
-// A refusal has no fields.
-pub fn refused(desk: &Desk, tokens: &Tokens, number: u8, body: &[u8]) -> bool {
-    answer(desk, tokens, number, &[], body)
-}
-
-// A record as it was found, or a refusal. Says whether this is a check that was right.
-pub fn answer(desk: &Desk, tokens: &Tokens, number: u8, fields: &[usize], body: &[u8]) -> bool {
-    if tokens::is_check(tokens) {
-        if judge(desk, tokens, number, fields, body) {
+fn header_found(desk: &Desk, tokens: Tokens, header: DvsecHeader, body: &[u8]) -> bool {
+    let place = tokens.number(2).wrapping_add(records::BODY);
+    let vendor = header.vendor;
+    let revision = header.revision;
+    let id = header.id;
+    let length = header.length;
+    let fields = [
+        vendor as usize,
+        revision as usize,
+        id as usize,
+        length as usize,
+    ];
+    if tokens.is_check() {
+        let told = judge(desk, tokens, 0, Word::Header, &fields);
+        if told & judge_body(desk, tokens, place, body.len()) {
             return true;
         }
     }
-    explaining::put_number(number);
-    tell(fields, body);
+    let bytes = Bytes(body);
+    explaining::put_number(0, explaining::ANSWERED);
+    say!("  vendor {vendor:04X} revision {revision:X} ID {id:04X} length {length:03X}\n");
+    say!("  body:{bytes}\n");
     false
 }
 
-fn judge(desk: &Desk, tokens: &Tokens, number: u8, fields: &[usize], body: &[u8]) -> bool {
+// A Dual-BDF record has no body.
+pub fn ask_dual(desk: &Desk, tokens: Tokens, space: &[u8]) -> bool {
+    match records::dual_bdf(space, tokens.number(2)) {
+        Err(refusal) => refused(desk, tokens, Word::Alternate, refusal),
+        Ok(alternate) => alternate_found(desk, tokens, alternate),
+    }
+}
+
+fn alternate_found(desk: &Desk, tokens: Tokens, alternate: Alternate) -> bool {
+    let function = alternate.function;
+    let device = alternate.device;
+    let fields = [function as usize, device as usize];
+    if tokens.is_check() && judge(desk, tokens, 0, Word::Alternate, &fields) {
+        return true;
+    }
+    explaining::put_number(0, explaining::ANSWERED);
+    say!("  alternate: function {function:X} device {device:02X}\n");
+    false
+}
+
+// A refusal has no fields and no body.
+pub fn refused(desk: &Desk, tokens: Tokens, word: Word, refusal: Refusal) -> bool {
+    if tokens.is_check() {
+        let told = judge(desk, tokens, refusal.number(), word, &[]);
+        if told & judge_body(desk, tokens, 0, 0) {
+            return true;
+        }
+    }
+    explaining::put_refusal(refusal);
+    false
+}
+
+// The number, how many fields stand behind the word for them, and each of them.
+pub fn judge(desk: &Desk, tokens: Tokens, number: u8, word: Word, fields: &[usize]) -> bool {
     let answered = judging::number(desk, tokens, number);
-    let told = judge_fields(desk, tokens, fields);
-    answered & told & judge_body(desk, tokens, fields.len(), body.len())
+    let numbers = tokens.expected(word);
+    answered
+        & (judging::value(desk, "count of fields", fields.len(), numbers.count())
+            && judge_each(desk, fields, numbers))
 }
 
-fn tell(fields: &[usize], body: &[u8]) {
-    match fields.len() {
-        0 => {}
-        2 => say_two(
-            wording::FOUND,
-            pieces::number_at(fields, 0),
-            pieces::number_at(fields, 1),
-        ),
-        4 => tell_header(fields, body),
-        _ => capabilities::tell(fields),
-    }
-}
-
-fn tell_header(fields: &[usize], body: &[u8]) {
-    say_all(
-        wording::HEADER,
-        pieces::number_at(fields, 0),
-        pieces::number_at(fields, 1),
-        pieces::number_at(fields, 2),
-        pieces::number_at(fields, 3),
-        0,
-    );
-    spaces::tell_part(wording::BODY, body, 0, body.len());
-    say(wording::END);
-}
-
-// How many fields are told, and each of them. A question has one word for its fields.
-fn judge_fields(desk: &Desk, tokens: &Tokens, fields: &[usize]) -> bool {
-    let from = tokens::behind(tokens, fields_word(tokens::word(tokens, 0)));
-    let given = tokens::numbers_from(tokens, from);
-    if judging::value(desk, wording::WRONG_FIELDS, fields.len(), given) {
-        return judge_each(desk, tokens, from, fields);
-    }
-    false
-}
-
-fn fields_word(question: usize) -> usize {
-    match question {
-        vocabulary::DVSEC => vocabulary::HEADER,
-        vocabulary::DUAL => vocabulary::ALTERNATE,
-        _ => vocabulary::FIELDS,
-    }
-}
-
-fn judge_each(desk: &Desk, tokens: &Tokens, from: usize, fields: &[usize]) -> bool {
+fn judge_each(desk: &Desk, fields: &[usize], numbers: Tokens) -> bool {
     let mut right = true;
-    let mut at = 0;
-    while at < fields.len() {
-        let wanted = tokens::at(tokens, std::num::wrapping_add_usize(from, at));
-        right &= judging::value(desk, wording::WRONG_FIELD, fields[at], wanted);
-        at += 1;
+    for (place, field) in fields.iter().enumerate() {
+        right &= judging::value(desk, "field", *field, numbers.number(place));
     }
     right
 }
 
 // The body is so many bytes of the space, from an offset on: the two numbers. Without them it is empty, and its place is not told.
-fn judge_body(desk: &Desk, tokens: &Tokens, fields: usize, length: usize) -> bool {
-    let word = tokens::behind(tokens, vocabulary::BODY);
-    if !tokens::is_said(tokens, word) {
-        return judging::value(desk, wording::WRONG_BODY, length, 0);
+fn judge_body(desk: &Desk, tokens: Tokens, place: usize, length: usize) -> bool {
+    let numbers = tokens.expected(Word::Body);
+    if !tokens.expects(Word::Body) {
+        return judging::value(desk, "body's length", length, 0);
     }
-    let place = judging::value(
-        desk,
-        wording::WRONG_BODY_PLACE,
-        place_of_body(fields, tokens::at(tokens, 2)),
-        tokens::at(tokens, word),
-    );
-    let size = tokens::at(tokens, std::num::wrapping_add_usize(word, 1));
-    place & judging::value(desk, wording::WRONG_BODY, length, size)
-}
-
-// Where the body of a record lies, or 0 where there is no record.
-fn place_of_body(fields: usize, at: usize) -> usize {
-    if fields == 0 {
-        return 0;
-    }
-    std::num::wrapping_add_usize(at, records::BODY)
+    let told = judging::value(desk, "body's place", place, numbers.number(0));
+    told & judging::value(desk, "body's length", length, numbers.number(1))
 }

@@ -1,235 +1,271 @@
-// The store: the six buffers of the board's function at hand one behind the other, then those of the one beside it, the packet that the board is sent, or a
-// completion, and the reply, and of the switch what leaves it and its ports. They are filled, put and shown by hand, and held against what they should be.
-ghost use Rattle.io.specs.Counts.{IsPrefixLen};
-
-use crate::saying::{put, put_bytes};
-use crate::slots::Desk;
+// The spaces of a function, each with its rules and its marks. They are filled, put and shown by hand, and held against what they should be.
+use crate::boards::{Board, Role};
+use crate::desks::Desk;
+use crate::say;
+use crate::saying::Bytes;
 use crate::tokens::Tokens;
-use crate::wording::{say, say_one};
-use crate::{judging, pieces, slots, taking, texts, tokens, vocabulary, wording};
+use crate::vocabulary::Word;
+use std::fmt;
+use std::fmt::{Display, Formatter};
 
 // The bytes of each buffer: a few more than a space has, so that one of another size can be lent.
 pub const LONG: usize = 4100;
 
-pub type Buffer = [u8; LONG];
+// How many words of four bytes these are, and how many bytes are shown on a line.
+const WORDS: usize = 1025;
 
-pub const ORDINARY: usize = 0;
+const LINE: usize = 16;
 
-pub const ORDINARY_RULES: usize = 4100;
+// A buffer, and how much of it is lent to the next question.
+#[derive(Clone, Copy)]
+pub struct Buffer {
+    bytes: [u8; LONG],
+    size: usize,
+}
 
-pub const ORDINARY_MARKS: usize = 8200;
+impl Buffer {
+    fn new(byte: u8) -> Buffer {
+        Buffer {
+            bytes: [byte; LONG],
+            size: words::SPACE,
+        }
+    }
 
-pub const TRUSTED: usize = 12300;
+    pub fn lent(&self) -> &[u8] {
+        &self.bytes[..self.size.min(LONG)]
+    }
 
-pub const TRUSTED_RULES: usize = 16400;
+    pub fn lent_mut(&mut self) -> &mut [u8] {
+        let size = self.size.min(LONG);
+        &mut self.bytes[..size]
+    }
 
-pub const TRUSTED_MARKS: usize = 20500;
+    fn from(&self, offset: usize) -> &[u8] {
+        self.bytes.get(offset..).unwrap_or(&[])
+    }
 
-// Where the six end: here those of the function beside it begin.
-pub const BESIDE: usize = 24600;
+    // An offset, and the bytes there.
+    pub fn put(&mut self, numbers: Tokens) {
+        if let Some(place) = self.bytes.get_mut(numbers.number(0)..) {
+            numbers.from(1).fill(place);
+        }
+    }
 
-pub const BESIDE_ORDINARY_RULES: usize = 28700;
+    // Says whether there is room for them.
+    pub fn put_at(&mut self, offset: usize, bytes: &[u8]) -> bool {
+        words::put(&mut self.bytes, offset, bytes)
+    }
 
-pub const BESIDE_ORDINARY_MARKS: usize = 32800;
-
-pub const BESIDE_TRUSTED: usize = 36900;
-
-pub const BESIDE_TRUSTED_RULES: usize = 41000;
-
-pub const BESIDE_TRUSTED_MARKS: usize = 45100;
-
-// Where the twelve end: here the packet begins, of up to 64 bytes, and behind it the reply's buffer, that of what leaves, and the ports, three
-// bytes each.
-const BOARD_END: usize = 49200;
-
-pub const PACKET: usize = 49200;
-
-pub const REPLY: usize = 49264;
-
-pub const LEAVING: usize = 49284;
-
-pub const PORTS: usize = 49308;
-
-// Past the ports, of which a line has up to 42, are a few bytes more, so that no byte of them ends where the store does.
-pub const STORE: usize = 49440;
-
-pub type Store = [u8; STORE];
-
-// Where a buffer begins, or the end of the store for a word that names none.
-pub fn base_of(word: usize) -> usize {
-    match word {
-        vocabulary::ORDINARY => ORDINARY,
-        vocabulary::ORDINARY_RULES => ORDINARY_RULES,
-        vocabulary::ORDINARY_MARKS => ORDINARY_MARKS,
-        vocabulary::TRUSTED => TRUSTED,
-        vocabulary::TRUSTED_RULES => TRUSTED_RULES,
-        vocabulary::TRUSTED_MARKS => TRUSTED_MARKS,
-        _ => STORE,
+    // Shows so many bytes from an offset on, sixteen to a line.
+    pub fn show(&self, from: usize, count: usize) {
+        let rest = self.from(from);
+        let shown = rest.get(..count).unwrap_or(rest);
+        let mut offset = from;
+        for line in shown.chunks(LINE) {
+            let bytes = Bytes(line);
+            say!("{offset:03X}:{bytes}\n");
+            offset = offset.wrapping_add(LINE);
+        }
     }
 }
 
-// Where the bytes behind a word go that has no offset before them, or the end of the store.
-fn start_of(word: usize) -> usize {
-    match word {
-        vocabulary::PACKET | vocabulary::ROUTE | vocabulary::COMPLETION | vocabulary::WRITES =>
-            PACKET,
-        vocabulary::REPLY => REPLY,
-        vocabulary::LEAVES => LEAVING,
-        vocabulary::PORTS => PORTS,
-        _ => STORE,
+#[derive(Clone, Copy)]
+pub struct Space {
+    pub bytes: Buffer,
+    pub rules: Buffer,
+    pub marks: Buffer,
+}
+
+impl Space {
+    pub fn new(byte: u8, rule: u8) -> Space {
+        Space {
+            bytes: Buffer::new(byte),
+            rules: Buffer::new(rule),
+            marks: Buffer::new(0),
+        }
+    }
+
+    pub fn lend(&mut self, bytes: usize, rules: usize, marks: usize) {
+        self.bytes.size = bytes;
+        self.rules.size = rules;
+        self.marks.size = marks;
+    }
+
+    // Where the first bit is both writable and marked.
+    pub fn first_twice(&self) -> Option<usize> {
+        let marks = self.marks.lent().iter();
+        self.rules
+            .lent()
+            .iter()
+            .zip(marks)
+            .position(|(rule, mark)| *rule & *mark != 0)
     }
 }
 
-// How much of a buffer is lent: as much as a slot says, or as much as there is.
-pub fn within(desk: &Desk, slot: usize, bytes: &[u8]) -> usize
-    ensures { IsPrefixLen result bytes.now }
-{
-    let size = slots::at(desk, slot);
-    if bytes.len() < size {
-        bytes.len()
-    } else {
-        size
+// The six buffers of a function.
+#[derive(Clone, Copy, PartialEq, Eq)]
+pub enum Part {
+    Ordinary,
+    OrdinaryRules,
+    OrdinaryMarks,
+    Trusted,
+    TrustedRules,
+    TrustedMarks,
+}
+
+const PARTS: [Part; 6] = [
+    Part::Ordinary,
+    Part::OrdinaryRules,
+    Part::OrdinaryMarks,
+    Part::Trusted,
+    Part::TrustedRules,
+    Part::TrustedMarks,
+];
+
+impl Part {
+    // The buffer that a word names.
+    pub fn of(word: Word) -> Option<Part> {
+        match word {
+            Word::Ordinary => Some(Part::Ordinary),
+            Word::OrdinaryRules => Some(Part::OrdinaryRules),
+            Word::OrdinaryMarks => Some(Part::OrdinaryMarks),
+            Word::Trusted => Some(Part::Trusted),
+            Word::TrustedRules => Some(Part::TrustedRules),
+            Word::TrustedMarks => Some(Part::TrustedMarks),
+            _ => None,
+        }
     }
-}
 
-// A buffer of the board, as far as the desk lends it: the slots of a function's buffers are in their order in the store.
-pub fn lent<'a>(desk: &Desk, store: &'a [u8], base: usize) -> &'a [u8] {
-    let slot = base / BESIDE * slots::SIDE + base % BESIDE / LONG;
-    pieces::part(
-        store,
-        base,
-        slots::at(
-            desk,
-            std::num::wrapping_add_usize(slots::ORDINARY_SIZE, slot),
-        ),
-    )
-}
-
-// A buffer of the store, and back.
-pub fn copy_of(store: &Store, base: usize) -> Buffer {
-    let mut buffer = [0; LONG];
-    words::put(&mut buffer, 0, pieces::part(store, base, LONG));
-    buffer
-}
-
-pub fn put_back(store: &mut Store, base: usize, buffer: &Buffer) {
-    words::put(store, base, buffer);
-}
-
-// The buffers of the function beside the one at hand change places with those of that one.
-pub fn turn(store: &mut Store) {
-    let old = *store;
-    words::put(store, 0, pieces::part(&old, BESIDE, BESIDE));
-    words::put(store, BESIDE, pieces::part(&old, 0, BESIDE));
-}
-
-// Puts the bytes that stand behind the words of buffers, from a place of the tokens to another: an offset and the bytes there, or the bytes
-// of a packet, a completion, a reply, what leaves or ports. No line has more of them than there is room for: the table of grammar.rt says how many it
-// may have.
-pub fn put_behind(store: &mut Store, tokens: &Tokens, from: usize, to: usize) {
-    let mut place = from;
-    let mut base = STORE;
-    let mut at = STORE;
-    while place < to {
-        let word = tokens::word(tokens, place);
-        if word != vocabulary::NUMERAL {
-            base = base_of(word);
-            at = start_of(word);
-        } else if at == STORE {
-            at = std::num::wrapping_add_usize(base, tokens::at(tokens, place));
+    // The space that a question is about: the trusted one where that is named, else the ordinary one.
+    pub fn asked(tokens: Tokens) -> Part {
+        if tokens.is(1, Word::Trusted) {
+            Part::Trusted
         } else {
-            put_at(store, at, tokens::byte(tokens, place));
-            at = std::num::wrapping_add_usize(at, 1);
+            Part::Ordinary
         }
-        place += 1;
     }
 }
 
-fn put_at(store: &mut Store, at: usize, byte: u8) {
-    if at < STORE {
-        store[at] = byte;
+impl Display for Part {
+    fn fmt<W: fmt::Write>(&self, f: &mut Formatter<W>) -> fmt::Result {
+        match self {
+            Part::Ordinary => write!(f, "ordinary"),
+            Part::OrdinaryRules => write!(f, "ordinary-rules"),
+            Part::OrdinaryMarks => write!(f, "ordinary-marks"),
+            Part::Trusted => write!(f, "trusted"),
+            Part::TrustedRules => write!(f, "trusted-rules"),
+            Part::TrustedMarks => write!(f, "trusted-marks"),
+        }
     }
 }
 
-// Tells every word in which two boards differ: as it was and as it is, or as it is and as it should be. Answers how many there are.
-pub fn tell_differences(desk: &Desk, judging: bool, one: &Store, other: &Store) -> usize {
-    let mut word = 0;
-    let mut told = 0;
-    while word < BOARD_END {
-        if words::word(one, word) != words::word(other, word) {
-            tell_place(desk, judging, word);
-            tell_both(
-                judging,
-                pieces::part(one, word, 4),
-                pieces::part(other, word, 4),
-            );
-            told = std::num::wrapping_add_usize(told, 1);
-        }
-        word += 4;
+// The bytes that a statement puts, or that the expectation puts there.
+pub fn put(board: &mut Board, part: Part, numbers: Tokens) {
+    board.at_hand_mut().buffer_mut(part).put(numbers);
+}
+
+// A board as it is expected: as before, except for the bytes that are expected to be others.
+pub fn wanted(before: &Board, tokens: Tokens) -> Board {
+    let mut wanted = *before;
+    if tokens.expects(Word::Ordinary) {
+        put(&mut wanted, Part::Ordinary, tokens.expected(Word::Ordinary));
     }
-    told
+    if tokens.expects(Word::Trusted) {
+        put(&mut wanted, Part::Trusted, tokens.expected(Word::Trusted));
+    }
+    wanted
+}
+
+// Two boards, and what is told of a word in which they differ: that it changes, or that it is not as expected.
+#[derive(Clone, Copy)]
+struct Compared<'a, 'b, 'c> {
+    one: &'a Board,
+    other: &'b Board,
+    judged: Option<&'c Desk>,
+}
+
+impl Compared<'_, '_, '_> {
+    // Tells every word in which the boards differ. Says whether there are any.
+    fn tell(self) -> bool {
+        let mut differ = false;
+        for role in self.one.in_order() {
+            differ |= self.tell_function(role);
+        }
+        differ
+    }
+
+    fn tell_function(self, role: Role) -> bool {
+        let mut differ = false;
+        for part in PARTS {
+            differ |= self.tell_buffer(role, part);
+        }
+        differ
+    }
+
+    fn tell_buffer(self, role: Role, part: Part) -> bool {
+        let one = self.one.function(role).buffer(part);
+        let other = self.other.function(role).buffer(part);
+        let mut differ = false;
+        for word in 0..WORDS {
+            let offset = 4 * word;
+            let found = words::four(&one.bytes, offset);
+            let wanted = words::four(&other.bytes, offset);
+            if found != wanted {
+                self.tell_place(role, part, offset);
+                self.tell_both(&found, &wanted);
+                differ = true;
+            }
+        }
+        differ
+    }
+
+    fn tell_place(self, role: Role, part: Part, offset: usize) {
+        match self.judged {
+            Some(desk) => desk.begin_difference(),
+            None => say!("  "),
+        }
+        put_name(self.one, role, part);
+        say!(" {offset:03X}:");
+    }
+
+    // Four bytes as they were or are, and as they are or should be.
+    fn tell_both(self, found: &[u8], wanted: &[u8]) {
+        let found = Bytes(found);
+        let wanted = Bytes(wanted);
+        match self.judged {
+            Some(_) => say!("{found}, expected{wanted}\n"),
+            None => say!("{found} ->{wanted}\n"),
+        }
+    }
+}
+
+// The name of a buffer, and of its function where there are two.
+pub fn put_name(board: &Board, role: Role, part: Part) {
+    if board.is_pair {
+        say!("{role} {part}");
+    } else {
+        say!("{part}");
+    }
 }
 
 // Tells every word that has changed, or that none has.
-pub fn tell_changes(desk: &Desk, before: &Store, after: &Store) {
-    if tell_differences(desk, false, before, after) == 0 {
-        say(wording::UNCHANGED);
+pub fn tell_changes(before: &Board, after: &Board) {
+    let changes = Compared {
+        one: before,
+        other: after,
+        judged: None,
+    };
+    if !changes.tell() {
+        say!("  no byte changed\n");
     }
 }
 
-fn tell_place(desk: &Desk, judging: bool, word: usize) {
-    if judging {
-        judging::begin_difference(desk);
-    } else {
-        say(wording::INDENT);
-    }
-    put_buffer(desk, word);
-    say_one(wording::SHOWN, word % LONG);
-}
-
-// The name of the buffer that has a place of the store.
-pub fn put_buffer(desk: &Desk, place: usize) {
-    taking::put_role(desk, place);
-    put(texts::entry(
-        b"ordinary \nordinary-rules \nordinary-marks \ntrusted \ntrusted-rules \ntrusted-marks \n",
-        place % BESIDE / LONG,
-    ));
-}
-
-// Four bytes as they were or are, and as they are or should be.
-pub fn tell_both(judging: bool, one: &[u8], other: &[u8]) {
-    put_bytes(one);
-    if judging {
-        say(wording::EXPECTED);
-    } else {
-        say(wording::BECOMES);
-    }
-    put_bytes(other);
-    say(wording::END);
-}
-
-// A text and the bytes of a part of the store behind it.
-pub fn tell_part(text: usize, store: &[u8], base: usize, size: usize) {
-    say(text);
-    put_bytes(pieces::part(store, base, size));
-}
-
-// Shows so many bytes of a buffer from an offset on, sixteen to a line.
-pub fn show(store: &Store, base: usize, from: usize, count: usize) {
-    let mut offset = from;
-    let mut left = count;
-    while 16 < left {
-        show_line(store, base, offset, 16);
-        offset = std::num::wrapping_add_usize(offset, 16);
-        left -= 16;
-    }
-    if left != 0 {
-        show_line(store, base, offset, left);
-    }
-}
-
-fn show_line(store: &Store, base: usize, offset: usize, count: usize) {
-    say_one(wording::SHOWN, offset);
-    put_bytes(pieces::part(store, std::num::wrapping_add_usize(base, offset), count));
-    say(wording::END);
+// Tells every word that is not as expected. Says whether there is none.
+pub fn judge(desk: &Desk, after: &Board, wanted: &Board) -> bool {
+    let differences = Compared {
+        one: after,
+        other: wanted,
+        judged: Some(desk),
+    };
+    !differences.tell()
 }

@@ -2,7 +2,7 @@
 // a # is a comment.
 ghost use Rattle.std.specs.Prelude.{◌<◌, ◌≤◌, length};
 
-use crate::{pieces, vocabulary};
+use crate::vocabulary::Word;
 
 // No line has more tokens.
 pub const MOST: usize = 128;
@@ -10,43 +10,61 @@ pub const MOST: usize = 128;
 // The most digits of a number.
 const DIGITS: usize = 16;
 
-// The count of a line that has more than MOST.
-const TOO_MANY: usize = 129;
+#[derive(Clone, Copy, PartialEq, Eq)]
+pub enum Kind {
+    Number(usize),
+    Word(Word),
+    Unknown,
+}
 
-// The word of each token, then the value of each that is a number, then where each begins in its line, then how many there are.
-pub const WIDTH: usize = 385;
+// What a token is, and where it begins in its line.
+#[derive(Clone, Copy)]
+pub struct Token {
+    kind: Kind,
+    begin: usize,
+}
 
-const COUNT: usize = 384;
+impl Token {
+    pub const NONE: Token = Token {
+        kind: Kind::Unknown,
+        begin: 0,
+    };
 
-pub type Tokens = [usize; WIDTH];
-
-// The tokens of a line, behind those that are there.
-pub fn read(line: &[u8], tokens: &mut Tokens) {
-    let mut at = 0;
-    while at < line.len() {
-        let end = end_of(line, at);
-        let first = line[at];
-        if first == b'#' {
-            return;
+    fn is_number(self) -> bool {
+        match self.kind {
+            Kind::Number(_) => true,
+            Kind::Word(_) | Kind::Unknown => false,
         }
-        if !is_blank(first) {
-            add(tokens, &line[at..end], at);
+    }
+
+    // Its number, or 0 where it is none.
+    fn number(self) -> usize {
+        match self.kind {
+            Kind::Number(number) => number,
+            Kind::Word(_) | Kind::Unknown => 0,
         }
-        at = end;
     }
 }
 
-// One token more; TOO_MANY where there is no place for it.
-fn add(tokens: &mut Tokens, text: &[u8], begin: usize) {
-    let count = tokens[COUNT];
-    if MOST <= count {
-        tokens[COUNT] = TOO_MANY;
-        return;
+// The tokens of a line, put into a room; none of a line that has more than there is room for.
+pub fn read<'a>(line: &[u8], room: &'a mut [Token; MOST]) -> Option<Tokens<'a>> {
+    let mut at = 0;
+    let mut count = 0;
+    while at < line.len() {
+        let end = end_of(line, at);
+        if line[at] == b'#' {
+            break;
+        }
+        if !is_blank(line[at]) {
+            *room.get_mut(count)? = Token {
+                kind: kind_of(&line[at..end], count),
+                begin: at,
+            };
+            count += 1;
+        }
+        at = end;
     }
-    tokens[count] = token_of(text, count);
-    tokens[MOST + count] = number_of(text);
-    tokens[2 * MOST + count] = begin;
-    tokens[COUNT] = count + 1;
+    Some(Tokens(&room[..count]))
 }
 
 fn is_blank(byte: u8) -> bool {
@@ -68,148 +86,168 @@ pub fn end_of(line: &[u8], from: usize) -> usize
     requires { from < length line.now }
     ensures { (from < result) × (result ≤ length line.now) }
 {
-    let mut at = from + 1;
+    let behind = &line[from + 1..];
     if is_parting(line[from]) {
-        return at;
+        return from + 1;
     }
-    while at < line.len() {
-        if is_parting(line[at]) {
-            return at;
-        }
-        at += 1;
+    match behind.iter().position(|byte| is_parting(*byte)) {
+        Some(further) => from + 1 + further,
+        None => line.len(),
     }
-    at
 }
 
 // The first token of a line is a word, whatever it could be besides; the others are numbers where they can be.
-fn token_of(text: &[u8], place: usize) -> usize {
-    if place == 0 {
-        return vocabulary::word_of(text);
+fn kind_of(text: &[u8], place: usize) -> Kind {
+    if place != 0 && is_number(text) {
+        return Kind::Number(number_of(text));
     }
-    if is_number(text) {
-        return vocabulary::NUMERAL;
+    match Word::of(text) {
+        Some(word) => Kind::Word(word),
+        None => Kind::Unknown,
     }
-    vocabulary::word_of(text)
 }
 
 fn is_number(text: &[u8]) -> bool {
-    let mut at = 0;
-    if DIGITS < text.len() {
-        return false;
+    text.len() <= DIGITS && text.iter().all(|byte| char::from(*byte).is_digit(16))
+}
+
+// The value of a text that is a number.
+fn number_of(text: &[u8]) -> usize {
+    text.iter()
+        .fold(0, |number, byte| number << 4 | digit_of(*byte))
+}
+
+fn digit_of(byte: u8) -> usize {
+    match char::from(byte).to_digit(16) {
+        Some(digit) => digit as usize,
+        None => 0,
     }
-    while at < text.len() {
-        if 16 <= digit_of(text[at]) {
-            return false;
+}
+
+// The tokens of a line, or a part of them.
+#[derive(Clone, Copy)]
+pub struct Tokens<'a>(&'a [Token]);
+
+impl<'a> Tokens<'a> {
+    // How many there are.
+    pub fn count(self) -> usize {
+        self.0.len()
+    }
+
+    // What stands at a place. Behind the last token that is a number 0.
+    pub fn kind(self, place: usize) -> Kind {
+        match self.0.get(place) {
+            Some(token) => token.kind,
+            None => Kind::Number(0),
         }
-        at += 1;
     }
-    true
-}
 
-// The value of a text that is a number; of any other single character 16.
-pub fn number_of(text: &[u8]) -> usize {
-    let mut number = 0;
-    let mut at = 0;
-    while at < text.len() {
-        number = number << 4 | digit_of(text[at]);
-        at += 1;
-    }
-    number
-}
-
-// The value of a digit, or 16.
-fn digit_of(character: u8) -> usize {
-    let place = pieces::place_of(b"0123456789ABCDEFabcdef", 0, 22, character);
-    if place < 16 {
-        return place;
-    }
-    if place < 22 { place - 6 } else { 16 }
-}
-
-// The word at a place; NUMERAL where a number stands. A place behind the last token reads as a number 0.
-pub fn word(tokens: &Tokens, place: usize) -> usize {
-    if place < MOST {
-        tokens[place]
-    } else {
-        vocabulary::UNKNOWN
-    }
-}
-
-// The number at a place.
-pub fn at(tokens: &Tokens, place: usize) -> usize {
-    if place < MOST {
-        tokens[MOST + place]
-    } else {
-        0
-    }
-}
-
-// Where the token at a place begins in its line.
-pub fn begin(tokens: &Tokens, place: usize) -> usize {
-    if place < MOST {
-        tokens[2 * MOST + place]
-    } else {
-        0
-    }
-}
-
-pub fn byte(tokens: &Tokens, place: usize) -> u8 {
-    (at(tokens, place) % 256) as u8
-}
-
-// Where a word stands from a place on, or `to`.
-pub fn find(tokens: &Tokens, from: usize, to: usize, wanted: usize) -> usize {
-    let mut place = from;
-    while place < to {
-        if word(tokens, place) == wanted {
-            return place;
+    pub fn word(self, place: usize) -> Option<Word> {
+        match self.kind(place) {
+            Kind::Word(word) => Some(word),
+            Kind::Number(_) | Kind::Unknown => None,
         }
-        place += 1;
     }
-    to
-}
 
-// How many there are.
-pub fn count(tokens: &Tokens) -> usize {
-    tokens[COUNT]
-}
+    pub fn is(self, place: usize, word: Word) -> bool {
+        self.kind(place) == Kind::Word(word)
+    }
 
-// Where the expectation begins, or the count where there is none.
-pub fn arrow(tokens: &Tokens) -> usize {
-    find(tokens, 0, count(tokens), vocabulary::ARROW)
-}
-
-// Whether the line expects something.
-pub fn is_check(tokens: &Tokens) -> bool {
-    arrow(tokens) < count(tokens)
-}
-
-// The place behind a word of the expectation; past the count where that does not have this word.
-pub fn behind(tokens: &Tokens, word: usize) -> usize {
-    let place = find(tokens, arrow(tokens), count(tokens), word);
-    std::num::wrapping_add_usize(place, 1)
-}
-
-// Whether a place is behind a word that was found.
-pub fn is_said(tokens: &Tokens, behind: usize) -> bool {
-    behind <= count(tokens)
-}
-
-// How many numbers stand from a place on.
-pub fn numbers_from(tokens: &Tokens, from: usize) -> usize {
-    let mut given = 0;
-    while given < MOST {
-        if !is_number_at(tokens, std::num::wrapping_add_usize(from, given)) {
-            return given;
+    // The number at a place, or 0.
+    pub fn number(self, place: usize) -> usize {
+        match self.0.get(place) {
+            Some(token) => token.number(),
+            None => 0,
         }
-        given += 1;
     }
-    given
-}
 
-fn is_number_at(tokens: &Tokens, place: usize) -> bool {
-    if count(tokens) <= place {
-        return false;
+    // Its lowest byte, and its two lowest.
+    pub fn byte(self, place: usize) -> u8 {
+        (self.number(place) % 0x100) as u8
     }
-    word(tokens, place) == vocabulary::NUMERAL
+
+    pub fn short(self, place: usize) -> u16 {
+        (self.number(place) % 0x10000) as u16
+    }
+
+    // Four bytes from a place on.
+    pub fn four(self, place: usize) -> [u8; 4] {
+        [
+            self.byte(place),
+            self.byte(place.wrapping_add(1)),
+            self.byte(place.wrapping_add(2)),
+            self.byte(place.wrapping_add(3)),
+        ]
+    }
+
+    // Where the token at a place begins in its line.
+    pub fn begin(self, place: usize) -> Option<usize> {
+        self.0.get(place).map(|token| token.begin)
+    }
+
+    // The tokens from a place on.
+    pub fn from(self, place: usize) -> Tokens<'a> {
+        Tokens(self.0.get(place..).unwrap_or(&[]))
+    }
+
+    // The tokens before a place.
+    pub fn before(self, place: usize) -> Tokens<'a> {
+        Tokens(self.0.get(..place).unwrap_or(self.0))
+    }
+
+    // Where a word stands first.
+    pub fn find(self, word: Word) -> Option<usize> {
+        self.0
+            .iter()
+            .position(|token| token.kind == Kind::Word(word))
+    }
+
+    // The numbers that stand at a place and behind it.
+    pub fn numbers_from(self, place: usize) -> Tokens<'a> {
+        let rest = self.from(place);
+        match rest.0.iter().position(|token| !token.is_number()) {
+            Some(end) => rest.before(end),
+            None => rest,
+        }
+    }
+
+    // The expectation, with its arrow: nothing where there is none.
+    pub fn expectation(self) -> Tokens<'a> {
+        match self.find(Word::Arrow) {
+            Some(arrow) => self.from(arrow),
+            None => Tokens(&[]),
+        }
+    }
+
+    // Whether the line expects something.
+    pub fn is_check(self) -> bool {
+        self.find(Word::Arrow).is_some()
+    }
+
+    // Whether a word is part of the expectation.
+    pub fn expects(self, word: Word) -> bool {
+        self.expectation().find(word).is_some()
+    }
+
+    // The numbers behind a word of the expectation: none where that does not have this word.
+    pub fn expected(self, word: Word) -> Tokens<'a> {
+        let expectation = self.expectation();
+        match expectation.find(word) {
+            Some(place) => expectation.numbers_from(place.wrapping_add(1)),
+            None => Tokens(&[]),
+        }
+    }
+
+    // The numbers, as far as there is room for them, as bytes or as offsets.
+    pub fn fill(self, room: &mut [u8]) {
+        for (byte, token) in room.iter_mut().zip(self.0) {
+            *byte = (token.number() % 0x100) as u8;
+        }
+    }
+
+    pub fn fill_offsets(self, room: &mut [u16]) {
+        for (offset, token) in room.iter_mut().zip(self.0) {
+            *offset = (token.number() % 0x10000) as u16;
+        }
+    }
 }

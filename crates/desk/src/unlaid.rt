@@ -1,175 +1,168 @@
 // Why nothing is proposed for the structures of a new board, and why a proposal is not accepted: the first of the causes, in words.
-use crate::saying::put;
-use crate::wording::{say, say_one, say_three, say_two};
-use crate::{structures, texts, wording};
+use crate::say;
 use answers::Refusal;
-use layout::{ID, LENGTH, MOST, Structure, VERSION};
+use layout::{MOST, Structure};
+use std::fmt;
+use std::fmt::{Display, Formatter};
 
-// A structure that may be laid out has no fault; the others are in the order of the table below.
-const NO_FAULT: usize = 0;
+// Why a structure may not be laid out.
+#[derive(Clone, Copy)]
+enum Fault {
+    NoId,
+    Version,
+    Short,
+    Long,
+}
 
-// Each rule of the request is looked at at so many places, more than there are offsets. The rules behind one offset a structure, in its order: the first, at
-// 100; multiples of 4; rising; no two overlap; all end by 1000.
-const PLACES: usize = 1024;
+impl Display for Fault {
+    fn fmt<W: fmt::Write>(&self, f: &mut Formatter<W>) -> fmt::Result {
+        match self {
+            Fault::NoId => write!(f, "its ID is 0"),
+            Fault::Version => write!(f, "its version is over F"),
+            Fault::Short => write!(f, "its length is under 4"),
+            Fault::Long => write!(f, "its length is over F00"),
+        }
+    }
+}
 
-const FIRST: usize = 0;
+// The rules behind one offset a structure, in the order of the request, each looked at at all places before the next.
+#[derive(Clone, Copy)]
+enum Rule {
+    First,
+    Aligned,
+    Rising,
+    Apart,
+    Inside,
+}
 
-const ALIGNED: usize = 1;
-
-const RISING: usize = 2;
-
-const APART: usize = 3;
-
-const RULES: usize = 5;
+const RULES: [Rule; 5] = [
+    Rule::First,
+    Rule::Aligned,
+    Rule::Rising,
+    Rule::Apart,
+    Rule::Inside,
+];
 
 // What is lent is the room of a plan.
 pub fn tell(refusal: Refusal, list: &[Structure], proposed: &[u16], lent: usize) {
+    let count = list.len();
     match refusal {
         Refusal::BadDescription => tell_bad(list),
-        Refusal::NoRoom => say_two(wording::FEW_ENTRIES, lent, list.len()),
-        Refusal::NoLayout => say_one(wording::NEEDED, needed(list)),
+        Refusal::NoRoom => say!(
+            "  the room has {lent:X} entries, and there are {count:X} structures\n"
+        ),
+        Refusal::NoLayout => {
+            let bytes = needed(list);
+            say!("  the structures need {bytes:X} bytes, and there are F00\n");
+        }
         _ => tell_unaccepted(list, proposed),
     }
 }
 
 fn tell_bad(list: &[Structure]) {
-    if list.len() == 0 {
-        say(wording::NO_STRUCTURE);
-        return;
-    }
-    if MOST < list.len() {
-        say_one(wording::TOO_MANY_STRUCTURES, list.len());
-        return;
-    }
-    tell_structure(list, first_faulty(list));
-}
-
-// The first structure that may not be laid out, or the end of the list.
-fn first_faulty(list: &[Structure]) -> usize {
-    let mut place = 0;
-    while place < list.len() {
-        if fault_of(list[place]) != NO_FAULT {
-            return place;
-        }
-        place += 1;
-    }
-    place
-}
-
-fn tell_structure(list: &[Structure], place: usize) {
-    say_one(wording::BAD_STRUCTURE, place);
-    put(texts::entry(
-        b"it may be laid out
-its ID is 0
-its version is over F
-its length is under 4
-its length is over F00
-",
-        fault_of(structures::at(list, place)),
-    ));
-    say(wording::END);
-}
-
-fn fault_of(structure: Structure) -> usize {
-    if structure[ID] == 0 {
-        return 1;
-    }
-    if 15 < structure[VERSION] {
-        return 2;
-    }
-    if structure[LENGTH] < 4 {
-        return 3;
-    }
-    if 3840 < structure[LENGTH] {
-        4
+    let count = list.len();
+    if count == 0 {
+        say!("  the list has no structure\n");
+    } else if MOST < count {
+        say!("  the list has {count:X} structures, and may have 3C0\n");
     } else {
-        NO_FAULT
+        tell_faulty(list);
+    }
+}
+
+// The first structure that may not be laid out.
+fn tell_faulty(list: &[Structure]) {
+    for (place, structure) in list.iter().enumerate() {
+        if let Some(fault) = fault_of(structure) {
+            say!("  structure {place:X}: {fault}\n");
+            return;
+        }
+    }
+}
+
+fn fault_of(structure: &Structure) -> Option<Fault> {
+    if structure.id == 0 {
+        return Some(Fault::NoId);
+    }
+    if 15 < structure.version {
+        return Some(Fault::Version);
+    }
+    match structure.length {
+        0..=3 => Some(Fault::Short),
+        4..=3840 => None,
+        _ => Some(Fault::Long),
     }
 }
 
 // How many bytes the structures need: each begins at a multiple of 4, and the last ends where it ends.
 fn needed(list: &[Structure]) -> usize {
     let mut bytes = 0;
-    let mut place = 0;
-    while place < list.len() {
-        bytes = std::num::wrapping_add_usize(rounded_up(bytes), length_of(list[place]));
-        place += 1;
+    for structure in list {
+        bytes = rounded_up(bytes).wrapping_add(structure.length as usize);
     }
     bytes
 }
 
 fn rounded_up(bytes: usize) -> usize {
-    let more = std::num::wrapping_add_usize(bytes, 3);
+    let more = bytes.wrapping_add(3);
     more - more % 4
 }
 
-fn length_of(structure: Structure) -> usize {
-    structure[LENGTH] as usize
-}
-
 fn tell_unaccepted(list: &[Structure], proposed: &[u16]) {
-    if proposed.len() != list.len() {
-        say_two(wording::OTHER_COUNT, proposed.len(), list.len());
+    let offsets = proposed.len();
+    let structures = list.len();
+    if offsets != structures {
+        say!("  the proposal has {offsets:X} offsets, and there are {structures:X} structures\n");
         return;
     }
-    let broken = first_broken(list, proposed);
-    tell_rule(list, proposed, broken / PLACES, broken % PLACES);
-}
-
-// The first rule that a proposal breaks, and the first place where it does, in one number.
-fn first_broken(list: &[Structure], proposed: &[u16]) -> usize {
-    let mut step = 0;
-    while step < RULES * PLACES {
-        if is_broken(list, proposed, step / PLACES, step % PLACES) {
-            return step;
+    for rule in RULES {
+        if tell_broken(rule, list, proposed) {
+            return;
         }
-        step += 1;
     }
-    step
 }
 
-fn is_broken(list: &[Structure], proposed: &[u16], rule: usize, place: usize) -> bool {
-    if proposed.len() <= place {
-        return false;
+// Tells the first place where a rule is broken. Says whether there is one. Before the first structure is one at 0, which has no bytes.
+fn tell_broken(rule: Rule, list: &[Structure], proposed: &[u16]) -> bool {
+    let mut before = 0;
+    let mut end = 0;
+    for (place, (structure, offset)) in list.iter().zip(proposed).enumerate() {
+        let at = *offset as usize;
+        let ends = at + structure.length as usize;
+        let limit = match rule {
+            Rule::First | Rule::Aligned => 0,
+            Rule::Rising => before,
+            Rule::Apart => end,
+            Rule::Inside => ends,
+        };
+        if is_broken(rule, place, at, limit) {
+            tell_rule(rule, place, at, limit);
+            return true;
+        }
+        before = at;
+        end = ends;
     }
-    let at = structures::offset_at(proposed, place);
-    let limit = limit_of(list, proposed, rule, place);
+    false
+}
+
+fn is_broken(rule: Rule, place: usize, at: usize, limit: usize) -> bool {
     match rule {
-        FIRST => is_other_start(place, at),
-        ALIGNED => at % 4 != 0,
-        RISING => at <= limit,
-        APART => at < limit,
-        _ => words::SPACE < limit,
+        Rule::First => place == 0 && at != 0x100,
+        Rule::Aligned => at % 4 != 0,
+        Rule::Rising => at <= limit,
+        Rule::Apart => at < limit,
+        Rule::Inside => words::SPACE < limit,
     }
 }
 
-fn is_other_start(place: usize, at: usize) -> bool {
-    if place == 0 { at != 0x100 } else { false }
-}
-
-// What a rule holds an offset against: the offset before it, where the structure there ends, or where its own ends. Before the first is 0.
-fn limit_of(list: &[Structure], proposed: &[u16], rule: usize, place: usize) -> usize {
-    let before = std::num::wrapping_sub_usize(place, 1);
+// The limit is the offset before, where the structure there ends, or where this one does.
+fn tell_rule(rule: Rule, place: usize, at: usize, limit: usize) {
+    say!("  structure {place:X} at {at:X}: ");
     match rule {
-        RISING => structures::offset_at(proposed, before),
-        APART => end_of(list, proposed, before),
-        _ => end_of(list, proposed, place),
+        Rule::First => say!("the first is not at 100\n"),
+        Rule::Aligned => say!("no multiple of 4\n"),
+        Rule::Rising => say!("not above the one before it, at {limit:X}\n"),
+        Rule::Apart => say!("the one before it ends at {limit:X}, and they overlap\n"),
+        Rule::Inside => say!("ends at {limit:X}, past 1000\n"),
     }
-}
-
-fn end_of(list: &[Structure], proposed: &[u16], place: usize) -> usize {
-    std::num::wrapping_add_usize(
-        structures::offset_at(proposed, place),
-        length_of(structures::at(list, place)),
-    )
-}
-
-// The texts are in the order of the rules.
-fn tell_rule(list: &[Structure], proposed: &[u16], rule: usize, place: usize) {
-    say_three(
-        wording::NOT_FIRST + rule % RULES,
-        place,
-        structures::offset_at(proposed, place),
-        limit_of(list, proposed, rule, place),
-    );
 }

@@ -1,155 +1,134 @@
 // An address is judged at the switch, by the records of its ports. What becomes of a packet for it is told, or held against what is expected: the
 // number, no hit or the group, and whether the packet is dropped or by which ports it leaves.
-use crate::slots::{Desk, NO_PORT};
+use crate::capabilities::Places;
+use crate::desks::Desk;
 use crate::tokens::Tokens;
-use crate::wording::{say, say_one, say_two};
-use crate::{
-    capabilities, completions, explaining, judging, keeping, missing, tokens, vocabulary, wording,
-};
+use crate::vocabulary::Word;
+use crate::{explaining, judging, missing, say};
+use answers::Refusal;
 use multicast::{Judged, Record};
 
-// What becomes of a packet; of one that is refused nothing is said. The numbers are those of saying.rt.
-const NOTHING: usize = 0;
-
-const NO_HIT: usize = 4;
-
-const DROPPED: usize = 5;
-
-const LEAVES: usize = 6;
-
-// NO_PORT stands for no group, and the ports are a set with a bit for each.
+// What becomes of a packet. The ports are a set with a bit for each.
 #[derive(Clone, Copy)]
-struct Verdict {
-    number: u8,
-    said: usize,
-    group: usize,
-    ports: usize,
+enum Fate {
+    NoHit,
+    Dropped { group: u8 },
+    Leaves { group: u8, ports: u64 },
+}
+
+impl Fate {
+    fn word(self) -> Word {
+        match self {
+            Fate::NoHit => Word::NoHit,
+            Fate::Dropped { .. } => Word::Dropped,
+            Fate::Leaves { .. } => Word::LeavesBy,
+        }
+    }
+
+    fn group(self) -> Option<usize> {
+        match self {
+            Fate::NoHit => None,
+            Fate::Dropped { group } | Fate::Leaves { group, .. } => Some(group as usize),
+        }
+    }
+
+    fn ports(self) -> u64 {
+        match self {
+            Fate::NoHit | Fate::Dropped { .. } => 0,
+            Fate::Leaves { ports, .. } => ports,
+        }
+    }
 }
 
 // Says whether this is a check that was right.
-pub fn ask(desk: &Desk, tokens: &Tokens, records: &[Record]) -> bool {
-    let list = keeping::list_of(desk, records);
-    let entering = tokens::at(tokens, 1);
-    let address = tokens::at(tokens, 2) as u64;
-    let verdict = verdict_of(multicast::judge(list, entering, address));
-    if tokens::is_check(tokens) {
-        if judge(desk, tokens, verdict) {
-            return true;
-        }
+pub fn ask(desk: &Desk, tokens: Tokens, list: &[Record]) -> bool {
+    let entering = tokens.number(1);
+    let address = tokens.number(2) as u64;
+    let fate = fate_of(multicast::judge(list, entering, address));
+    if tokens.is_check() && judge(desk, tokens, fate) {
+        return true;
     }
-    tell(verdict, list, entering, address);
+    tell(fate, list, entering, address);
     false
 }
 
-fn verdict_of(judged: Judged) -> Verdict {
+fn fate_of(judged: Judged) -> Result<Fate, Refusal> {
     match judged {
-        Judged::Refused(refusal) => without_group(refusal.number(), NOTHING),
-        Judged::NoHit => without_group(0, NO_HIT),
-        Judged::Dropped { group } => with_group(DROPPED, group, 0),
-        Judged::Leaves { group, ports } => with_group(LEAVES, group, ports as usize),
+        Judged::Refused(refusal) => Err(refusal),
+        Judged::NoHit => Ok(Fate::NoHit),
+        Judged::Dropped { group } => Ok(Fate::Dropped { group }),
+        Judged::Leaves { group, ports } => Ok(Fate::Leaves {
+            group,
+            ports: ports as u64,
+        }),
     }
 }
 
-fn without_group(number: u8, said: usize) -> Verdict {
-    Verdict {
-        number,
-        said,
-        group: NO_PORT,
-        ports: 0,
-    }
+// Of an address that is refused nothing is said.
+fn judge(desk: &Desk, tokens: Tokens, fate: Result<Fate, Refusal>) -> bool {
+    let (word, group, ports) = match fate {
+        Ok(fate) => (Some(fate.word()), fate.group(), fate.ports()),
+        Err(_) => (None, None, 0),
+    };
+    let wanted = judging::first_of(&[Word::NoHit, Word::Dropped, Word::LeavesBy], tokens);
+    let answered = judging::number(desk, tokens, answers::number(&fate));
+    let said = judging::said(desk, word, wanted);
+    let grouped = judging::perhaps(desk, "group", group, wanted_group(tokens));
+    answered & said & grouped & judge_ports(desk, ports, wanted_ports(tokens))
 }
 
-fn with_group(said: usize, group: u8, ports: usize) -> Verdict {
-    Verdict {
-        number: 0,
-        said,
-        group: group as usize,
-        ports,
-    }
-}
-
-fn judge(desk: &Desk, tokens: &Tokens, verdict: Verdict) -> bool {
-    let answered = judging::number(desk, tokens, verdict.number);
-    let said = judging::value(desk, wording::WRONG_SAID, verdict.said, wanted_said(tokens));
-    let group = judging::value(
-        desk,
-        wording::WRONG_GROUP,
-        verdict.group,
-        wanted_group(tokens),
-    );
-    answered & said & group & judge_ports(desk, verdict.ports, wanted_ports(tokens))
-}
-
-fn wanted_said(tokens: &Tokens) -> usize {
-    if completions::is_wanted(tokens, vocabulary::NO_HIT) {
-        return NO_HIT;
-    }
-    if completions::is_wanted(tokens, vocabulary::DROPPED) {
-        return DROPPED;
-    }
-    if completions::is_wanted(tokens, vocabulary::LEAVES_BY) {
-        return LEAVES;
-    }
-    NOTHING
-}
-
-fn wanted_group(tokens: &Tokens) -> usize {
-    let place = tokens::behind(tokens, vocabulary::GROUP);
-    if tokens::is_said(tokens, place) {
-        tokens::at(tokens, place)
+fn wanted_group(tokens: Tokens) -> Option<usize> {
+    if tokens.expects(Word::Group) {
+        Some(tokens.expected(Word::Group).number(0))
     } else {
-        NO_PORT
+        None
     }
 }
 
 // The set of the ports behind their word, in whatever order.
-fn wanted_ports(tokens: &Tokens) -> usize {
-    let from = tokens::behind(tokens, vocabulary::LEAVES_BY);
-    let count = tokens::numbers_from(tokens, from);
+fn wanted_ports(tokens: Tokens) -> u64 {
+    let numbers = tokens.expected(Word::LeavesBy);
     let mut set = 0;
-    let mut done = 0;
-    while done < count {
-        let port = tokens::at(tokens, std::num::wrapping_add_usize(from, done));
-        set |= 1 << port % 64;
-        done += 1;
+    for place in 0..numbers.count() {
+        set |= 1u64 << (numbers.number(place) % 64);
     }
     set
 }
 
-fn judge_ports(desk: &Desk, found: usize, wanted: usize) -> bool {
+fn judge_ports(desk: &Desk, found: u64, wanted: u64) -> bool {
     if found == wanted {
         return true;
     }
-    judging::begin_difference(desk);
-    say(wording::WRONG_PORTS);
-    capabilities::put_places(found);
-    say(wording::EXPECTED);
-    capabilities::put_places(wanted);
-    say(wording::END);
+    let found = Places(found);
+    let wanted = Places(wanted);
+    desk.begin_difference();
+    say!("ports{found}, expected{wanted}\n");
     false
 }
 
-fn tell(verdict: Verdict, list: &[Record], entering: usize, address: u64) {
-    let said = verdict.said;
-    if said == NOTHING {
-        explaining::put_number_as(verdict.number, explaining::BAD_RECORDS);
-        missing::tell_refused(list, entering);
-        return;
-    }
-    explaining::put_number(verdict.number);
-    match said {
-        NO_HIT => missing::tell_no_hit(keeping::record_at(list, entering), entering, address),
-        DROPPED => say_two(wording::DROPPED, verdict.group, entering),
-        _ => tell_leaving(verdict.group, verdict.ports),
+fn tell(fate: Result<Fate, Refusal>, list: &[Record], entering: usize, address: u64) {
+    match fate {
+        Err(refusal) => {
+            explaining::put_number(refusal.number(), missing::REFUSED);
+            missing::tell_refused(list, entering);
+        }
+        Ok(fate) => {
+            explaining::put_number(0, explaining::ANSWERED);
+            tell_fate(fate, list, entering, address);
+        }
     }
 }
 
-fn tell_leaving(group: usize, ports: usize) {
-    if ports == 0 {
-        say_one(wording::LEAVES_NOWHERE, group);
-        return;
+fn tell_fate(fate: Fate, list: &[Record], entering: usize, address: u64) {
+    match fate {
+        Fate::NoHit => missing::tell_no_hit(list, entering, address),
+        Fate::Dropped { group } => say!(
+            "  group {group:X}, dropped where it enters: the Block All bit of port {entering:X} is 1\n"
+        ),
+        Fate::Leaves { group, ports: 0 } => say!("  group {group:X}, leaves by no port\n"),
+        Fate::Leaves { group, ports } => {
+            let places = Places(ports);
+            say!("  group {group:X}, leaves by ports:{places}\n");
+        }
     }
-    say_one(wording::LEAVES_BY, group);
-    capabilities::put_places(ports);
-    say(wording::END);
 }

@@ -1,255 +1,224 @@
 // The words of the desk's language, as they are written.
-use crate::texts;
-
-// A token is a number, one of the words below, or unknown.
-pub const NUMERAL: usize = 0;
-
-pub const UNKNOWN: usize = 1;
-
-// Statements about the desk itself.
-pub const HELP: usize = 2;
-
-pub const ECHO: usize = 3;
-
-pub const SHEET: usize = 4;
-
-pub const END: usize = 5;
-
-// Statements that set the board, the ports of the switch with their records, and the structures of a new board with their proposal; some of them are
-// expected too.
-pub const FRESH: usize = 6;
-
-pub const OPEN: usize = 7;
-
-pub const BLANK: usize = 8;
-
-pub const TAKE: usize = 9;
-
-pub const FUNCTION: usize = 10;
-
-pub const A: usize = 11;
-
-pub const B: usize = 12;
-
-pub const EDITION: usize = 13;
-
-pub const CAPTURED: usize = 14;
-
-pub const FORGOTTEN: usize = 15;
-
-pub const ORDINARY: usize = 16;
-
-pub const TRUSTED: usize = 17;
-
-pub const ORDINARY_RULES: usize = 18;
-
-pub const TRUSTED_RULES: usize = 19;
-
-pub const ORDINARY_MARKS: usize = 20;
-
-pub const TRUSTED_MARKS: usize = 21;
-
-pub const CHAIN: usize = 22;
-
-pub const PORTS: usize = 23;
-
-pub const RECORDS: usize = 24;
-
-pub const RECORD: usize = 25;
-
-pub const STRUCTURES: usize = 26;
-
-pub const MORE: usize = 27;
-
-pub const PROPOSAL: usize = 28;
-
-pub const MOVE: usize = 29;
-
-pub const SIZES: usize = 30;
-
-pub const ROOM: usize = 31;
-
-// To look, and the questions.
-pub const SHOW: usize = 32;
-
-pub const PACKET: usize = 33;
-
-pub const RESET: usize = 34;
-
-pub const MERGE: usize = 35;
-
-pub const WALK: usize = 36;
-
-pub const DVSEC: usize = 37;
-
-pub const DUAL: usize = 38;
-
-pub const ROUTE: usize = 39;
-
-pub const ASK: usize = 40;
-
-pub const COMPLETION: usize = 41;
-
-pub const MULTICAST: usize = 42;
-
-pub const KEEP: usize = 43;
-
-pub const JUDGE: usize = 44;
-
-pub const PLAN: usize = 45;
-
-pub const ACCEPT: usize = 46;
-
-pub const WRITE: usize = 47;
-
-// What is only expected.
-pub const NUMBER: usize = 48;
-
-pub const REPLY: usize = 49;
-
-pub const BYTES: usize = 50;
-
-pub const OFFSETS: usize = 51;
-
-pub const STEPS: usize = 52;
-
-pub const PLACE: usize = 53;
-
-pub const HEADER: usize = 54;
-
-pub const BODY: usize = 55;
-
-pub const ALTERNATE: usize = 56;
-
-pub const PORT: usize = 57;
-
-pub const LEAVES: usize = 58;
-
-pub const WRITES: usize = 59;
-
-pub const COMPLETER: usize = 60;
-
-pub const REQUESTER: usize = 61;
-
-pub const TAG: usize = 62;
-
-pub const SHOWN: usize = 63;
-
-pub const DONE: usize = 64;
-
-pub const UNSUPPORTED: usize = 65;
-
-pub const FIELDS: usize = 66;
-
-pub const GROUP: usize = 67;
-
-pub const LEAVES_BY: usize = 68;
-
-pub const DROPPED: usize = 69;
-
-pub const NO_HIT: usize = 70;
-
-pub const HEADERS: usize = 71;
-
-pub const ALIKE: usize = 72;
-
-// The lists, beside the trusted one.
-pub const COMPATIBLE: usize = 73;
-
-pub const EXTENDED: usize = 74;
-
-// A function of a board, beside the alternate.
-pub const PRIMARY: usize = 75;
-
-// The marks of an expectation.
-pub const ARROW: usize = 76;
-
-pub const COMMA: usize = 77;
-
-// The table has the words in the order of their numbers, from HELP on.
-pub fn word_of(text: &[u8]) -> usize {
-    let place = texts::place_of(
-        text,
-        b"help
-echo
-sheet
-end
-fresh
-open
-blank
-take
-function
-A
-B
-edition
-captured
-forgotten
-ordinary
-trusted
-ordinary-rules
-trusted-rules
-ordinary-marks
-trusted-marks
-chain
-ports
-records
-record
-structures
-more
-proposal
-move
-sizes
-room
-show
-packet
-reset
-merge
-walk
-dvsec
-dual
-route
-ask
-completion
-multicast
-keep
-judge
-plan
-accept
-write
-number
-reply
-bytes
-offsets
-steps
-place
-header
-body
-alternate
-port
-leaves
-writes
-completer
-requester
-tag
-shown
-done
-unsupported
-fields
-group
-leaves-by
-dropped
-no-hit
-headers
-alike
-compatible
-extended
-primary
-->
-,
-",
-    );
-    if place == texts::NOWHERE {
-        return UNKNOWN;
+use std::fmt;
+use std::fmt::{Display, Formatter};
+
+#[derive(Clone, Copy, PartialEq, Eq)]
+pub enum Word {
+    // Statements about the desk itself.
+    Help,
+    Echo,
+    Sheet,
+    End,
+    // Statements that set the board, the ports of the switch with their records, and the structures of a new board with their proposal; some of
+    // them are expected too.
+    Fresh,
+    Open,
+    Blank,
+    Take,
+    Function,
+    A,
+    B,
+    Edition,
+    Captured,
+    Forgotten,
+    Ordinary,
+    Trusted,
+    OrdinaryRules,
+    TrustedRules,
+    OrdinaryMarks,
+    TrustedMarks,
+    Chain,
+    Ports,
+    Records,
+    Record,
+    Structures,
+    More,
+    Proposal,
+    Move,
+    Sizes,
+    Room,
+    // To look, and the questions.
+    Show,
+    Packet,
+    Reset,
+    Merge,
+    Walk,
+    Dvsec,
+    Dual,
+    Route,
+    Ask,
+    Completion,
+    Multicast,
+    Keep,
+    Judge,
+    Plan,
+    Accept,
+    Write,
+    // What is only expected.
+    Number,
+    Reply,
+    Bytes,
+    Offsets,
+    Steps,
+    Place,
+    Header,
+    Body,
+    Alternate,
+    Port,
+    Leaves,
+    Writes,
+    Completer,
+    Requester,
+    Tag,
+    Shown,
+    Done,
+    Unsupported,
+    Fields,
+    Group,
+    LeavesBy,
+    Dropped,
+    NoHit,
+    Headers,
+    Alike,
+    // The lists, beside the trusted one.
+    Compatible,
+    Extended,
+    // A function of a board, beside the alternate.
+    Primary,
+    // The marks of an expectation.
+    Arrow,
+    Comma,
+}
+
+static WORDS: [(&str, Word); 76] = [
+    ("help", Word::Help),
+    ("echo", Word::Echo),
+    ("sheet", Word::Sheet),
+    ("end", Word::End),
+    ("fresh", Word::Fresh),
+    ("open", Word::Open),
+    ("blank", Word::Blank),
+    ("take", Word::Take),
+    ("function", Word::Function),
+    ("A", Word::A),
+    ("B", Word::B),
+    ("edition", Word::Edition),
+    ("captured", Word::Captured),
+    ("forgotten", Word::Forgotten),
+    ("ordinary", Word::Ordinary),
+    ("trusted", Word::Trusted),
+    ("ordinary-rules", Word::OrdinaryRules),
+    ("trusted-rules", Word::TrustedRules),
+    ("ordinary-marks", Word::OrdinaryMarks),
+    ("trusted-marks", Word::TrustedMarks),
+    ("chain", Word::Chain),
+    ("ports", Word::Ports),
+    ("records", Word::Records),
+    ("record", Word::Record),
+    ("structures", Word::Structures),
+    ("more", Word::More),
+    ("proposal", Word::Proposal),
+    ("move", Word::Move),
+    ("sizes", Word::Sizes),
+    ("room", Word::Room),
+    ("show", Word::Show),
+    ("packet", Word::Packet),
+    ("reset", Word::Reset),
+    ("merge", Word::Merge),
+    ("walk", Word::Walk),
+    ("dvsec", Word::Dvsec),
+    ("dual", Word::Dual),
+    ("route", Word::Route),
+    ("ask", Word::Ask),
+    ("completion", Word::Completion),
+    ("multicast", Word::Multicast),
+    ("keep", Word::Keep),
+    ("judge", Word::Judge),
+    ("plan", Word::Plan),
+    ("accept", Word::Accept),
+    ("write", Word::Write),
+    ("number", Word::Number),
+    ("reply", Word::Reply),
+    ("bytes", Word::Bytes),
+    ("offsets", Word::Offsets),
+    ("steps", Word::Steps),
+    ("place", Word::Place),
+    ("header", Word::Header),
+    ("body", Word::Body),
+    ("alternate", Word::Alternate),
+    ("port", Word::Port),
+    ("leaves", Word::Leaves),
+    ("writes", Word::Writes),
+    ("completer", Word::Completer),
+    ("requester", Word::Requester),
+    ("tag", Word::Tag),
+    ("shown", Word::Shown),
+    ("done", Word::Done),
+    ("unsupported", Word::Unsupported),
+    ("fields", Word::Fields),
+    ("group", Word::Group),
+    ("leaves-by", Word::LeavesBy),
+    ("dropped", Word::Dropped),
+    ("no-hit", Word::NoHit),
+    ("headers", Word::Headers),
+    ("alike", Word::Alike),
+    ("compatible", Word::Compatible),
+    ("extended", Word::Extended),
+    ("primary", Word::Primary),
+    ("->", Word::Arrow),
+    (",", Word::Comma),
+];
+
+impl Word {
+    // The word that a text is, if it is one.
+    pub fn of(text: &[u8]) -> Option<Word> {
+        WORDS
+            .iter()
+            .find(|(name, _)| name.as_bytes() == text)
+            .map(|(_, word)| *word)
     }
-    std::num::wrapping_add_usize(HELP, place)
+
+    // Whether a line may begin with it.
+    pub fn is_statement(self) -> bool {
+        match self {
+            Word::Help | Word::Echo | Word::Sheet | Word::End => true,
+            Word::Fresh | Word::Open | Word::Blank | Word::Take => true,
+            Word::Function | Word::A | Word::B | Word::Edition => true,
+            Word::Captured | Word::Forgotten => true,
+            Word::Ordinary | Word::OrdinaryRules | Word::OrdinaryMarks => true,
+            Word::Trusted | Word::TrustedRules | Word::TrustedMarks => true,
+            Word::Chain | Word::Ports | Word::Records | Word::Record => true,
+            Word::Structures | Word::More | Word::Proposal | Word::Move => true,
+            Word::Sizes | Word::Room | Word::Show => true,
+            _ => self.is_question(),
+        }
+    }
+
+    // Whether it is a statement that has an answer, which may be expected.
+    pub fn is_question(self) -> bool {
+        match self {
+            Word::Packet | Word::Reset | Word::Merge | Word::Walk => true,
+            Word::Dvsec | Word::Dual | Word::Route | Word::Ask => true,
+            Word::Completion | Word::Multicast | Word::Keep | Word::Judge => true,
+            Word::Plan | Word::Accept | Word::Write => true,
+            _ => false,
+        }
+    }
+
+    // Whether it parts clauses.
+    pub fn is_mark(self) -> bool {
+        match self {
+            Word::Arrow | Word::Comma => true,
+            _ => false,
+        }
+    }
+}
+
+impl Display for Word {
+    fn fmt<W: fmt::Write>(&self, f: &mut Formatter<W>) -> fmt::Result {
+        match WORDS.iter().find(|(_, word)| *word == *self) {
+            Some((name, _)) => write!(f, "{name}"),
+            None => Ok(()),
+        }
+    }
 }

@@ -1,13 +1,13 @@
 -- What can happen to a board of two functions, one thing after the other: packets and resets, or calls of `pair::serve` and `pair::reset`. Assumes
 -- nothing.
 use Rattle.std.specs.Prelude.{ℕ, List, [], ◌∷◌, ◌≡◌, length, take}
-use Rattle.answers.specs.Numbers.{answer_of}
+use Rattle.answers.specs.Numbers as numbers
+use Rattle.board.specs.Promise.{count_of}
 use Rattle.runs.specs.Run.{Event, packet, reset}
 use Rattle.pair.specs.declared.Captures.{Captures}
-use Rattle.pair.specs.declared.Served.{Served}
 use Rattle.pair.specs.Pair.{Pair, forgotten_both}
 use Rattle.pair.specs.Serving.{PairOutcome, serve_pair, pair_after_reset}
-use Rattle.pair.specs.Promise.{PairServes, pair_after_call}
+use Rattle.pair.specs.Promise.{Served, PairServes, pair_after_call}
 
 -- the steps of a row: the event that each is, the pair after it, the number that it is answered with, and the reply bytes that it writes
 pub record Row (Step : Type 0) : Type 0 where
@@ -44,7 +44,7 @@ runs =
 
 -- ---- calls of the entries
 
--- a call of `pair::serve`: the packet and the reply as lent, the result, and the four spaces and the reply at its end; or of `pair::reset`: its result
+-- a call of `pair::serve`: the packet and the reply as lent, what it tells, and the four spaces and the reply at its end; or of `pair::reset`: its result
 pub data PairCall : Type 0 where
   called : (bytes reply : List ℕ) (result : Served) (primary_ordinary primary_trusted alternate_ordinary alternate_trusted replied : List ℕ) → PairCall
   was_reset : (kept : Captures) → PairCall
@@ -54,7 +54,7 @@ abbrev pub event_of : PairCall → Event
 event_of (called bytes reply result po pt ao at replied) = packet bytes (length reply)
 event_of (was_reset kept) = reset
 
--- what the caller holds after a call: the captures that were handed back, and the spaces as the call left them
+-- what the caller holds after a call: the captures as they then are, and the spaces as the call left them
 abbrev pub holds : Pair → PairCall → Pair
 holds pair (called bytes reply result po pt ao at replied) = pair_after_call pair result.kept po pt ao at
 holds pair (was_reset kept) =
@@ -62,11 +62,11 @@ holds pair (was_reset kept) =
 
 -- the number that a call answered, and the part of the reply that it says it wrote
 abbrev pub answered : PairCall → ℕ
-answered (called bytes reply result po pt ao at replied) = answer_of result.answer
+answered (called bytes reply result po pt ao at replied) = numbers.answered result.answer
 answered (was_reset kept) = 0
 
 abbrev pub wrote : PairCall → List ℕ
-wrote (called bytes reply result po pt ao at replied) = take result.length replied
+wrote (called bytes reply result po pt ao at replied) = take (count_of result.answer) replied
 wrote (was_reset kept) = []
 
 abbrev pub calls : Row PairCall

@@ -7,8 +7,10 @@ use mathlib.Core.Path.{◌≡◌, refl, ap}
 use native.Mathlib.Omega.{arith}
 use lib.Dec.{lit<, lit≤}
 use lib.ListN.{length, replicate}
-use Rattle.answers.specs.Numbers.{answer_of}
-use Rattle.answers.specs.declared.Answer.{Answer}
+use Rattle.std.specs.Prelude.{⊤, Result}
+use Rattle.answers.specs.Numbers.{answered}
+use Rattle.answers.specs.declared.Refusal.{Refusal}
+use Rattle.layout.specs.declared.Structure.{Structure}
 use Rattle.layout.specs.Structures.{is_bad, are_bad}
 use Rattle.layout.specs.Accepting.{offset_at}
 use Rattle.layout.specs.Proposing.{rounded_up, needed, Lowest, Plans}
@@ -19,25 +21,25 @@ use Rattle.layout.proofs.Sound.{given, bad_exactly}
 use Rattle.layout.proofs.Unique.{unlike, lowest_unique}
 
 -- a structure of so many bytes
-abbrev pub of : ℕ → List ℕ
-of n = 0x000b ∷ 1 ∷ n ∷ []
+abbrev pub of : ℕ → Structure
+of n = record { id = 0x000b; version = 1; length = n }
 
 -- so many of 4 bytes, and a last one
-unfoldable pub full_with : ℕ → ℕ → List (List ℕ)
+unfoldable pub full_with : ℕ → ℕ → List Structure
 full_with n last = replicate n (of 4) ++ of last ∷ []
 
 -- what every planner answers, with room enough
-abbrev pub Answers : List (List ℕ) → ℕ → Type 0
+abbrev pub Answers : List Structure → ℕ → Type 0
 Answers structures number =
-    (room : List ℕ) (r : Answer) (after : List ℕ) → length structures ≤ length room → Plans structures room r after → answer_of r ≡ number
+    (room : List ℕ) (r : Result ⊤ Refusal) (after : List ℕ) → length structures ≤ length room → Plans structures room r after → answered r ≡ number
 
-described : (structures : List (List ℕ)) → are_bad structures ≡ false → Described structures
+described : (structures : List Structure) → are_bad structures ≡ false → Described structures
 described structures good cause = unlike ((bad_exactly structures).1 cause) good
 
-fits : (structures : List (List ℕ)) → are_bad structures ≡ false → needed structures ≤ 3840 → Answers structures 0
+fits : (structures : List Structure) → are_bad structures ≡ false → needed structures ≤ 3840 → Answers structures 0
 fits structures good h room r after roomy p = (plan_number structures room r after p).zero.1 (described structures good, roomy, h)
 
-exceeds : (structures : List (List ℕ)) → are_bad structures ≡ false → 3840 < needed structures → Answers structures 14
+exceeds : (structures : List Structure) → are_bad structures ≡ false → 3840 < needed structures → Answers structures 14
 exceeds structures good h room r after roomy p = (plan_number structures room r after p).exceeds.1 (described structures good, roomy, h)
 
 -- "960 structures of 4 bytes fill the space exactly": the last stands at FFCh, and every proposal that lies lowest says so
@@ -90,7 +92,7 @@ behind_five_to_eight =
 
 -- each cause of 1 at its edge
 pub bad_edges :
-    (is_bad (0x0000 ∷ 1 ∷ 4 ∷ []) ≡ true) × (is_bad (0x0001 ∷ 15 ∷ 4 ∷ []) ≡ false) × (is_bad (0xffff ∷ 16 ∷ 4 ∷ []) ≡ true)
-    × (is_bad (of 3) ≡ true) × (is_bad (of 3841) ≡ true) × (are_bad [] ≡ true)
+    (is_bad (record { id = 0x0000; version = 1; length = 4 }) ≡ true) × (is_bad (record { id = 0x0001; version = 15; length = 4 }) ≡ false)
+    × (is_bad (record { id = 0xffff; version = 16; length = 4 }) ≡ true) × (is_bad (of 3) ≡ true) × (is_bad (of 3841) ≡ true) × (are_bad [] ≡ true)
 unfolding are_bad is_bad
 bad_edges = (refl, refl, refl, refl, refl, refl)

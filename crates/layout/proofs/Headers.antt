@@ -1,15 +1,26 @@
 -- Laws of a header: its four bytes, and its fields read back. Assumes nothing.
-use Prim.Native.Nat.{ℕ, ◌+◌, ◌*◌, ◌/◌, ◌%◌, ◌≤◌, ◌<◌}
+use Prim.Native.Nat.{ℕ, ◌+◌, ◌*◌, ◌/◌, ◌%◌, ◌^◌, ◌≤◌, ◌<◌}
 use mathlib.Core.List.{List, [], ◌∷◌}
 use mathlib.Core.Path.{◌≡◌, sym, ap, ◌∙◌}
+use native.Mathlib.Nat.{mod-eq_of_lt}
 use native.Mathlib.Omega.{arith}
+use lib.Bits.{bit_or, or_shifted}
 use lib.ListN.{get_or}
 use Rattle.words.specs.Fields.{bits, joined}
+use Rattle.layout.specs.declared.Structure.{Structure}
 use Rattle.layout.specs.Structures.{identity, version}
 use Rattle.layout.specs.Laying.{header_word, four_of}
 
+-- its fields have no bit in common
+pub header_bits : (i v n : ℕ) → i < 65536 → v ≤ 15 → n ≤ 0xfff
+    → bit_or (bit_or (n * 1048576 % 4294967296) (v * 65536 % 4294967296)) i ≡ i + 2 ^ 16 * v + 2 ^ 20 * n
+header_bits i v n a b c =
+    let upper : n * 1048576 + v * 65536 ≡ (16 * n + v) * 65536 = omega arith in
+    rw (mod-eq_of_lt {n = n * 1048576} {m = 4294967296} (omega arith), mod-eq_of_lt {n = v * 65536} {m = 4294967296} (omega arith), or_shifted n 20 (v * 65536) (omega arith), upper, or_shifted (16 * n + v) 16 i (omega arith))
+    (omega arith)
+
 -- the bytes by halves: the ID, and behind it the version below the pointer
-pub header_bytes : (structure : List ℕ) (next : ℕ) → identity structure < 65536 → version structure ≤ 15 → next ≤ 0xfff
+pub header_bytes : (structure : Structure) (next : ℕ) → identity structure < 65536 → version structure ≤ 15 → next ≤ 0xfff
     → identity structure % 256
     ∷ identity structure / 256
     ∷ (version structure + 16 * next) % 256
@@ -43,7 +54,7 @@ fields_of w i v n e a b c =
     let top : w / 1048576 ≡ n = omega arith in
     record { id = omega arith; versioned = rw upper (omega arith); points = rw top (omega arith) }
 
-pub header_fields : (structure : List ℕ) (next a b c d : ℕ) → identity structure < 65536 → version structure ≤ 15 → next ≤ 0xfff
+pub header_fields : (structure : Structure) (next a b c d : ℕ) → identity structure < 65536 → version structure ≤ 15 → next ≤ 0xfff
     → a ∷ b ∷ c ∷ d ∷ [] ≡ four_of (header_word structure next) → Fields (joined a b c d) (identity structure) (version structure) next
 header_fields structure next a b c d i v n e =
     let f = header_bytes structure next i v n in

@@ -3,30 +3,26 @@
 use Prim.Native.Nat.{ℕ, zero, suc, ◌+◌, ◌≤◌, ◌<◌}
 use mathlib.Core.Bool.{false}
 use mathlib.Core.List.{List, [], ◌∷◌}
-use mathlib.Core.Logic.◌⊎◌.{inr}
 use mathlib.Core.Path.{◌≡◌, refl, sym, ap, ◌∙◌}
 use native.Mathlib.Nat.{add-zero}
 use native.Mathlib.Omega.{arith}
 use borrow.Author.Tests.{ltb-true, ltb-false}
 use lib.Dec.{ltb}
 use lib.ListN.{length}
-use Rattle.answers.specs.Numbers.{answer_of}
-use Rattle.answers.specs.declared.Answer.{Answer}
-use Rattle.answers.specs.declared.Answer.TheVariants.{Done, Refused}
-use Rattle.answers.specs.declared.Refusal.{Refusal}
-use Rattle.answers.proofs.Unique.{number_positive}
+use Rattle.std.specs.Prelude.{⊤, Ok}
 use Rattle.words.specs.Bytes.{byte, four, put}
 use Rattle.words.proofs.Laws.{put_length, put_there, put_before, put_after, four_elsewhere}
+use Rattle.layout.specs.declared.Structure.{Structure}
 use Rattle.layout.specs.Structures.{extent, structure_at, are_bad}
 use Rattle.layout.specs.Accepting.{offset_at, Acceptable, Checks, Checks.misdescribed, Checks.unaccepted, Checks.accepted}
-use Rattle.layout.specs.Laying.{header_word, four_of, next_at, InHeader, Written, Writes, Writes.misdescribed, Writes.unaccepted}
+use Rattle.layout.specs.Laying.{header_word, four_of, next_at, InHeader, Written, Writes.misdescribed, Writes.unaccepted}
 use Rattle.layout.specs.Inner.{laid, MayBeLaid}
 use Rattle.layout.proofs.Sound.{Given, tested}
 use Rattle.layout.proofs.Orderly.{Orderly, others_of, acceptable_orderly}
 
 -- ---- a header that is put
 
-module _ (s : List ℕ) (at : ℕ) (structure : List ℕ) (next : ℕ) (fits : at + 4 ≤ length s) where
+module _ (s : List ℕ) (at : ℕ) (structure : Structure) (next : ℕ) (fits : at + 4 ≤ length s) where
   pub header_there : four (put s at (four_of (header_word structure next))) at ≡ four_of (header_word structure next)
   header_there =
       λ i. first i ∷ put_there s at (four_of (header_word structure next)) fits 1 (omega arith) i
@@ -52,7 +48,7 @@ module _ (s : List ℕ) (at : ℕ) (structure : List ℕ) (next : ℕ) (fits : a
 abbrev pub Inside : List ℕ → List ℕ → Type 0
 Inside offsets s = (k : ℕ) → k < length offsets → offset_at offsets k + 4 ≤ length s
 
-pub laid_length : (structures : List (List ℕ)) (offsets s : List ℕ) → Inside offsets s → length (laid structures offsets s) ≡ length s
+pub laid_length : (structures : List Structure) (offsets s : List ℕ) → Inside offsets s → length (laid structures offsets s) ≡ length s
 unfolding laid
 laid_length [] offsets s h = refl
 laid_length (structure ∷ structures) [] s h = refl
@@ -61,7 +57,7 @@ laid_length (structure ∷ structures) (at ∷ offsets) s h =
     put_length (laid structures offsets s) at (four_of (header_word structure (offset_at offsets 0))) (omega (arith, rest, h 0 (omega arith))) ∙ rest
 
 module _ (s : List ℕ) where
-  laid_headers : (ended : ℕ) (structures : List (List ℕ)) (offsets : List ℕ) → Orderly ended structures offsets
+  laid_headers : (ended : ℕ) (structures : List Structure) (offsets : List ℕ) → Orderly ended structures offsets
       → ((k : ℕ) → k < length structures → 4 ≤ extent (structure_at structures k)) → Inside offsets s → (k : ℕ) → k < length offsets
       → four (laid structures offsets s) (offset_at offsets k) ≡ four_of (header_word (structure_at structures k) (next_at offsets k))
   unfolding laid
@@ -80,7 +76,7 @@ module _ (s : List ℕ) where
       ∙ laid_headers (at + extent structure) structures offsets (others_of o) (λ j less. long (suc j) (omega arith))
       (λ j less. h (suc j) (omega arith)) k (omega arith)
 
-  laid_others : (structures : List (List ℕ)) (offsets : List ℕ) → Inside offsets s → (place : ℕ) → (InHeader offsets place → ⊥)
+  laid_others : (structures : List Structure) (offsets : List ℕ) → Inside offsets s → (place : ℕ) → (InHeader offsets place → ⊥)
       → byte (laid structures offsets s) place ≡ byte s place
   unfolding laid
   laid_others [] offsets h place out = refl
@@ -92,7 +88,7 @@ module _ (s : List ℕ) where
       ∙ laid_others structures offsets (λ j less. h (suc j) (omega arith)) place
       (λ i. out (record { which = suc i.which; one = omega (arith, i.one); from = i.from; before = i.before }))
 
-module _ {structures : List (List ℕ)} {offsets : List ℕ} (s : List ℕ) (g : Given structures) (whole : length s ≡ 4096) (a : Acceptable structures offsets) where
+module _ {structures : List Structure} {offsets : List ℕ} (s : List ℕ) (g : Given structures) (whole : length s ≡ 4096) (a : Acceptable structures offsets) where
   headers_inside : Inside offsets s
   headers_inside k small =
       omega (arith, a.inside k small, (g.sound k (omega (arith, a.each))).least)
@@ -114,18 +110,9 @@ module _ {structures : List (List ℕ)} {offsets : List ℕ} (s : List ℕ) (g :
         others = laid_others s structures offsets headers_inside;
       }
 
--- ---- what the checker has said
-
--- it refused
-pub refused_writes : {structures : List (List ℕ)} {offsets s : List ℕ} {answer : Answer} {refusal : Refusal} → length s ≡ 4096 → Checks structures offsets answer
-    → answer ≡ Refused refusal → Writes structures offsets s (Refused refusal) s
-refused_writes whole (misdescribed bad e) is = misdescribed (inr bad) (record { given = ap answer_of (sym is) ∙ e; kept = refl })
-refused_writes whole (unaccepted good n e) is = unaccepted whole good n (record { given = ap answer_of (sym is) ∙ e; kept = refl })
-refused_writes {refusal = refusal} whole (accepted good a e) is = absurd (number_positive refusal (ap answer_of (sym is) ∙ e))
-
--- it accepted
-pub accepted_by : {structures : List (List ℕ)} {offsets : List ℕ} {answer : Answer} → Checks structures offsets answer → answer ≡ Done
+-- ---- what the checker has said: it accepted
+pub accepted_by : {structures : List Structure} {offsets : List ℕ} {unit : ⊤} → Checks structures offsets (Ok unit)
     → (are_bad structures ≡ false) × Acceptable structures offsets
-accepted_by (misdescribed bad e) is = absurd (omega (arith, ap answer_of (sym is) ∙ e))
-accepted_by (unaccepted good n e) is = absurd (omega (arith, ap answer_of (sym is) ∙ e))
-accepted_by (accepted good a e) is = (good, a)
+accepted_by (misdescribed bad e) = absurd (omega (arith, e))
+accepted_by (unaccepted good n e) = absurd (omega (arith, e))
+accepted_by (accepted good a e) = (good, a)

@@ -9,8 +9,9 @@ use native.Mathlib.Omega.{arith}
 use borrow.Author.Tests.{ltb-true, ltb-false}
 use lib.Dec.{ltb, lit≤}
 use lib.ListN.{length, get_or-eq_default}
-use Rattle.answers.specs.Numbers.{answer_of}
-use Rattle.answers.specs.declared.Answer.{Answer}
+use Rattle.std.specs.Prelude.{⊤, Result}
+use Rattle.answers.specs.Numbers.{answered}
+use Rattle.answers.specs.declared.Refusal.{Refusal}
 use Rattle.words.specs.Bytes.{byte}
 use Rattle.words.specs.Fields.{bits, word}
 use Rattle.lists.specs.declared.Kind.TheVariants.{Compatible, Extended}
@@ -23,6 +24,7 @@ use Rattle.lists.proofs.FirstWord.{first_some}
 use Rattle.lists.proofs.Maxima.{met_within}
 use Rattle.lists.proofs.OneChain.{legal_unique}
 use Rattle.lists.proofs.Pointers.{Bytes, Within, first_within, follows_within}
+use Rattle.layout.specs.declared.Structure.{Structure}
 use Rattle.layout.specs.Structures.{identity, version, structure_at, are_bad}
 use Rattle.layout.specs.Accepting.{offset_at, Acceptable}
 use Rattle.layout.specs.Laying.{next_at, Written, Writes, Writes.misdescribed, Writes.unaccepted, Writes.written}
@@ -30,42 +32,42 @@ use Rattle.layout.proofs.Headers.{Fields, header_fields}
 use Rattle.layout.proofs.Sound.{Given, given, tested}
 
 -- what the form of a structure allows: an ID of 16 bits
-abbrev pub SixteenBits : List (List ℕ) → Type 0
+abbrev pub SixteenBits : List Structure → Type 0
 SixteenBits structures = (k : ℕ) → k < length structures → identity (structure_at structures k) < 65536
 
 -- the statements, of any layout that `write` answered with 0. "the walker must list it as given": the offsets
 abbrev pub WalkedAsGiven : Type 0
 WalkedAsGiven =
-    (structures : List (List ℕ)) (offsets s : List ℕ) (r : Answer) (after : List ℕ) → SixteenBits structures → Writes structures offsets s r after
-    → answer_of r ≡ 0 → (room : List ℕ) (q : Walked) (left : List ℕ) → Roomy Extended room → Walks Extended after room q left
+    (structures : List Structure) (offsets s : List ℕ) (r : Result ⊤ Refusal) (after : List ℕ) → SixteenBits structures → Writes structures offsets s r after
+    → answered r ≡ 0 → (room : List ℕ) (q : Walked) (left : List ℕ) → Roomy Extended room → Walks Extended after room q left
     → Lists offsets room q left
 
 -- and the header at each of them
 abbrev pub HeadedAsGiven : Type 0
 HeadedAsGiven =
-    (structures : List (List ℕ)) (offsets s : List ℕ) (r : Answer) (after : List ℕ) → SixteenBits structures → Writes structures offsets s r after
-    → answer_of r ≡ 0 → (k : ℕ) → k < length offsets
+    (structures : List Structure) (offsets s : List ℕ) (r : Result ⊤ Refusal) (after : List ℕ) → SixteenBits structures → Writes structures offsets s r after
+    → answered r ≡ 0 → (k : ℕ) → k < length offsets
     → Fields (word after (offset_at offsets k)) (identity (structure_at structures k)) (version (structure_at structures k)) (next_at offsets k)
 
 -- the compatible list, also where nothing was written
 abbrev pub CompatibleAsWas : Type 0
 CompatibleAsWas =
-    (structures : List (List ℕ)) (offsets s after : List ℕ) (r : Answer) → Bytes s → Writes structures offsets s r after
+    (structures : List Structure) (offsets s after : List ℕ) (r : Result ⊤ Refusal) → Bytes s → Writes structures offsets s r after
     → (room : List ℕ) (q : Walked) (left : List ℕ) → Walks Compatible s room q left ↔ Walks Compatible after room q left
 
 -- with the ID of each of its headers: no byte below 100h changes
 abbrev pub BelowAsWas : Type 0
 BelowAsWas =
-    (structures : List (List ℕ)) (offsets s : List ℕ) (r : Answer) (after : List ℕ) → Writes structures offsets s r after → (place : ℕ)
+    (structures : List Structure) (offsets s : List ℕ) (r : Result ⊤ Refusal) (after : List ℕ) → Writes structures offsets s r after → (place : ℕ)
     → place < 0x100 → byte after place ≡ byte s place
 
 -- ---- what an answer 0 says
 
 -- a layout that was written
-abbrev pub Laid : List (List ℕ) → List ℕ → List ℕ → List ℕ → Type 0
+abbrev pub Laid : List Structure → List ℕ → List ℕ → List ℕ → Type 0
 Laid structures offsets s after = (are_bad structures ≡ false) × Acceptable structures offsets × (length s ≡ 4096) × Written structures offsets s after
 
-laid_by : {structures : List (List ℕ)} {offsets s : List ℕ} {r : Answer} {after : List ℕ} → Writes structures offsets s r after → answer_of r ≡ 0
+laid_by : {structures : List Structure} {offsets s : List ℕ} {r : Result ⊤ Refusal} {after : List ℕ} → Writes structures offsets s r after → answered r ≡ 0
     → Laid structures offsets s after
 laid_by (misdescribed cause a) z = absurd (omega (arith, a.given))
 laid_by (unaccepted whole good n a) z = absurd (omega (arith, a.given))
@@ -73,7 +75,7 @@ laid_by (written whole good fine e w) z = (good, fine, whole, w)
 
 -- ---- the headers
 
-module _ {structures : List (List ℕ)} {offsets s after : List ℕ} (wide : SixteenBits structures) (laid : Laid structures offsets s after) where
+module _ {structures : List Structure} {offsets s after : List ℕ} (wide : SixteenBits structures) (laid : Laid structures offsets s after) where
   g : Given structures
   g = given structures laid.0
 
@@ -118,7 +120,7 @@ chained s (at ∷ offsets) on above =
     (subst (λ (p : ℕ). Legal (describe Extended) s p offsets) (sym (on 0 (omega arith)))
     (chained s offsets (λ k h. on (suc k) (omega arith)) (λ k h. above (suc k) (omega arith)))) refl
 
-module _ {structures : List (List ℕ)} {offsets s after : List ℕ} (wide : SixteenBits structures) (laid : Laid structures offsets s after) where
+module _ {structures : List Structure} {offsets s after : List ℕ} (wide : SixteenBits structures) (laid : Laid structures offsets s after) where
   -- the word at 100h has an ID, and is not zero
   pub begins : word after 0x100 ≡ 0 → ⊥
   begins z =
@@ -135,7 +137,7 @@ module _ {structures : List (List ℕ)} {offsets s after : List ℕ} (wide : Six
 pub headed_as_given : HeadedAsGiven
 headed_as_given structures offsets s r after wide x z = fields wide (laid_by x z)
 
-laid_walks : {structures : List (List ℕ)} {offsets s after : List ℕ} → SixteenBits structures → Laid structures offsets s after → {room : List ℕ}
+laid_walks : {structures : List Structure} {offsets s after : List ℕ} → SixteenBits structures → Laid structures offsets s after → {room : List ℕ}
     {q : Walked} {left : List ℕ} → Roomy Extended room → Walks Extended after room q left → Lists offsets room q left
 laid_walks wide laid roomy (misdescribed n x) = absurd (n (laid.3.sized ∙ laid.2))
 laid_walks wide laid roomy (roomless h n x) = absurd (n roomy)
@@ -195,7 +197,7 @@ module _ (s t : List ℕ) (bytes : Bytes s) (size : length s ≡ length t) (same
       (chain_back (first_within Compatible s bytes) (subst (λ (p : ℕ). Legal (describe Compatible) t p chain) (sym starts_alike) l)) x
 
 -- no header word is below 100h
-kept_below : {structures : List (List ℕ)} {offsets s after : List ℕ} → Acceptable structures offsets → Written structures offsets s after → (place : ℕ)
+kept_below : {structures : List Structure} {offsets s after : List ℕ} → Acceptable structures offsets → Written structures offsets s after → (place : ℕ)
     → place < 0x100 → byte s place ≡ byte after place
 kept_below {offsets = offsets} a w place small = sym (w.others place (λ i. above i.which i.one i.from))
   where

@@ -8,8 +8,10 @@ use mathlib.Core.Logic.◌⊎◌.{inl, inr}
 use mathlib.Core.Path.{◌≡◌, sym, ◌∙◌}
 use native.Mathlib.Omega.{arith}
 use lib.ListN.{length}
-use Rattle.answers.specs.Numbers.{answer_of}
-use Rattle.answers.specs.declared.Answer.{Answer}
+use Rattle.std.specs.Prelude.{⊤, Result}
+use Rattle.answers.specs.Numbers.{answered}
+use Rattle.answers.specs.declared.Refusal.{Refusal}
+use Rattle.layout.specs.declared.Structure.{Structure}
 use Rattle.layout.specs.Structures.{are_bad}
 use Rattle.layout.specs.Accepting.{Acceptable, Checks, Checks.misdescribed, Checks.unaccepted, Checks.accepted}
 use Rattle.layout.specs.Proposing.{NoneAcceptable, needed, Plans, Plans.misdescribed, Plans.roomless, Plans.unplaced, Plans.proposed}
@@ -19,24 +21,24 @@ use Rattle.layout.proofs.Sound.{OneFaulty, bad_exactly}
 use Rattle.layout.proofs.Unique.{unlike}
 
 -- "Bad counts, versions or lengths: 1", and an ID 0000h: none or more than 960 structures, or a faulty one
-abbrev pub Misdescribed : List (List ℕ) → Type 0
+abbrev pub Misdescribed : List Structure → Type 0
 Misdescribed structures = (length structures ≡ 0) ⊎ ((960 < length structures) ⊎ OneFaulty structures)
 
-abbrev pub Described : List (List ℕ) → Type 0
+abbrev pub Described : List Structure → Type 0
 Described structures = Misdescribed structures → ⊥
 
 -- the statements. Of `check`
-pub record CheckSays (structures : List (List ℕ)) (offsets : List ℕ) (n : ℕ) : Type 0 where
+pub record CheckSays (structures : List Structure) (offsets : List ℕ) (n : ℕ) : Type 0 where
   pub one : (n ≡ 1) ↔ Misdescribed structures
   pub eighteen : (n ≡ 18) ↔ (Described structures × (Acceptable structures offsets → ⊥))
   pub zero : (n ≡ 0) ↔ (Described structures × Acceptable structures offsets)
   pub only : Memᴰ n (0 ∷ 1 ∷ 18 ∷ [])
 
 abbrev pub CheckNumber : Type 0
-CheckNumber = (structures : List (List ℕ)) (offsets : List ℕ) (r : Answer) → Checks structures offsets r → CheckSays structures offsets (answer_of r)
+CheckNumber = (structures : List Structure) (offsets : List ℕ) (r : Result ⊤ Refusal) → Checks structures offsets r → CheckSays structures offsets (answered r)
 
 -- of `plan`: 14 "exactly if no such proposal exists", and by the arithmetic of the request
-pub record PlanSays (structures : List (List ℕ)) (room : List ℕ) (n : ℕ) : Type 0 where
+pub record PlanSays (structures : List Structure) (room : List ℕ) (n : ℕ) : Type 0 where
   pub one : (n ≡ 1) ↔ Misdescribed structures
   pub two : (n ≡ 2) ↔ (Described structures × (length room < length structures))
   pub fourteen : (n ≡ 14) ↔ (Described structures × (length structures ≤ length room) × NoneAcceptable structures)
@@ -46,16 +48,16 @@ pub record PlanSays (structures : List (List ℕ)) (room : List ℕ) (n : ℕ) :
 
 abbrev pub PlanNumber : Type 0
 PlanNumber =
-    (structures : List (List ℕ)) (room : List ℕ) (r : Answer) (after : List ℕ) → Plans structures room r after
-    → PlanSays structures room (answer_of r)
+    (structures : List Structure) (room : List ℕ) (r : Result ⊤ Refusal) (after : List ℕ) → Plans structures room r after
+    → PlanSays structures room (answered r)
 
 abbrev pub PlanRefusalKeeps : Type 0
 PlanRefusalKeeps =
-    (structures : List (List ℕ)) (room : List ℕ) (r : Answer) (after : List ℕ) → Plans structures room r after → (answer_of r ≡ 0 → ⊥)
+    (structures : List Structure) (room : List ℕ) (r : Result ⊤ Refusal) (after : List ℕ) → Plans structures room r after → (answered r ≡ 0 → ⊥)
     → after ≡ room
 
 -- of `write`
-pub record WriteSays (structures : List (List ℕ)) (offsets s : List ℕ) (n : ℕ) : Type 0 where
+pub record WriteSays (structures : List Structure) (offsets s : List ℕ) (n : ℕ) : Type 0 where
   pub one : (n ≡ 1) ↔ ((length s ≡ 4096 → ⊥) ⊎ Misdescribed structures)
   pub eighteen : (n ≡ 18) ↔ ((length s ≡ 4096) × Described structures × (Acceptable structures offsets → ⊥))
   pub zero : (n ≡ 0) ↔ ((length s ≡ 4096) × Described structures × Acceptable structures offsets)
@@ -63,17 +65,17 @@ pub record WriteSays (structures : List (List ℕ)) (offsets s : List ℕ) (n : 
 
 abbrev pub WriteNumber : Type 0
 WriteNumber =
-    (structures : List (List ℕ)) (offsets s : List ℕ) (r : Answer) (after : List ℕ) → Writes structures offsets s r after
-    → WriteSays structures offsets s (answer_of r)
+    (structures : List Structure) (offsets s : List ℕ) (r : Result ⊤ Refusal) (after : List ℕ) → Writes structures offsets s r after
+    → WriteSays structures offsets s (answered r)
 
 abbrev pub WriteRefusalKeeps : Type 0
 WriteRefusalKeeps =
-    (structures : List (List ℕ)) (offsets s : List ℕ) (r : Answer) (after : List ℕ) → Writes structures offsets s r after
-    → (answer_of r ≡ 0 → ⊥) → after ≡ s
+    (structures : List Structure) (offsets s : List ℕ) (r : Result ⊤ Refusal) (after : List ℕ) → Writes structures offsets s r after
+    → (answered r ≡ 0 → ⊥) → after ≡ s
 
 -- ---- bad or not
 
-module _ {structures : List (List ℕ)} where
+module _ {structures : List Structure} where
   misdescribed_by : are_bad structures ≡ true → Misdescribed structures
   misdescribed_by = (bad_exactly structures).0
 

@@ -1,20 +1,21 @@
 -- Offsets in order, as the checker goes through them: each a multiple of 4, where all before have ended, and ending by 1000h. Of sound structures that is what the tenth
 -- request of document 02 calls acceptable, but for the first at 100h. Assumes nothing.
 use Prim.Native.Nat.{ℕ, zero, suc, ◌+◌, ◌%◌, ◌≤◌, ◌<◌}
-use mathlib.Core.Bool.{Bool, true, false, ◌&&◌}
+use mathlib.Core.Bool.{true, false, ◌&&◌}
 use mathlib.Core.List.{List, [], ◌∷◌}
-use mathlib.Core.Path.{◌≡◌, refl, sym, ap, ◌∙◌}
+use mathlib.Core.Path.{◌≡◌, refl, ap}
 use native.Mathlib.Omega.{arith}
 use borrow.Author.Tests.{eqb-true, leb-true, ltb-true, ltb-false, eq-eqb, le-leb}
 use lib.Dec.{eqb, leb, ltb}
 use lib.ListN.{length}
-use Rattle.words.proofs.Laws.{and_both}
+use Rattle.std.proofs.lemmas.Bool.{and_parts, both_ways}
+use Rattle.layout.specs.declared.Structure.{Structure}
 use Rattle.layout.specs.Structures.{extent}
 use Rattle.layout.specs.Accepting.{offset_at, end_at, Acceptable}
 use Rattle.layout.specs.Inner.{may_stand, stand_from, accepts}
 use Rattle.layout.proofs.Sound.{AllSound, tested}
 
-pub record Orderly (ended : ℕ) (structures : List (List ℕ)) (offsets : List ℕ) : Type 0 where
+pub record Orderly (ended : ℕ) (structures : List Structure) (offsets : List ℕ) : Type 0 where
   pub each : length offsets ≡ length structures
   pub aligned : (k : ℕ) → k < length offsets → offset_at offsets k % 4 ≡ 0
   pub above : (k : ℕ) → k < length offsets → ended ≤ offset_at offsets k
@@ -22,18 +23,18 @@ pub record Orderly (ended : ℕ) (structures : List (List ℕ)) (offsets : List 
   pub inside : (k : ℕ) → k < length offsets → end_at structures offsets k ≤ 0x1000
 
 -- a structure that may stand at an offset
-pub record Standing (ended : ℕ) (structure : List ℕ) (at : ℕ) : Type 0 where
+pub record Standing (ended : ℕ) (structure : Structure) (at : ℕ) : Type 0 where
   pub aligned : at % 4 ≡ 0
   pub above : ended ≤ at
   pub inside : at + extent structure ≤ 0x1000
 
-pub standing : (ended : ℕ) (structure : List ℕ) (at : ℕ) → may_stand ended (extent structure) at ≡ true → Standing ended structure at
+pub standing : (ended : ℕ) (structure : Structure) (at : ℕ) → may_stand ended (extent structure) at ≡ true → Standing ended structure at
 standing ended structure at e =
-    let a = and_both (eqb (at % 4) 0) (leb ended at && leb (at + extent structure) 0x1000) e in
-    let b = and_both (leb ended at) (leb (at + extent structure) 0x1000) a.1 in
+    let a = and_parts (eqb (at % 4) 0) (leb ended at && leb (at + extent structure) 0x1000) e in
+    let b = and_parts (leb ended at) (leb (at + extent structure) 0x1000) a.1 in
     record { aligned = eqb-true _ _ a.0; above = leb-true _ _ b.0; inside = leb-true _ _ b.1 }
 
-pub stands : {ended : ℕ} {structure : List ℕ} {at : ℕ} → Standing ended structure at → may_stand ended (extent structure) at ≡ true
+pub stands : {ended : ℕ} {structure : Structure} {at : ℕ} → Standing ended structure at → may_stand ended (extent structure) at ≡ true
 stands {ended} {structure} {at} s = rw (eq-eqb (at % 4) 0 s.aligned, le-leb ended at s.above, le-leb (at + extent structure) 0x1000 s.inside)
 
 -- ---- one before the others
@@ -48,7 +49,7 @@ alone ended =
       inside = λ k h. absurd (omega arith);
     }
 
-module _ {ended : ℕ} {structure : List ℕ} {at : ℕ} {structures : List (List ℕ)} {offsets : List ℕ} where
+module _ {ended : ℕ} {structure : Structure} {at : ℕ} {structures : List Structure} {offsets : List ℕ} where
   pub before : Standing ended structure at → Orderly (at + extent structure) structures offsets → Orderly ended (structure ∷ structures) (at ∷ offsets)
   before s o = record { each = ap suc o.each; aligned = aligned; above = above; behind = behind; inside = inside }
     where
@@ -83,7 +84,7 @@ module _ {ended : ℕ} {structure : List ℕ} {at : ℕ} {structures : List (Lis
       }
 
 -- what ended sooner
-pub sooner : {ended less : ℕ} {structures : List (List ℕ)} {offsets : List ℕ} → less ≤ ended → Orderly ended structures offsets
+pub sooner : {ended less : ℕ} {structures : List Structure} {offsets : List ℕ} → less ≤ ended → Orderly ended structures offsets
     → Orderly less structures offsets
 sooner h o =
     record {
@@ -96,17 +97,17 @@ sooner h o =
 
 -- ---- the checker's way through them
 
-pub stand_orderly : (ended : ℕ) (structures : List (List ℕ)) (offsets : List ℕ) → stand_from ended structures offsets ≡ true
+pub stand_orderly : (ended : ℕ) (structures : List Structure) (offsets : List ℕ) → stand_from ended structures offsets ≡ true
     → Orderly ended structures offsets
 unfolding stand_from
 stand_orderly ended [] [] e = alone ended
-stand_orderly ended [] (at ∷ offsets) e = let z : ◌≡◌ {A = ℕ} 0 1 = cc in absurd (omega arith)
-stand_orderly ended (structure ∷ structures) [] e = let z : ◌≡◌ {A = ℕ} 0 1 = cc in absurd (omega arith)
+stand_orderly ended [] (at ∷ offsets) e = cc
+stand_orderly ended (structure ∷ structures) [] e = cc
 stand_orderly ended (structure ∷ structures) (at ∷ offsets) e =
-    let a = and_both (may_stand ended (extent structure) at) (stand_from (at + extent structure) structures offsets) e in
+    let a = and_parts (may_stand ended (extent structure) at) (stand_from (at + extent structure) structures offsets) e in
     before (standing ended structure at a.0) (stand_orderly (at + extent structure) structures offsets a.1)
 
-pub orderly_stand : (ended : ℕ) (structures : List (List ℕ)) (offsets : List ℕ) → Orderly ended structures offsets
+pub orderly_stand : (ended : ℕ) (structures : List Structure) (offsets : List ℕ) → Orderly ended structures offsets
     → stand_from ended structures offsets ≡ true
 unfolding stand_from
 orderly_stand ended [] [] o = refl
@@ -117,7 +118,7 @@ orderly_stand ended (structure ∷ structures) (at ∷ offsets) o =
 
 -- ---- what is acceptable
 
-module _ {structures : List (List ℕ)} {offsets : List ℕ} (sound : AllSound structures) where
+module _ {structures : List Structure} {offsets : List ℕ} (sound : AllSound structures) where
   pub orderly_acceptable : offset_at offsets 0 ≡ 0x100 → Orderly 0x100 structures offsets → Acceptable structures offsets
   orderly_acceptable e o =
       record {
@@ -151,7 +152,7 @@ module _ {structures : List (List ℕ)} {offsets : List ℕ} (sound : AllSound s
   pub accepts_acceptable : accepts structures offsets ≡ true → Acceptable structures offsets
   unfolding accepts
   accepts_acceptable e =
-      let a = and_both (eqb (offset_at offsets 0) 0x100) (stand_from 0x100 structures offsets) e in
+      let a = and_parts (eqb (offset_at offsets 0) 0x100) (stand_from 0x100 structures offsets) e in
       orderly_acceptable (eqb-true _ _ a.0) (stand_orderly 0x100 structures offsets a.1)
 
   pub acceptable_accepts : Acceptable structures offsets → accepts structures offsets ≡ true
@@ -160,4 +161,4 @@ module _ {structures : List (List ℕ)} {offsets : List ℕ} (sound : AllSound s
       rw (eq-eqb (offset_at offsets 0) 0x100 a.first) (orderly_stand 0x100 structures offsets (acceptable_orderly a))
 
   pub refuses_acceptable : accepts structures offsets ≡ false → Acceptable structures offsets → ⊥
-  refuses_acceptable e a = let z : ◌≡◌ {A = Bool} true false = sym (acceptable_accepts a) ∙ e in let q : ◌≡◌ {A = ℕ} 0 1 = cc in omega arith
+  refuses_acceptable e a = both_ways _ e (acceptable_accepts a)

@@ -10,7 +10,8 @@ use native.Mathlib.Omega.{arith}
 use borrow.Author.Tests.{leb-true, leb-false, le-leb, lt-leb}
 use lib.Dec.{leb}
 use lib.ListN.{length}
-use Rattle.words.proofs.Laws.{and_both}
+use Rattle.std.proofs.lemmas.Bool.{and_parts, both_ways}
+use Rattle.layout.specs.declared.Structure.{Structure}
 use Rattle.layout.specs.Structures.{extent, are_bad}
 use Rattle.layout.specs.Accepting.{offset_at, Acceptable}
 use Rattle.layout.specs.Proposing.{NoneAcceptable, rounded_up, needed_by, needed, Lowest}
@@ -20,20 +21,20 @@ use Rattle.layout.proofs.Orderly.{Orderly, alone, before, first_of, others_of, s
 
 -- the statements, of structures that are not bad. "Answer 14 [..] is given exactly if no such proposal exists, which is when [..]"
 abbrev pub NoneExactly : Type 0
-NoneExactly = (structures : List (List ℕ)) → are_bad structures ≡ false → NoneAcceptable structures ↔ (3840 < needed structures)
+NoneExactly = (structures : List Structure) → are_bad structures ≡ false → NoneAcceptable structures ↔ (3840 < needed structures)
 
 abbrev pub SomeExactly : Type 0
-SomeExactly = (structures : List (List ℕ)) → are_bad structures ≡ false
+SomeExactly = (structures : List Structure) → are_bad structures ≡ false
     → ((offsets : List ℕ) × Acceptable structures offsets) ↔ (needed structures ≤ 3840)
 
 -- the lengths with the last one rounded up too
-abbrev pub all_rounded : List (List ℕ) → ℕ
+abbrev pub all_rounded : List Structure → ℕ
 all_rounded [] = 0
 all_rounded (structure ∷ structures) = rounded_up (extent structure) + all_rounded structures
 
 -- 3,840 is a multiple of 4, and so are the rounded lengths before the last
 abbrev pub LastRoundedToo : Type 0
-LastRoundedToo = (structures : List (List ℕ)) → (3840 < needed structures) ↔ (3840 < all_rounded structures)
+LastRoundedToo = (structures : List Structure) → (3840 < needed structures) ↔ (3840 < all_rounded structures)
 
 -- nor does it in the checker: where an offset is a multiple of 4, a structure ends by 1000h exactly if it does with its length rounded up
 abbrev pub EndRoundedToo : Type 0
@@ -42,17 +43,17 @@ EndRoundedToo = (at n : ℕ) → at % 4 ≡ 0 → (at + n ≤ 0x1000) ↔ (at + 
 -- lengths that round up to the same, before others, need the same
 abbrev pub SameRounded : Type 0
 SameRounded =
-    (one other behind : List ℕ) (rest : List (List ℕ)) → rounded_up (extent one) ≡ rounded_up (extent other)
+    (one other behind : Structure) (rest : List Structure) → rounded_up (extent one) ≡ rounded_up (extent other)
     → needed (one ∷ behind ∷ rest) ≡ needed (other ∷ behind ∷ rest)
 
 -- ---- packed offsets are in order
 
-pub packed_orderly : (at : ℕ) (structures : List (List ℕ)) → at % 4 ≡ 0 → fits_from at structures ≡ true
+pub packed_orderly : (at : ℕ) (structures : List Structure) → at % 4 ≡ 0 → fits_from at structures ≡ true
     → Orderly at structures (packed_from at structures)
 unfolding fits_from packed_from
 packed_orderly at [] a e = alone at
 packed_orderly at (structure ∷ structures) a e =
-    let f = and_both (leb (at + extent structure) 0x1000) (fits_from (at + rounded_up (extent structure)) structures) e in
+    let f = and_parts (leb (at + extent structure) 0x1000) (fits_from (at + rounded_up (extent structure)) structures) e in
     before (record { aligned = a; above = omega arith; inside = leb-true _ _ f.0 })
     (sooner (omega arith) (packed_orderly (at + rounded_up (extent structure)) structures (omega arith) f.1))
 
@@ -62,7 +63,7 @@ packed_orderly at (structure ∷ structures) a e =
 behind_rounded : (low at n : ℕ) → low ≤ at → at % 4 ≡ 0 → low + rounded_up n ≤ rounded_up (at + n)
 behind_rounded low at n h a = omega arith
 
-pub packed_lowest : (at ended : ℕ) (structures : List (List ℕ)) (offsets : List ℕ) → at ≤ rounded_up ended → Orderly ended structures offsets
+pub packed_lowest : (at ended : ℕ) (structures : List Structure) (offsets : List ℕ) → at ≤ rounded_up ended → Orderly ended structures offsets
     → (k : ℕ) → k < length structures → offset_at (packed_from at structures) k ≤ offset_at offsets k
 unfolding packed_from
 packed_lowest at ended [] offsets h o k small = absurd (omega arith)
@@ -75,7 +76,7 @@ packed_lowest at ended (structure ∷ structures) (first ∷ offsets) h o (suc k
     (behind_rounded at first (extent structure) (omega (arith, h, s.aligned, s.above)) s.aligned) (others_of o) k (omega arith)
 
 -- where something is in order, what is packed fits
-pub orderly_fits : (at ended : ℕ) (structures : List (List ℕ)) (offsets : List ℕ) → at ≤ rounded_up ended → Orderly ended structures offsets
+pub orderly_fits : (at ended : ℕ) (structures : List Structure) (offsets : List ℕ) → at ≤ rounded_up ended → Orderly ended structures offsets
     → fits_from at structures ≡ true
 unfolding fits_from
 orderly_fits at ended [] offsets h o = refl
@@ -89,8 +90,8 @@ orderly_fits at ended (structure ∷ structures) (first ∷ offsets) h o =
 
 -- ---- the planner's two answers
 
-module _ {structures : List (List ℕ)} (g : Given structures) where
-  packed_first : (structures : List (List ℕ)) → 0 < length structures → offset_at (packed_from 0x100 structures) 0 ≡ 0x100
+module _ {structures : List Structure} (g : Given structures) where
+  packed_first : (structures : List Structure) → 0 < length structures → offset_at (packed_from 0x100 structures) 0 ≡ 0x100
   unfolding packed_from
   packed_first [] h = absurd (omega arith)
   packed_first (structure ∷ structures) h = refl
@@ -106,12 +107,12 @@ module _ {structures : List (List ℕ)} (g : Given structures) where
   acceptable_fits offsets a = orderly_fits 0x100 0x100 structures offsets (omega arith) (acceptable_orderly g.sound a)
 
   pub none_fits : fits_from 0x100 structures ≡ false → NoneAcceptable structures
-  none_fits e offsets a = let z : ◌≡◌ {A = Bool} true false = sym (acceptable_fits offsets a) ∙ e in let q : ◌≡◌ {A = ℕ} 0 1 = cc in omega arith
+  none_fits e offsets a = both_ways _ e (acceptable_fits offsets a)
 
 -- ---- the arithmetic
 
 -- the end of the last one decides
-fits_needed : (at : ℕ) (structure : List ℕ) (structures : List (List ℕ))
+fits_needed : (at : ℕ) (structure : Structure) (structures : List Structure)
     → fits_from at (structure ∷ structures) ≡ leb (at + needed_by structure structures) 0x1000
 unfolding fits_from
 fits_needed at structure [] = and-true (leb (at + extent structure) 0x1000)
@@ -128,7 +129,7 @@ fits_needed at structure (behind ∷ rest) =
     last true e = rw (le-leb (at + extent structure) 0x1000 (omega (arith, leb-true (at + (rounded_up (extent structure) + needed_by behind rest)) 0x1000 e)))
     last false e = and-false (leb (at + extent structure) 0x1000)
 
-pub fits_exactly : (structures : List (List ℕ)) → 0 < length structures → fits_from 0x100 structures ≡ leb (0x100 + needed structures) 0x1000
+pub fits_exactly : (structures : List Structure) → 0 < length structures → fits_from 0x100 structures ≡ leb (0x100 + needed structures) 0x1000
 fits_exactly [] h = absurd (omega arith)
 fits_exactly (structure ∷ structures) h = fits_needed 0x100 structure structures
 
@@ -164,7 +165,7 @@ some_exactly structures good = (there, back)
     )
 
 -- the lengths before the last are multiples of 4 together, and the last is rounded up to one
-rounded_last : (structure : List ℕ) (structures : List (List ℕ))
+rounded_last : (structure : Structure) (structures : List Structure)
     → rounded_up (needed_by structure structures) ≡ all_rounded (structure ∷ structures)
 rounded_last structure [] = omega arith
 rounded_last structure (behind ∷ rest) = omega (arith, rounded_last behind rest)

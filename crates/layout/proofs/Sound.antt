@@ -1,7 +1,7 @@
 -- THEOREM. When structures are bad, as the tenth request of document 02 has it: there are none or more than 960, or one of them has the ID 0000h, a version over 15 or
 -- a length outside 4 to 3,840. Assumes nothing.
 use Prim.Native.Nat.{ℕ, zero, suc, ◌≤◌, ◌<◌}
-use mathlib.Core.Bool.{Bool, true, false, ◌||◌, or-false}
+use mathlib.Core.Bool.{Bool, true, false, or-false}
 use mathlib.Core.List.{List, [], ◌∷◌}
 use mathlib.Core.Logic.{◌↔◌, ◌⊎◌}
 use mathlib.Core.Logic.◌⊎◌.{inl, inr}
@@ -10,41 +10,39 @@ use native.Mathlib.Omega.{arith}
 use borrow.Author.Tests.{eqb-true, eqb-false, ltb-true, ltb-false}
 use lib.Dec.{eqb, ltb}
 use lib.ListN.{length}
+use Rattle.std.proofs.lemmas.Bool.{or_parts}
 use Rattle.answers.proofs.Checks.{none_of}
+use Rattle.layout.specs.declared.Structure.{Structure}
 use Rattle.layout.specs.Structures.{identity, version, extent, structure_at, is_bad, one_bad, are_bad}
 
 -- what makes a structure a bad one
-pub data Faulty (structure : List ℕ) : Type 0 where
+pub data Faulty (structure : Structure) : Type 0 where
   unnamed : identity structure ≡ 0 → Faulty structure
   over_versioned : 15 < version structure → Faulty structure
   short : extent structure < 4 → Faulty structure
   long : 3840 < extent structure → Faulty structure
 
 -- one of the structures is
-pub record OneFaulty (structures : List (List ℕ)) : Type 0 where
+pub record OneFaulty (structures : List Structure) : Type 0 where
   pub which : ℕ
   pub one : which < length structures
   pub faulty : Faulty (structure_at structures which)
 
 -- the statement
 abbrev pub BadExactly : Type 0
-BadExactly = (structures : List (List ℕ)) → (are_bad structures ≡ true) ↔ ((length structures ≡ 0) ⊎ ((960 < length structures) ⊎ OneFaulty structures))
+BadExactly = (structures : List Structure) → (are_bad structures ≡ true) ↔ ((length structures ≡ 0) ⊎ ((960 < length structures) ⊎ OneFaulty structures))
 
 -- ---- a structure that is not bad
 
-pub record Sound (structure : List ℕ) : Type 0 where
+pub record Sound (structure : Structure) : Type 0 where
   pub named : identity structure ≡ 0 → ⊥
   pub versioned : version structure ≤ 15
   pub least : 4 ≤ extent structure
   pub most : extent structure ≤ 3840
 
 -- each of them
-abbrev pub AllSound : List (List ℕ) → Type 0
+abbrev pub AllSound : List Structure → Type 0
 AllSound structures = (k : ℕ) → k < length structures → Sound (structure_at structures k)
-
-pub neither : (a b : Bool) → (a || b) ≡ false → (a ≡ false) × (b ≡ false)
-neither true b e = let z : ◌≡◌ {A = ℕ} 0 1 = cc in absurd (omega arith)
-neither false b e = (refl, e)
 
 -- ---- a test or its opposite
 
@@ -52,7 +50,7 @@ pub tested : {A : Type 0} (b : Bool) → (b ≡ true → A) → (b ≡ false →
 tested true t f = t refl
 tested false t f = f refl
 
-is_sound : (structure : List ℕ) → is_bad structure ≡ false → Sound structure
+is_sound : (structure : Structure) → is_bad structure ≡ false → Sound structure
 unfolding is_bad
 is_sound structure e =
     let n = none_of (eqb (identity structure) 0 ∷ ltb 15 (version structure) ∷ ltb (extent structure) 4 ∷ ltb 3840 (extent structure) ∷ []) e in
@@ -63,7 +61,7 @@ is_sound structure e =
       most = ltb-false _ _ n.1.1.1.0;
     }
 
-is_faulty : (structure : List ℕ) → is_bad structure ≡ true → Faulty structure
+is_faulty : (structure : Structure) → is_bad structure ≡ true → Faulty structure
 unfolding is_bad
 is_faulty structure e =
     tested (eqb (identity structure) 0) (λ t. unnamed (eqb-true _ _ t))
@@ -74,12 +72,9 @@ is_faulty structure e =
     last : eqb (identity structure) 0 ≡ false → ltb 15 (version structure) ≡ false → ltb (extent structure) 4 ≡ false
         → ltb 3840 (extent structure) ≡ true
     last f g h =
-        tested (ltb 3840 (extent structure)) (λ t. t) (λ k. let z : ◌≡◌ {A = Bool} true false = sym e ∙ rw (f, g, h, k) in absurd (unlike z))
-      where
-        unlike : ◌≡◌ {A = Bool} true false → ⊥
-        unlike z = let q : ◌≡◌ {A = ℕ} 0 1 = cc in omega arith
+        tested (ltb 3840 (extent structure)) (λ t. t) (λ k. let z : ◌≡◌ {A = Bool} true false = sym e ∙ rw (f, g, h, k) in cc)
 
-never_both : {structure : List ℕ} → Faulty structure → Sound structure → ⊥
+never_both : {structure : Structure} → Faulty structure → Sound structure → ⊥
 never_both (unnamed e) s = s.named e
 never_both (over_versioned h) s = omega (arith, s.versioned)
 never_both (short h) s = omega (arith, s.least)
@@ -87,13 +82,13 @@ never_both (long h) s = omega (arith, s.most)
 
 -- ---- all of them
 
-none_is : (structures : List (List ℕ)) → one_bad structures ≡ false → AllSound structures
+none_is : (structures : List Structure) → one_bad structures ≡ false → AllSound structures
 none_is [] e k h = absurd (omega arith)
-none_is (structure ∷ structures) e zero h = is_sound structure (neither _ (one_bad structures) e).0
-none_is (structure ∷ structures) e (suc k) h = none_is structures (neither (is_bad structure) _ e).1 k (omega arith)
+none_is (structure ∷ structures) e zero h = is_sound structure (or_parts _ (one_bad structures) e).0
+none_is (structure ∷ structures) e (suc k) h = none_is structures (or_parts (is_bad structure) _ e).1 k (omega arith)
 
-one_is : (structures : List (List ℕ)) → one_bad structures ≡ true → OneFaulty structures
-one_is [] e = let z : ◌≡◌ {A = ℕ} 0 1 = cc in absurd (omega arith)
+one_is : (structures : List Structure) → one_bad structures ≡ true → OneFaulty structures
+one_is [] e = cc
 one_is (structure ∷ structures) e =
     tested (is_bad structure) (λ t. record { which = 0; one = omega arith; faulty = is_faulty structure t })
     (λ f. later (one_is structures (sym (rw f) ∙ e)))
@@ -102,12 +97,12 @@ one_is (structure ∷ structures) e =
     later o = record { which = suc o.which; one = omega (arith, o.one); faulty = o.faulty }
 
 -- what is known of structures that are not bad
-pub record Given (structures : List (List ℕ)) : Type 0 where
+pub record Given (structures : List Structure) : Type 0 where
   pub some : 0 < length structures
   pub few : length structures ≤ 960
   pub sound : AllSound structures
 
-pub given : (structures : List (List ℕ)) → are_bad structures ≡ false → Given structures
+pub given : (structures : List Structure) → are_bad structures ≡ false → Given structures
 unfolding are_bad
 given structures e =
     let n = none_of (eqb (length structures) 0 ∷ ltb 960 (length structures) ∷ one_bad structures ∷ []) e in

@@ -1,48 +1,40 @@
 -- Laws of the loops over structures and offsets: what is left to look at behind one more, and at the end. Assumes nothing.
 use Prim.Native.Nat.{ℕ, suc, ◌+◌, ◌≤◌, ◌<◌}
-use mathlib.Core.Bool.{true, false, ◌&&◌, ◌||◌, or-false, and-false}
+use mathlib.Core.Bool.{true, false, ◌&&◌, or-false, and-false}
 use mathlib.Core.List.{List, [], ◌∷◌, ◌++◌}
-use mathlib.Core.Path.{◌≡◌, refl, sym, ap, ap₂, ◌∙◌}
-use native.Mathlib.Nat.{add-zero, zero-add}
+use mathlib.Core.Logic.{◌⊎◌}
+use mathlib.Core.Logic.◌⊎◌.{inl, inr}
+use mathlib.Core.Path.{◌≡◌, refl, sym, ap, ap₂, subst, ◌∙◌}
+use native.Mathlib.Nat.{zero-add}
 use native.Mathlib.Numerals.{add-one}
 use native.Mathlib.Omega.{arith}
-use borrow.Author.Tests.{ne_eqb, le-ltb, le-leb, lt-leb, leb-true}
-use lib.Dec.{leb}
-use lib.ListN.{length, set, take, drop}
-use lib.Seq.{drop-cons, drop-length, take-length, get_or-drop, paste, paste-suc}
+use borrow.Author.Tests.{eq-eqb, ne_eqb, le-ltb, le-leb, lt-leb, leb-true}
+use lib.Dec.{eqb, leb}
+use Rattle.std.proofs.lemmas.List.{append-nil}
+use lib.ListN.{length, length-append, set, take, drop}
+use lib.Seq.{append_snoc, drop-cons, drop-length, take-length, get_or-append_seam, paste, paste-suc}
 use Rattle.words.specs.Bytes.{put}
-use Rattle.words.proofs.Laws.{and_both}
-use Rattle.layout.specs.Structures.{extent, structure_at, is_bad, one_bad, are_bad}
+use Rattle.std.proofs.lemmas.Bool.{and_parts}
+use Rattle.words.proofs.Laws.{put_length}
+use Rattle.layout.specs.declared.Structure.{Structure}
+use Rattle.layout.specs.Structures.{extent, no_structure, structure_at, one_bad, are_bad}
 use Rattle.layout.specs.Accepting.{offset_at}
 use Rattle.layout.specs.Proposing.{rounded_up}
 use Rattle.layout.specs.Laying.{four_of, header_word}
-use Rattle.layout.specs.Inner.{may_stand, stand_from, fits_from, packed_from, laid}
+use Rattle.layout.specs.Inner.{may_stand, stand_from, accepts, fits_from, packed_from, laid, MayBeLaid}
 
 -- ---- bad structures
 
 -- 1 to 960 structures are bad where one of them is
-pub counted : (structures : List (List ℕ)) → (length structures ≡ 0 → ⊥) → length structures ≤ 960 → one_bad structures ≡ are_bad structures
+pub counted : (structures : List Structure) → (length structures ≡ 0 → ⊥) → length structures ≤ 960 → one_bad structures ≡ are_bad structures
 unfolding are_bad
 counted structures some few =
     rw (ne_eqb (length structures) 0 some, le-ltb 960 (length structures) few) (sym (or-false (one_bad structures)))
 
-module _ (structures : List (List ℕ)) (place : ℕ) (here : place < length structures) where
-  bad_next : one_bad (drop place structures) ≡ is_bad (structure_at structures place) || one_bad (drop (suc place) structures)
-  bad_next = ap one_bad (drop-cons structures place [] here)
-
-  pub good_passed : is_bad (structure_at structures place) ≡ false → one_bad (drop (place + 1) structures) ≡ one_bad (drop place structures)
-  good_passed e = rw (add-one place) (sym (rw e at bad_next))
-
-  pub bad_found : is_bad (structure_at structures place) ≡ true → true ≡ one_bad (drop place structures)
-  bad_found e = sym (rw e at bad_next)
-
-pub none_bad : (structures : List (List ℕ)) (place : ℕ) → place ≡ length structures → false ≡ one_bad (drop place structures)
-none_bad structures place end = sym (ap one_bad (ap (λ (n : ℕ). drop n structures) end ∙ drop-length structures))
-
 -- ---- offsets where each structure may stand
 
 -- as many offsets as structures, or none stand
-pub uneven : (ended : ℕ) (structures : List (List ℕ)) (offsets : List ℕ) → (length offsets ≡ length structures → ⊥)
+pub uneven : (ended : ℕ) (structures : List Structure) (offsets : List ℕ) → (length offsets ≡ length structures → ⊥)
     → stand_from ended structures offsets ≡ false
 unfolding stand_from
 uneven ended [] [] n = absurd (n refl)
@@ -51,44 +43,49 @@ uneven ended (structure ∷ structures) [] n = refl
 uneven ended (structure ∷ structures) (at ∷ offsets) n =
     rw (uneven (at + extent structure) structures offsets (λ e. n (ap suc e))) (and-false (may_stand ended (extent structure) at))
 
-pub none_first : (offsets : List ℕ) → length offsets ≡ 0 → offset_at offsets 0 ≡ 0
-none_first [] e = refl
-none_first (at ∷ offsets) e = absurd (omega arith)
+module _ (structures : List Structure) (offsets : List ℕ) where
+  pub refused_count : (length offsets ≡ length structures → ⊥) → false ≡ accepts structures offsets
+  unfolding accepts
+  refused_count n = rw (uneven 0x100 structures offsets n) (sym (and-false (eqb (offset_at offsets 0) 0x100)))
 
-module _ (structures : List (List ℕ)) (offsets : List ℕ) (ended place : ℕ) (same : length offsets ≡ length structures) where
-  stand_next : place < length offsets
-      → stand_from ended (drop place structures) (drop place offsets)
-      ≡ may_stand ended (extent (structure_at structures place)) (offset_at offsets place)
-      && stand_from (offset_at offsets place + extent (structure_at structures place)) (drop (suc place) structures) (drop (suc place) offsets)
+  pub refused_first : (offset_at offsets 0 ≡ 0x100 → ⊥) → false ≡ accepts structures offsets
+  unfolding accepts
+  refused_first n = rw (ne_eqb (offset_at offsets 0) 0x100 n)
+
+  pub accepted_first : offset_at offsets 0 ≡ 0x100 → stand_from 0x100 structures offsets ≡ accepts structures offsets
+  unfolding accepts
+  accepted_first e = rw (eq-eqb (offset_at offsets 0) 0x100 e)
+
+-- the first of those that are left
+module _ (ended : ℕ) {ahead behind : List Structure} {left rest : List ℕ} {structure : Structure} {at : ℕ} (here : ahead ≡ structure ∷ behind)
+    (there : left ≡ at ∷ rest) where
+  stand_next : stand_from ended ahead left ≡ may_stand ended (extent structure) at && stand_from (at + extent structure) behind rest
   unfolding stand_from
-  stand_next here =
-      ap₂ (stand_from ended) (drop-cons structures place [] (omega arith)) (drop-cons offsets place 0 here)
+  stand_next = ap₂ (stand_from ended) here there
 
-  pub stands_on : place < length offsets → may_stand ended (extent (structure_at structures place)) (offset_at offsets place) ≡ true
-      → stand_from (offset_at offsets place + extent (structure_at structures place)) (drop (place + 1) structures) (drop (place + 1) offsets)
-      ≡ stand_from ended (drop place structures) (drop place offsets)
-  stands_on here e = rw (add-one place) (sym (rw e at (stand_next here)))
+  pub stands_on : may_stand ended (extent structure) at ≡ true → stand_from (at + extent structure) behind rest ≡ stand_from ended ahead left
+  stands_on e = sym (rw e at stand_next)
 
-  pub stands_not : place < length offsets → may_stand ended (extent (structure_at structures place)) (offset_at offsets place) ≡ false
-      → false ≡ stand_from ended (drop place structures) (drop place offsets)
-  stands_not here e = sym (rw e at (stand_next here))
+  pub stands_not : may_stand ended (extent structure) at ≡ false → false ≡ stand_from ended ahead left
+  stands_not e = sym (rw e at stand_next)
 
-  pub all_stand : place ≡ length offsets → true ≡ stand_from ended (drop place structures) (drop place offsets)
-  unfolding stand_from
-  all_stand end =
-      let none = ap (λ (n : ℕ). drop n structures) (end ∙ same) ∙ drop-length structures in
-      let nothing = ap (λ (n : ℕ). drop n offsets) end ∙ drop-length offsets in
-      sym (ap₂ (stand_from ended) none nothing)
+pub all_stand : (ended : ℕ) (ahead : List Structure) (left : List ℕ) → length left ≡ length ahead → (length ahead ≡ 0) ⊎ (length left ≡ 0)
+    → true ≡ stand_from ended ahead left
+unfolding stand_from
+all_stand ended [] [] same end = refl
+all_stand ended [] (at ∷ left) same end = absurd (omega (arith, same))
+all_stand ended (structure ∷ ahead) left same (inl z) = absurd (omega (arith, z))
+all_stand ended (structure ∷ ahead) left same (inr z) = absurd (omega (arith, same, z))
 
 -- ---- each as low as it can stand
 
-module _ (structures : List (List ℕ)) (at place : ℕ) where
+module _ (structures : List Structure) (at place : ℕ) where
   fits_next : place < length structures
       → fits_from at (drop place structures)
       ≡ leb (at + extent (structure_at structures place)) 0x1000
       && fits_from (at + rounded_up (extent (structure_at structures place))) (drop (suc place) structures)
   unfolding fits_from
-  fits_next here = ap (fits_from at) (drop-cons structures place [] here)
+  fits_next here = ap (fits_from at) (drop-cons structures place no_structure here)
 
   pub fits_on : place < length structures → at + extent (structure_at structures place) ≤ 0x1000
       → fits_from (at + rounded_up (extent (structure_at structures place))) (drop (place + 1) structures) ≡ fits_from at (drop place structures)
@@ -104,12 +101,12 @@ module _ (structures : List (List ℕ)) (at place : ℕ) where
   -- of structures that fit, the next one ends by 1000h
   pub fitting : place < length structures → fits_from at (drop place structures) ≡ true → at + extent (structure_at structures place) ≤ 0x1000
   fitting here e =
-      leb-true _ _ (and_both _ (fits_from (at + rounded_up (extent (structure_at structures place))) (drop (suc place) structures)) (sym (fits_next here) ∙ e)).0
+      leb-true _ _ (and_parts _ (fits_from (at + rounded_up (extent (structure_at structures place))) (drop (suc place) structures)) (sym (fits_next here) ∙ e)).0
 
   packed_next : place < length structures
       → packed_from at (drop place structures) ≡ at ∷ packed_from (at + rounded_up (extent (structure_at structures place))) (drop (suc place) structures)
   unfolding packed_from
-  packed_next here = ap (packed_from at) (drop-cons structures place [] here)
+  packed_next here = ap (packed_from at) (drop-cons structures place no_structure here)
 
   -- of the offsets that are packed, the first from a place on, and those behind
   module _ (offsets : List ℕ) (same : length offsets ≡ length structures) (here : place < length structures)
@@ -124,7 +121,7 @@ module _ (structures : List (List ℕ)) (at place : ℕ) where
     pub packed_on : drop (place + 1) offsets ≡ packed_from (at + rounded_up (extent (structure_at structures place))) (drop (place + 1) structures)
     packed_on = rw (add-one place) (ap (drop 1) split)
 
-pub packed_length : (at : ℕ) (structures : List (List ℕ)) → length (packed_from at structures) ≡ length structures
+pub packed_length : (at : ℕ) (structures : List Structure) → length (packed_from at structures) ≡ length structures
 unfolding packed_from
 packed_length at [] = refl
 packed_length at (structure ∷ structures) = ap suc (packed_length (at + rounded_up (extent structure)) structures)
@@ -145,22 +142,65 @@ module _ (lent room offsets : List ℕ) (place : ℕ) (filled : room ≡ paste l
 
 -- ---- headers put into a space, the last first
 
-module _ (structures : List (List ℕ)) (offsets lent : List ℕ) where
-  pub laid_next : (k place next : ℕ) (space : List ℕ) → suc k ≡ place → k < length structures → k < length offsets → next ≡ offset_at offsets place
-      → space ≡ laid (drop place structures) (drop place offsets) lent
-      → put space (offset_at offsets k) (four_of (header_word (structure_at structures k) next)) ≡ laid (drop k structures) (drop k offsets) lent
-  unfolding laid
-  laid_next k place next space e hs ho points left =
-      ap₂ (λ (l : List ℕ) (n : ℕ). put l (offset_at offsets k) (four_of (header_word (structure_at structures k) n))) behind pointer
-      ∙ sym (ap₂ (λ (l : List (List ℕ)) (m : List ℕ). laid l m lent) (drop-cons structures k [] hs) (drop-cons offsets k 0 ho))
-    where
-      behind : space ≡ laid (drop (suc k) structures) (drop (suc k) offsets) lent
-      behind = left ∙ ap (λ (n : ℕ). laid (drop n structures) (drop n offsets) lent) (sym e)
+-- those that are left, and behind them those whose headers are laid
+pub record LaidBehind (structures : List Structure) (offsets : List ℕ) (ahead : List Structure) (left lent space : List ℕ) (next : ℕ) : Type 0 where
+  pub done : List Structure
+  pub placed : List ℕ
+  pub structured : structures ≡ ahead ++ done
+  pub offset : offsets ≡ left ++ placed
+  pub same : length left ≡ length ahead
+  pub points : next ≡ offset_at placed 0
+  pub low : next ≤ 0xfff
+  pub whole : length space ≡ 4096
+  pub laid_so : space ≡ laid done placed lent
 
-      pointer : next ≡ offset_at (drop (suc k) offsets) 0
-      pointer = points ∙ ap (offset_at offsets) (sym e ∙ sym (add-zero (suc k))) ∙ sym (get_or-drop (suc k) offsets 0 0)
-
-  pub laid_none : (place : ℕ) → place ≡ length structures → laid (drop place structures) (drop place offsets) lent ≡ lent
+module _ {structures : List Structure} {offsets lent : List ℕ} (m : MayBeLaid structures offsets lent) where
+  pub none_laid : LaidBehind structures offsets structures offsets lent lent 0
   unfolding laid
-  laid_none place e =
-      ap (λ (l : List (List ℕ)). laid l (drop place offsets) lent) (ap (λ (n : ℕ). drop n structures) e ∙ drop-length structures)
+  none_laid =
+      record {
+        done = [];
+        placed = [];
+        structured = sym (append-nil structures);
+        offset = sym (append-nil offsets);
+        same = m.each;
+        points = refl;
+        low = omega arith;
+        whole = m.whole;
+        laid_so = refl;
+      }
+
+  -- the last of those that are left
+  module _ {ahead : List Structure} {left space : List ℕ} {next : ℕ} (b : LaidBehind structures offsets ahead left lent space next)
+      (structures_left : List Structure) (structure : Structure) (offsets_left : List ℕ) (at : ℕ)
+      (last : ahead ≡ structures_left ++ structure ∷ []) (there : left ≡ offsets_left ++ at ∷ []) where
+    structured_on : structures ≡ structures_left ++ structure ∷ b.done
+    structured_on = b.structured ∙ ap (λ (l : List Structure). l ++ b.done) last ∙ append_snoc structures_left structure b.done
+
+    offset_on : offsets ≡ offsets_left ++ at ∷ b.placed
+    offset_on = b.offset ∙ ap (λ (l : List ℕ). l ++ b.placed) there ∙ append_snoc offsets_left at b.placed
+
+    same_on : length offsets_left ≡ length structures_left
+    same_on = omega (arith, b.same, ap length last, ap length there, length-append structures_left (structure ∷ []), length-append offsets_left (at ∷ []))
+
+    pub last_inside : at + 4 ≤ 4096
+    last_inside =
+        subst (λ (n : ℕ). n + 4 ≤ 4096)
+        (ap (λ (l : List ℕ). offset_at l (length offsets_left)) offset_on ∙ get_or-append_seam offsets_left at b.placed 0)
+        (m.inside (length offsets_left) (omega (arith, ap length offset_on, length-append offsets_left (at ∷ b.placed))))
+
+    pub laid_on : {after : List ℕ} → after ≡ put space at (four_of (header_word structure next))
+        → LaidBehind structures offsets structures_left offsets_left lent after at
+    unfolding laid
+    laid_on e =
+        record {
+          done = structure ∷ b.done;
+          placed = at ∷ b.placed;
+          structured = structured_on;
+          offset = offset_on;
+          same = same_on;
+          points = refl;
+          low = omega (arith, last_inside);
+          whole = ap length e ∙ put_length space at (four_of (header_word structure next)) (omega (arith, b.whole, last_inside)) ∙ b.whole;
+          laid_so = e ∙ ap₂ (λ (l : List ℕ) (n : ℕ). put l at (four_of (header_word structure n))) b.laid_so b.points;
+        }

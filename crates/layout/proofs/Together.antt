@@ -7,11 +7,13 @@ use mathlib.Core.Path.{◌≡◌, sym, ap, subst, ◌∙◌}
 use native.Mathlib.Omega.{arith}
 use lib.ListN.{length, take, drop}
 use lib.Seq.{take_at}
-use Rattle.answers.specs.Numbers.{answer_of}
-use Rattle.answers.specs.declared.Answer.{Answer}
+use Rattle.std.specs.Prelude.{⊤, Result}
+use Rattle.answers.specs.Numbers.{answered}
+use Rattle.answers.specs.declared.Refusal.{Refusal}
 use Rattle.words.specs.Fields.{word}
 use Rattle.lists.specs.declared.Kind.TheVariants.{Extended}
 use Rattle.lists.specs.Walks.{Roomy, Lists, Walks, Walked}
+use Rattle.layout.specs.declared.Structure.{Structure}
 use Rattle.layout.specs.Structures.{identity, version, structure_at, are_bad}
 use Rattle.layout.specs.Accepting.{offset_at, Acceptable, Checks, Checks.misdescribed, Checks.unaccepted, Checks.accepted}
 use Rattle.layout.specs.Proposing.{Plans, Plans.misdescribed, Plans.roomless, Plans.unplaced, Plans.proposed}
@@ -21,28 +23,28 @@ use Rattle.layout.proofs.Listed.{SixteenBits, walked_as_given, headed_as_given}
 use Rattle.layout.proofs.Unique.{unlike, blamed}
 
 -- what becomes of a proposal: any answer of the checker; of the writer, with any space; any walk of what it left, and the header at each offset
-pub record Becomes (structures : List (List ℕ)) (offsets : List ℕ) : Type 0 where
-  pub accepted : (r : Answer) → Checks structures offsets r → answer_of r ≡ 0
-  pub written : (s : List ℕ) (r : Answer) (after : List ℕ) → length s ≡ 4096 → Writes structures offsets s r after → answer_of r ≡ 0
-  pub listed : (s : List ℕ) (r : Answer) (after : List ℕ) → length s ≡ 4096 → Writes structures offsets s r after
+pub record Becomes (structures : List Structure) (offsets : List ℕ) : Type 0 where
+  pub accepted : (r : Result ⊤ Refusal) → Checks structures offsets r → answered r ≡ 0
+  pub written : (s : List ℕ) (r : Result ⊤ Refusal) (after : List ℕ) → length s ≡ 4096 → Writes structures offsets s r after → answered r ≡ 0
+  pub listed : (s : List ℕ) (r : Result ⊤ Refusal) (after : List ℕ) → length s ≡ 4096 → Writes structures offsets s r after
       → (room : List ℕ) (q : Walked) (left : List ℕ) → Roomy Extended room → Walks Extended after room q left → Lists offsets room q left
-  pub headed : (s : List ℕ) (r : Answer) (after : List ℕ) → length s ≡ 4096 → Writes structures offsets s r after → (k : ℕ) → k < length offsets
+  pub headed : (s : List ℕ) (r : Result ⊤ Refusal) (after : List ℕ) → length s ≡ 4096 → Writes structures offsets s r after → (k : ℕ) → k < length offsets
       → Fields (word after (offset_at offsets k)) (identity (structure_at structures k)) (version (structure_at structures k)) (next_at offsets k)
 
 -- the statement. The proposal is what stands at the front of the room
 abbrev pub PlannedIsListed : Type 0
 PlannedIsListed =
-    (structures : List (List ℕ)) (room : List ℕ) (r : Answer) (after : List ℕ) → SixteenBits structures → Plans structures room r after
-    → answer_of r ≡ 0 → Becomes structures (take (length structures) after)
+    (structures : List Structure) (room : List ℕ) (r : Result ⊤ Refusal) (after : List ℕ) → SixteenBits structures → Plans structures room r after
+    → answered r ≡ 0 → Becomes structures (take (length structures) after)
 
-module _ {structures : List (List ℕ)} {offsets : List ℕ} (wide : SixteenBits structures) (good : are_bad structures ≡ false)
+module _ {structures : List Structure} {offsets : List ℕ} (wide : SixteenBits structures) (good : are_bad structures ≡ false)
     (fine : Acceptable structures offsets) where
-  checks : (r : Answer) → Checks structures offsets r → answer_of r ≡ 0
+  checks : (r : Result ⊤ Refusal) → Checks structures offsets r → answered r ≡ 0
   checks r (misdescribed bad e) = absurd (unlike bad good)
   checks r (unaccepted x n e) = absurd (n fine)
   checks r (accepted x a e) = e
 
-  writes : (s : List ℕ) (r : Answer) (after : List ℕ) → length s ≡ 4096 → Writes structures offsets s r after → answer_of r ≡ 0
+  writes : (s : List ℕ) (r : Result ⊤ Refusal) (after : List ℕ) → length s ≡ 4096 → Writes structures offsets s r after → answered r ≡ 0
   writes s r after whole (misdescribed cause e) = absurd (blamed structures s cause whole good)
   writes s r after whole (unaccepted h x n e) = absurd (n fine)
   writes s r after whole (written h x a e w) = e

@@ -4,17 +4,19 @@ use mathlib.Core.Bool.{Bool, true, false}
 use mathlib.Core.List.{List, [], ◌∷◌, ◌++◌}
 use mathlib.Core.Logic.{◌⊎◌, ⊎_elim}
 use mathlib.Core.Logic.◌⊎◌.{inl, inr}
-use mathlib.Core.Path.{◌≡◌, sym, ap, ◌∙◌}
+use mathlib.Core.Path.{◌≡◌, refl, sym, ap, ◌∙◌}
 use native.Mathlib.Omega.{arith}
 use borrow.Author.Tests.{ltb-true, ltb-false}
 use lib.Dec.{ltb}
 use lib.ListN.{length, drop}
 use lib.Seq.{ext_get_or}
-use Rattle.answers.specs.Numbers.{answer_of}
-use Rattle.answers.specs.declared.Answer.{Answer}
-use Rattle.answers.proofs.Unique.{answer_tells}
+use Rattle.std.specs.Prelude.{⊤, Result, Ok, Err}
+use Rattle.answers.specs.Numbers.{answered}
+use Rattle.answers.specs.declared.Refusal.{Refusal}
+use Rattle.answers.proofs.Unique.{number_tells, number_positive}
 use Rattle.words.specs.Bytes.{byte, four}
 use Rattle.words.proofs.Laws.{four_at}
+use Rattle.layout.specs.declared.Structure.{Structure}
 use Rattle.layout.specs.Structures.{are_bad}
 use Rattle.layout.specs.Accepting.{offset_at, Checks, Checks.misdescribed, Checks.unaccepted, Checks.accepted, Refuses}
 use Rattle.layout.specs.Proposing.{Lowest, Plans, Plans.misdescribed, Plans.roomless, Plans.unplaced, Plans.proposed}
@@ -24,24 +26,30 @@ use Rattle.layout.proofs.Sound.{tested}
 -- the statements
 abbrev pub CheckUnique : Type 0
 CheckUnique =
-    (structures : List (List ℕ)) (offsets : List ℕ) (r q : Answer) → Checks structures offsets r → Checks structures offsets q → r ≡ q
+    (structures : List Structure) (offsets : List ℕ) (r q : Result ⊤ Refusal) → Checks structures offsets r → Checks structures offsets q → r ≡ q
 
 abbrev pub PlanUnique : Type 0
 PlanUnique =
-    (structures : List (List ℕ)) (room : List ℕ) (r q : Answer) (l m : List ℕ) → Plans structures room r l → Plans structures room q m
+    (structures : List Structure) (room : List ℕ) (r q : Result ⊤ Refusal) (l m : List ℕ) → Plans structures room r l → Plans structures room q m
     → (r ≡ q) × (l ≡ m)
 
 abbrev pub WriteUnique : Type 0
 WriteUnique =
-    (structures : List (List ℕ)) (offsets s : List ℕ) (r q : Answer) (l m : List ℕ) → Writes structures offsets s r l
+    (structures : List Structure) (offsets s : List ℕ) (r q : Result ⊤ Refusal) (l m : List ℕ) → Writes structures offsets s r l
     → Writes structures offsets s q m → (r ≡ q) × (l ≡ m)
 
 -- two answers with the same number, and a number that two answers can't both have
-same : {r q : Answer} {n : ℕ} → answer_of r ≡ n → answer_of q ≡ n → r ≡ q
-same {r} {q} e f = answer_tells r q (e ∙ sym f)
+answered_tells : (r q : Result ⊤ Refusal) → answered r ≡ answered q → r ≡ q
+answered_tells (Ok a) (Ok b) e = refl
+answered_tells (Ok a) (Err q) e = absurd (number_positive q (sym e))
+answered_tells (Err r) (Ok b) e = absurd (number_positive r e)
+answered_tells (Err r) (Err q) e = ap Err (number_tells r q e)
+
+same : {r q : Result ⊤ Refusal} {n : ℕ} → answered r ≡ n → answered q ≡ n → r ≡ q
+same {r} {q} e f = answered_tells r q (e ∙ sym f)
 
 pub unlike : {b : Bool} → b ≡ true → b ≡ false → ⊥
-unlike e f = let z : ◌≡◌ {A = Bool} true false = sym e ∙ f in let n : ◌≡◌ {A = ℕ} 0 1 = cc in omega arith
+unlike e f = cc
 
 pub check_unique : CheckUnique
 check_unique structures offsets r q (misdescribed bad e) (misdescribed x f) = same e f
@@ -56,7 +64,7 @@ check_unique structures offsets r q (accepted good a e) (accepted x b f) = same 
 
 -- ---- the planner: two lowest proposals are the same one
 
-pub lowest_unique : {structures : List (List ℕ)} {a b : List ℕ} → Lowest structures a → Lowest structures b → a ≡ b
+pub lowest_unique : {structures : List Structure} {a b : List ℕ} → Lowest structures a → Lowest structures b → a ≡ b
 lowest_unique {a = a} {b = b} x y =
     let p = x.acceptable.each in
     let q = y.acceptable.each in
@@ -66,7 +74,7 @@ lowest_unique {a = a} {b = b} x y =
     let high = y.lowest a x.acceptable k (omega arith) in
     omega arith)
 
-refused_same : {n : ℕ} {lent l m : List ℕ} {r q : Answer} → Refuses n lent r l → Refuses n lent q m → (r ≡ q) × (l ≡ m)
+refused_same : {n : ℕ} {lent l m : List ℕ} {r q : Result ⊤ Refusal} → Refuses n lent r l → Refuses n lent q m → (r ≡ q) × (l ≡ m)
 refused_same a b = (same a.given b.given, a.kept ∙ sym b.kept)
 
 pub plan_unique : PlanUnique
@@ -112,7 +120,7 @@ in_or_out (at ∷ offsets) place =
         ⊎_elim (λ i. inl (record { which = suc i.which; one = omega (arith, i.one); from = i.from; before = i.before }))
         (λ n. inr (λ i. neither out n i.which i.one i.from i.before)) rest
 
-pub written_unique : {structures : List (List ℕ)} {offsets s l m : List ℕ} → Written structures offsets s l → Written structures offsets s m → l ≡ m
+pub written_unique : {structures : List Structure} {offsets s l m : List ℕ} → Written structures offsets s l → Written structures offsets s m → l ≡ m
 written_unique {offsets = offsets} {l = l} {m = m} a b =
     ext_get_or 0 l m (a.sized ∙ sym b.sized) (λ place h. ⊎_elim inside (λ out. a.others place out ∙ sym (b.others place out)) (in_or_out offsets place))
   where
@@ -126,7 +134,7 @@ written_unique {offsets = offsets} {l = l} {m = m} a b =
         ∙ ap (byte m) (sym split)
 
 -- a cause of 1 is there, or none is
-pub blamed : (structures : List (List ℕ)) (s : List ℕ) → (length s ≡ 4096 → ⊥) ⊎ (are_bad structures ≡ true) → length s ≡ 4096
+pub blamed : (structures : List Structure) (s : List ℕ) → (length s ≡ 4096 → ⊥) ⊎ (are_bad structures ≡ true) → length s ≡ 4096
     → are_bad structures ≡ false → ⊥
 blamed structures s cause whole good = ⊎_elim (λ n. n whole) (λ bad. unlike bad good) cause
 

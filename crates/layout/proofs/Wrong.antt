@@ -11,10 +11,12 @@ use mathlib.Core.Path.{◌≡◌, refl, sym, ap, ◌∙◌}
 use native.Mathlib.Omega.{arith}
 use lib.Dec.{lit<, lit≤}
 use lib.ListN.{length, get_or, drop, replicate, get_or-append, get_or-eq_default}
-use Rattle.answers.specs.Numbers.{answer_of}
-use Rattle.answers.specs.declared.Answer.{Answer}
+use Rattle.std.specs.Prelude.{⊤, Result}
+use Rattle.answers.specs.Numbers.{answered}
+use Rattle.answers.specs.declared.Refusal.{Refusal}
 use Rattle.words.specs.Bytes.{byte, four}
 use Rattle.words.specs.Fields.{bits, word}
+use Rattle.layout.specs.declared.Structure.{Structure}
 use Rattle.layout.specs.Structures.{extent, structure_at, is_bad, are_bad}
 use Rattle.layout.specs.Accepting.{offset_at, end_at, Takes, Acceptable, Checks}
 use Rattle.layout.specs.Proposing.{needed, Plans, Plans.misdescribed, Plans.roomless, Plans.unplaced, Plans.proposed}
@@ -29,14 +31,14 @@ use Rattle.layout.proofs.Sound.{given}
 -- ---- checkers: any answer of any checker that meets the promise
 
 -- "an overlap test between neighbours only by start": it accepts whatever is right but for an overlap
-pub record RightButOverlap (structures : List (List ℕ)) (offsets : List ℕ) : Type 0 where
+pub record RightButOverlap (structures : List Structure) (offsets : List ℕ) : Type 0 where
   pub each : length offsets ≡ length structures
   pub first : offset_at offsets 0 ≡ 0x100
   pub aligned : (k : ℕ) → k < length offsets → offset_at offsets k % 4 ≡ 0
   pub rising : (j k : ℕ) → j < k → k < length offsets → offset_at offsets j < offset_at offsets k
   pub inside : (k : ℕ) → k < length offsets → end_at structures offsets k ≤ 0x1000
 
-pub record Overlap (structures : List (List ℕ)) (offsets : List ℕ) : Type 0 where
+pub record Overlap (structures : List Structure) (offsets : List ℕ) : Type 0 where
   pub one : ℕ
   pub other : ℕ
   pub place : ℕ
@@ -47,69 +49,69 @@ pub record Overlap (structures : List (List ℕ)) (offsets : List ℕ) : Type 0 
 
 abbrev pub NoOverlapLetThrough : Type 0
 NoOverlapLetThrough =
-    (structures : List (List ℕ)) (offsets : List ℕ) (r : Answer) → Checks structures offsets r → Overlap structures offsets → answer_of r ≡ 0 → ⊥
+    (structures : List Structure) (offsets : List ℕ) (r : Result ⊤ Refusal) → Checks structures offsets r → Overlap structures offsets → answered r ≡ 0 → ⊥
 
 -- "offsets that may be equal": they overlap, where the structures are not bad
 abbrev pub EqualOverlap : Type 0
 EqualOverlap =
-    (structures : List (List ℕ)) (offsets : List ℕ) → are_bad structures ≡ false → length offsets ≡ length structures → (j k : ℕ) → j < k
+    (structures : List Structure) (offsets : List ℕ) → are_bad structures ≡ false → length offsets ≡ length structures → (j k : ℕ) → j < k
     → k < length offsets → offset_at offsets j ≡ offset_at offsets k → Overlap structures offsets
 
 abbrev pub NoEqualLetThrough : Type 0
 NoEqualLetThrough =
-    (structures : List (List ℕ)) (offsets : List ℕ) (r : Answer) → Checks structures offsets r → (j k : ℕ) → j < k → k < length offsets
-    → offset_at offsets j ≡ offset_at offsets k → answer_of r ≡ 0 → ⊥
+    (structures : List Structure) (offsets : List ℕ) (r : Result ⊤ Refusal) → Checks structures offsets r → (j k : ℕ) → j < k → k < length offsets
+    → offset_at offsets j ≡ offset_at offsets k → answered r ≡ 0 → ⊥
 
 -- one that ends past 1000h, and offsets of another count
 abbrev pub NoLateEndLetThrough : Type 0
 NoLateEndLetThrough =
-    (structures : List (List ℕ)) (offsets : List ℕ) (r : Answer) → Checks structures offsets r → (k : ℕ) → k < length offsets
-    → 0x1000 < end_at structures offsets k → answer_of r ≡ 0 → ⊥
+    (structures : List Structure) (offsets : List ℕ) (r : Result ⊤ Refusal) → Checks structures offsets r → (k : ℕ) → k < length offsets
+    → 0x1000 < end_at structures offsets k → answered r ≡ 0 → ⊥
 
 abbrev pub NoOtherCountLetThrough : Type 0
 NoOtherCountLetThrough =
-    (structures : List (List ℕ)) (offsets : List ℕ) (r : Answer) → Checks structures offsets r → (length offsets ≡ length structures → ⊥)
-    → answer_of r ≡ 0 → ⊥
+    (structures : List Structure) (offsets : List ℕ) (r : Result ⊤ Refusal) → Checks structures offsets r → (length offsets ≡ length structures → ⊥)
+    → answered r ≡ 0 → ⊥
 
 -- one that is acceptable turned away
 abbrev pub NoAcceptableTurnedAway : Type 0
 NoAcceptableTurnedAway =
-    (structures : List (List ℕ)) (offsets : List ℕ) (r : Answer) → Checks structures offsets r → are_bad structures ≡ false
-    → Acceptable structures offsets → answer_of r ≡ 18 → ⊥
+    (structures : List Structure) (offsets : List ℕ) (r : Result ⊤ Refusal) → Checks structures offsets r → are_bad structures ≡ false
+    → Acceptable structures offsets → answered r ≡ 18 → ⊥
 
 -- ---- planners
 
 -- one that does not round puts a structure right behind one whose length is no multiple of 4
 abbrev pub NoUnroundedProposed : Type 0
 NoUnroundedProposed =
-    (structures : List (List ℕ)) (room : List ℕ) (r : Answer) (after : List ℕ) → Plans structures room r after → (k : ℕ)
-    → suc k < length structures → (extent (structure_at structures k) % 4 ≡ 0 → ⊥) → answer_of r ≡ 0
+    (structures : List Structure) (room : List ℕ) (r : Result ⊤ Refusal) (after : List ℕ) → Plans structures room r after → (k : ℕ)
+    → suc k < length structures → (extent (structure_at structures k) % 4 ≡ 0 → ⊥) → answered r ≡ 0
     → offset_at after (suc k) ≡ end_at structures after k → ⊥
 
 -- 14 where there is a layout, and a proposal where there is none
 abbrev pub NoFourteenTooSoon : Type 0
 NoFourteenTooSoon =
-    (structures : List (List ℕ)) (room : List ℕ) (r : Answer) (after : List ℕ) → Plans structures room r after → needed structures ≤ 3840
-    → answer_of r ≡ 14 → ⊥
+    (structures : List Structure) (room : List ℕ) (r : Result ⊤ Refusal) (after : List ℕ) → Plans structures room r after → needed structures ≤ 3840
+    → answered r ≡ 14 → ⊥
 
 abbrev pub NoProposalTooLate : Type 0
 NoProposalTooLate =
-    (structures : List (List ℕ)) (room : List ℕ) (r : Answer) (after : List ℕ) → Plans structures room r after → 3840 < needed structures
-    → answer_of r ≡ 0 → ⊥
+    (structures : List Structure) (room : List ℕ) (r : Result ⊤ Refusal) (after : List ℕ) → Plans structures room r after → 3840 < needed structures
+    → answered r ≡ 0 → ⊥
 
 -- ---- writers
 
 -- "the last pointer left as it was": a space that has something there
 abbrev pub NoLastPointerKept : Type 0
 NoLastPointerKept =
-    (structures : List (List ℕ)) (offsets s : List ℕ) (r : Answer) (after : List ℕ) → SixteenBits structures → Writes structures offsets s r after
-    → (last : ℕ) → suc last ≡ length offsets → (bits 31 20 (word s (offset_at offsets last)) ≡ 0 → ⊥) → answer_of r ≡ 0
+    (structures : List Structure) (offsets s : List ℕ) (r : Result ⊤ Refusal) (after : List ℕ) → SixteenBits structures → Writes structures offsets s r after
+    → (last : ℕ) → suc last ≡ length offsets → (bits 31 20 (word s (offset_at offsets last)) ≡ 0 → ⊥) → answered r ≡ 0
     → bits 31 20 (word after (offset_at offsets last)) ≡ bits 31 20 (word s (offset_at offsets last)) → ⊥
 
 -- "writing before the check": a header is there, of a layout that is not accepted, where another word was
 abbrev pub NoneWrittenBefore : Type 0
 NoneWrittenBefore =
-    (structures : List (List ℕ)) (offsets s : List ℕ) (r : Answer) (after : List ℕ) → Writes structures offsets s r after
+    (structures : List Structure) (offsets s : List ℕ) (r : Result ⊤ Refusal) (after : List ℕ) → Writes structures offsets s r after
     → (Acceptable structures offsets → ⊥) → (k : ℕ)
     → (four s (offset_at offsets k) ≡ four_of (header_word (structure_at structures k) (next_at offsets k)) → ⊥)
     → four after (offset_at offsets k) ≡ four_of (header_word (structure_at structures k) (next_at offsets k)) → ⊥
@@ -117,12 +119,12 @@ NoneWrittenBefore =
 -- a byte that is in no header word and is another one afterwards
 abbrev pub NoOtherByteChanged : Type 0
 NoOtherByteChanged =
-    (structures : List (List ℕ)) (offsets s : List ℕ) (r : Answer) (after : List ℕ) → Writes structures offsets s r after → (place : ℕ)
+    (structures : List Structure) (offsets s : List ℕ) (r : Result ⊤ Refusal) (after : List ℕ) → Writes structures offsets s r after → (place : ℕ)
     → (InHeader offsets place → ⊥) → (byte after place ≡ byte s place → ⊥) → ⊥
 
 -- ---- the theorems
 
-accepted_is : {structures : List (List ℕ)} {offsets : List ℕ} {r : Answer} → Checks structures offsets r → answer_of r ≡ 0
+accepted_is : {structures : List Structure} {offsets : List ℕ} {r : Result ⊤ Refusal} → Checks structures offsets r → answered r ≡ 0
     → Acceptable structures offsets
 accepted_is {structures} {offsets} {r} c z = ((check_number structures offsets r c).zero.0 z).1
 
@@ -202,13 +204,13 @@ none_written_before structures offsets s r after x refused k other e =
 -- ---- an input at which each fault shows, of structures that are not bad
 
 -- eight bytes and four; four and eight; five and four
-abbrev pub eight_and_four : List (List ℕ)
+abbrev pub eight_and_four : List Structure
 eight_and_four = of 8 ∷ of 4 ∷ []
 
-abbrev pub four_and_eight : List (List ℕ)
+abbrev pub four_and_eight : List Structure
 four_and_eight = of 4 ∷ of 8 ∷ []
 
-abbrev pub five_and_four : List (List ℕ)
+abbrev pub five_and_four : List Structure
 five_and_four = of 5 ∷ of 4 ∷ []
 
 pub none_is_bad : (are_bad eight_and_four ≡ false) × (are_bad four_and_eight ≡ false) × (are_bad five_and_four ≡ false)

@@ -1,61 +1,49 @@
 // The checker: whether a proposal of offsets is accepted, in one pass over them.
-ghost use Rattle.std.specs.Prelude.{◌≡◌};
+ghost use Rattle.std.specs.Prelude.{◌≡◌, ◌≤◌};
 ghost use Rattle.layout.specs.Accepting.{Checks};
+ghost use Rattle.layout.specs.Structures.{extent};
 ghost use Rattle.layout.specs.Inner.{may_stand, accepts};
 
-use super::{LENGTH, START, Structure, structures};
-use answers::{Answer, Refusal};
+use super::{START, Structure, structures};
+use answers::Refusal;
 
 // Whether a proposal is accepted, structure by structure in the given order.
-pub fn check(structures: &[Structure], offsets: &[u16]) -> Answer
+pub fn check(structures: &[Structure], offsets: &[u16]) -> Result<(), Refusal>
     ensures { Checks structures.now offsets.now result }
 {
     if structures::are_bad(structures) {
-        return Answer::Refused(Refusal::BadDescription);
+        return Err(Refusal::BadDescription);
     }
-    if accepts(structures, offsets) {
-        return Answer::Done;
+    if !accepts(structures, offsets) {
+        return Err(Refusal::NotAccepted);
     }
-    Answer::Refused(Refusal::NotAccepted)
+    Ok(())
 }
 
-// Whether a structure of this length may stand at an offset: a multiple of 4, where all before it have ended, and it ends by 1000h.
-fn may_stand(ended: usize, length: u16, at: u16) -> bool
-    ensures { result ≡ may_stand ended length at }
-{
-    if at & 3 != 0 {
-        return false;
+impl Structure {
+    // Whether it may stand at an offset: a multiple of 4, where all before it have ended, and it ends by 1000h.
+    fn may_stand(self, ended: usize, at: usize) -> bool
+        requires { at ≤ 0xffff }
+        ensures { result ≡ may_stand ended (extent self) at }
+    {
+        at.is_multiple_of(4) && ended <= at && self.ends_at(at) <= words::SPACE
     }
-    if (at as usize) < ended {
-        return false;
-    }
-    structures::ends_at(at as usize, length) <= words::SPACE
 }
 
 // One offset a structure, the first at 100h, and each where it may stand.
 fn accepts(structures: &[Structure], offsets: &[u16]) -> bool
     ensures { result ≡ accepts structures.now offsets.now }
 {
-    if offsets.len() != structures.len() {
+    if offsets.len() != structures.len() || offsets.first() != Some(&START) {
         return false;
     }
-    if offsets.len() == 0 {
-        return false;
-    }
-    if offsets[0] as usize != START {
-        return false;
-    }
-    let mut ended = START;
-    let mut place = 0;
-    while place < offsets.len() {
-        let structure = structures[place];
-        let length = structure[LENGTH];
-        let at = offsets[place];
-        if !may_stand(ended, length, at) {
+    let mut ended = usize::from(START);
+    for (structure, offset) in structures.iter().zip(offsets) {
+        let at = usize::from(*offset);
+        if !structure.may_stand(ended, at) {
             return false;
         }
-        ended = structures::ends_at(at as usize, length);
-        place += 1;
+        ended = structure.ends_at(at);
     }
     true
 }

@@ -12,18 +12,17 @@ pub use checking::check;
 pub use planning::plan;
 pub use writing::write;
 
-// A structure: three numbers, each at its place below.
-pub type Structure = [u16; 3];
-
-pub const ID: usize = 0;
-
-pub const VERSION: usize = 1;
-
-// In bytes.
-pub const LENGTH: usize = 2;
+// A structure to be laid out: the ID and the version of its header, and its length in bytes.
+#[repr(C)]
+#[derive(Clone, Copy, Default)]
+pub struct Structure {
+    pub id: u16,
+    pub version: u16,
+    pub length: u16,
+}
 
 // The most structures that a list may have.
 pub const MOST: usize = 960;
 
 // Where an extended list begins.
-pub(crate) const START: usize = 0x100;
+pub(crate) const START: u16 = 0x100;

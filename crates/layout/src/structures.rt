@@ -1,8 +1,9 @@
 // Which structures may be laid out.
 ghost use Rattle.std.specs.Prelude.{◌≡◌, ◌+◌, ◌≤◌};
-ghost use Rattle.layout.specs.Structures.{is_bad, are_bad};
+ghost use Rattle.layout.specs.Structures.{extent, is_bad, are_bad};
+ghost use Rattle.layout.specs.Proposing.{rounded_up};
 
-use super::{ID, LENGTH, MOST, Structure, VERSION};
+use super::{MOST, Structure};
 
 const HIGHEST_VERSION: u16 = 15;
 
@@ -10,46 +11,39 @@ const SHORTEST: u16 = 4;
 
 const LONGEST: u16 = 3840;
 
-// An ID 0000h, or a version or a length outside its range.
-pub(crate) fn is_bad(structure: Structure) -> bool
-    ensures { result ≡ is_bad structure }
-{
-    if structure[ID] == 0 {
-        return true;
+impl Structure {
+    // An ID 0000h, or a version or a length outside its range.
+    #[tactic(auto, unfolding(crate::specs::Structures::is_bad))]
+    pub(crate) fn is_bad(self) -> bool
+        ensures { result ≡ is_bad self }
+    {
+        self.id == 0
+            || HIGHEST_VERSION < self.version
+            || !(SHORTEST..=LONGEST).contains(&self.length)
     }
-    if HIGHEST_VERSION < structure[VERSION] {
-        return true;
-    }
-    if structure[LENGTH] < SHORTEST {
-        return true;
-    }
-    LONGEST < structure[LENGTH]
-}
 
-// Where a structure at an offset ends: the first byte behind it.
-pub(crate) fn ends_at(at: usize, length: u16) -> usize
-    requires { at ≤ 0xffff }
-    ensures { result ≡ at + length }
-{
-    at + length as usize
+    // Where it ends if it stands at an offset: the first byte behind it.
+    pub(crate) fn ends_at(self, at: usize) -> usize
+        requires { at ≤ 0xffff }
+        ensures { result ≡ at + extent self }
+    {
+        at + usize::from(self.length)
+    }
+
+    // Its length rounded up to 4.
+    pub(crate) fn rounded_up(self) -> usize
+        ensures { result ≡ rounded_up (extent self) }
+    {
+        usize::from(self.length).next_multiple_of(4)
+    }
 }
 
 // None, more than 960, or one of them bad.
+#[tactic(auto, unfolding(crate::specs::Structures::are_bad))]
 pub(crate) fn are_bad(structures: &[Structure]) -> bool
     ensures { result ≡ are_bad structures.now }
 {
-    if structures.len() == 0 {
-        return true;
-    }
-    if MOST < structures.len() {
-        return true;
-    }
-    let mut place = 0;
-    while place < structures.len() {
-        if is_bad(structures[place]) {
-            return true;
-        }
-        place += 1;
-    }
-    false
+    structures.is_empty()
+        || MOST < structures.len()
+        || structures.iter().any(|structure| structure.is_bad())
 }

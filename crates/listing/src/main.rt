@@ -1,6 +1,7 @@
 #![tactic(auto)]
 // Lists the capabilities of a configuration space on standard input, as document 01 says.
 // The text is `report::listing`'s, whose promise says its bytes; no contract can say what a program reads or writes.
+// It reads and writes by the kit's `io`: std's would have this program assume `rattle_errno` too, and reads a short input only on a heap.
 
 // The file descriptors of the three standard streams.
 const STANDARD_INPUT: i32 = 0;

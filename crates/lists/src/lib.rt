@@ -4,7 +4,7 @@
 // scans the space. A refusal leaves the room as it was lent.
 ghost use Rattle.std.specs.Prelude.{◌≡◌, ◌≤◌, ◌<◌, length};
 ghost use Rattle.lists.specs.Table.{describe};
-ghost use Rattle.lists.specs.Walks.{Walks, WholeSpace, Roomy, Lists};
+ghost use Rattle.lists.specs.Walks.{Walks, Roomy, Lists};
 ghost use Rattle.lists.specs.Inner.{offset_of, last_of, Underway, Stops, Words, Onward, Told};
 
 use answers::Refusal;

@@ -12,9 +12,12 @@ use borrow.Author.Tests.{eq-eqb}
 use lib.ListN.{length, get_or}
 use Rattle.answers.specs.declared.Refusal.TheVariants.{BadDescription}
 use Rattle.words.specs.Fields.{bit}
+use Rattle.std.specs.Prelude.{Result, Ok, Err}
+use Rattle.answers.specs.declared.Refusal.{Refusal}
+use Rattle.multicast.specs.declared.Record.{Record}
 use Rattle.multicast.specs.declared.Judged.{Judged}
-use Rattle.multicast.specs.declared.Judged.TheVariants.{Refused, NoHit, Leaves}
-use Rattle.multicast.specs.Capability.{enable, receive}
+use Rattle.multicast.specs.declared.Judged.TheVariants.{NoHit, Leaves}
+use Rattle.multicast.specs.Capability.{enable, receive, numbers}
 use Rattle.multicast.specs.Judging.{port_at, is_bad, is_hit, Verdict, unsaid, no_hit, dropped, leaves, JudgedTold, judged, is_member, leaves_bit, leaves_by, tells_judged, ports_of, Judges}
 use Rattle.multicast.proofs.Alike.{Sound, bad_alike, entering_alike, judged_alike, member_alike, member_itself}
 use Rattle.multicast.proofs.Held.{member_other}
@@ -23,9 +26,9 @@ use Rattle.multicast.proofs.Sets.{below_or_from, bit_above, same_bits}
 use Rattle.multicast.proofs.Unique.{told_apart, judge_unique}
 
 -- two lists of ports have as many, and every number of every port alike, but for those excepted: by the port's place, and the number's in its record
-pub record AlikeBut (except : ℕ → ℕ → Type 0) (a b : List (List ℕ)) : Type 0 where
+pub record AlikeBut (except : ℕ → ℕ → Type 0) (a b : List Record) : Type 0 where
   pub many : length a ≡ length b
-  pub each : (k i : ℕ) → (except k i → ⊥) → get_or (port_at a k) i 0 ≡ get_or (port_at b k) i 0
+  pub each : (k i : ℕ) → (except k i → ⊥) → get_or (numbers (port_at a k)) i 0 ≡ get_or (numbers (port_at b k)) i 0
 
 -- the numbers' places
 abbrev receive_at : ℕ
@@ -37,39 +40,39 @@ block_all_at = 6
 -- the statements
 abbrev pub NeverLeavesByEntering : Type 0
 NeverLeavesByEntering =
-    (ports : List (List ℕ)) (entering address : ℕ) (r : Judged) → Judges ports entering address r → bit entering (ports_of r) ≡ 0
+    (ports : List Record) (entering address : ℕ) (r : Result Judged Refusal) → Judges ports entering address r → bit entering (ports_of r) ≡ 0
 
 abbrev pub LeavesByReceive : Type 0
 LeavesByReceive =
-    (ports : List (List ℕ)) (entering address group set k : ℕ) → Judges ports entering address (Leaves group set) → k < length ports
+    (ports : List Record) (entering address group set k : ℕ) → Judges ports entering address (Ok (Leaves group set)) → k < length ports
     → (k ≡ entering → ⊥) → bit k set ≡ bit group (receive (port_at ports k))
 
 abbrev pub ReceiveChangesItsPortOnly : Type 0
 ReceiveChangesItsPortOnly =
-    (a b : List (List ℕ)) (port entering address : ℕ) (r q : Judged) → AlikeBut (λ k i. (k ≡ port) × (i ≡ receive_at)) a b
+    (a b : List Record) (port entering address : ℕ) (r q : Result Judged Refusal) → AlikeBut (λ k i. (k ≡ port) × (i ≡ receive_at)) a b
     → Judges a entering address r → Judges b entering address q
     → (tells_judged r ≡ tells_judged q) × ((k : ℕ) → (k ≡ port → ⊥) → bit k (ports_of r) ≡ bit k (ports_of q))
 
 abbrev pub BlockAllCountsAtEntering : Type 0
 BlockAllCountsAtEntering =
-    (a b : List (List ℕ)) (entering address : ℕ) (r q : Judged) → AlikeBut (λ k i. (k ≡ entering → ⊥) × (i ≡ block_all_at)) a b
+    (a b : List Record) (entering address : ℕ) (r q : Result Judged Refusal) → AlikeBut (λ k i. (k ≡ entering → ⊥) × (i ≡ block_all_at)) a b
     → Judges a entering address r → Judges b entering address q → r ≡ q
 
 abbrev pub OthersCountByReceive : Type 0
 OthersCountByReceive =
-    (a b : List (List ℕ)) (entering address : ℕ) (r q : Judged) → AlikeBut (λ k i. (k ≡ entering → ⊥) × (i ≡ receive_at → ⊥)) a b
+    (a b : List Record) (entering address : ℕ) (r q : Result Judged Refusal) → AlikeBut (λ k i. (k ≡ entering → ⊥) × (i ≡ receive_at → ⊥)) a b
     → is_bad a entering ≡ false → is_bad b entering ≡ false → Judges a entering address r → Judges b entering address q → r ≡ q
 
 abbrev pub NotEnabledNoHit : Type 0
 NotEnabledNoHit =
-    (ports : List (List ℕ)) (entering address : ℕ) (r : Judged) → Judges ports entering address r → is_bad ports entering ≡ false
-    → enable (port_at ports entering) ≡ 0 → r ≡ NoHit
+    (ports : List Record) (entering address : ℕ) (r : Result Judged Refusal) → Judges ports entering address r → is_bad ports entering ≡ false
+    → enable (port_at ports entering) ≡ 0 → r ≡ Ok NoHit
 
 -- also by a list that is refused
 abbrev pub NotEnabledNotHit : Type 0
 NotEnabledNotHit =
-    (ports : List (List ℕ)) (entering address : ℕ) (r : Judged) → Judges ports entering address r → enable (port_at ports entering) ≡ 0
-    → (r ≡ NoHit) ⊎ (r ≡ Refused BadDescription)
+    (ports : List Record) (entering address : ℕ) (r : Result Judged Refusal) → Judges ports entering address r → enable (port_at ports entering) ≡ 0
+    → (r ≡ Ok NoHit) ⊎ (r ≡ Err BadDescription)
 
 -- ---- the port that it entered by
 
@@ -94,7 +97,7 @@ leaves_by_receive ports entering address group set k j h n =
 -- ---- two lists
 
 -- all but the ports are told alike, and so is each port whose Receive is alike
-module _ (a b : List (List ℕ)) (entering address : ℕ) (r q : Judged) (many : length a ≡ length b) (said : judged a entering address ≡ judged b entering address)
+module _ (a b : List Record) (entering address : ℕ) (r q : Result Judged Refusal) (many : length a ≡ length b) (said : judged a entering address ≡ judged b entering address)
     (j : Judges a entering address r) (l : Judges b entering address q) where
   told_alike : tells_judged r ≡ tells_judged q
   told_alike = j.tells ∙ said ∙ sym l.tells
@@ -113,7 +116,7 @@ module _ (a b : List (List ℕ)) (entering address : ℕ) (r q : Judged) (many :
   all_alike e = told_apart r q told_alike (same_bits 32 (ports_of r) (ports_of q) j.most l.most (λ k h. port_alike k (e k)))
 
 -- where what makes a record one is alike at every port, and Block All at the one that is entered by, the same is said
-said_alike : (except : ℕ → ℕ → Type 0) (a b : List (List ℕ)) (entering address : ℕ) → AlikeBut except a b → ((k i : ℕ) → i < 5 → except k i → ⊥)
+said_alike : (except : ℕ → ℕ → Type 0) (a b : List Record) (entering address : ℕ) → AlikeBut except a b → ((k i : ℕ) → i < 5 → except k i → ⊥)
     → (except entering block_all_at → ⊥) → judged a entering address ≡ judged b entering address
 said_alike except a b entering address s n m =
     judged_alike a b entering address (bad_alike a b entering s.many sound)
@@ -144,22 +147,22 @@ others_count_by_receive a b entering address r q s good fine j l =
     all_alike a b entering address r q s.many (judged_alike a b entering address (good ∙ sym fine) (entering_alike _ _ address (at 1) (at 2) (at 3) (at 4) (at 6))) j l
     (λ k. s.each k 5 (λ x. x.1 refl))
   where
-    at : (i : ℕ) → get_or (port_at a entering) i 0 ≡ get_or (port_at b entering) i 0
+    at : (i : ℕ) → get_or (numbers (port_at a entering)) i 0 ≡ get_or (numbers (port_at b entering)) i 0
     at i = s.each entering i (λ x. x.0 refl)
 
 -- ---- not enabled
 
-not_hit : (r : List ℕ) (address : ℕ) → enable r ≡ 0 → is_hit r address ≡ false
+not_hit : (r : Record) (address : ℕ) → enable r ≡ 0 → is_hit r address ≡ false
 unfolding is_hit
 not_hit r address e = rw (eq-eqb (enable r) 0 e)
 
 pub not_enabled_no_hit : NotEnabledNoHit
 not_enabled_no_hit ports entering address r j good e =
-    judge_unique ports entering address r NoHit j (judges_no_hit ports entering address good (not_hit (port_at ports entering) address e))
+    judge_unique ports entering address r (Ok NoHit) j (judges_no_hit ports entering address good (not_hit (port_at ports entering) address e))
 
 pub not_enabled_not_hit : NotEnabledNotHit
 not_enabled_not_hit ports entering address r j e = go (is_bad ports entering) refl
   where
-    go : (b : Bool) → is_bad ports entering ≡ b → (r ≡ NoHit) ⊎ (r ≡ Refused BadDescription)
-    go true bad = inr (judge_unique ports entering address r (Refused BadDescription) j (judges_bad ports entering address bad))
+    go : (b : Bool) → is_bad ports entering ≡ b → (r ≡ Ok NoHit) ⊎ (r ≡ Err BadDescription)
+    go true bad = inr (judge_unique ports entering address r (Err BadDescription) j (judges_bad ports entering address bad))
     go false good = inl (not_enabled_no_hit ports entering address r j good e)

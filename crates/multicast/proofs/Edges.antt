@@ -7,16 +7,18 @@ use mathlib.Core.Path.{◌≡◌, refl}
 use lib.ListN.{length, replicate}
 use Rattle.words.specs.Places.{placed}
 use Rattle.records.specs.Required.{sized}
+use Rattle.multicast.specs.declared.Record.{Record}
 use Rattle.multicast.specs.Capability.{is_multicast, record_at, clashes, capability_number, capability_says}
 use Rattle.multicast.specs.Records.{is_record}
 use Rattle.multicast.specs.Judging.{is_bad, is_hit, told, no_hit, dropped, leaves, unsaid, entering_by, judged, is_member, leaves_by}
 
 -- a port with this Num Group, index and base, enabled, that receives and blocks these groups
-abbrev port : ℕ → ℕ → ℕ → ℕ → ℕ → List ℕ
-port num index base receive block_all = 63 ∷ num ∷ 1 ∷ index ∷ base ∷ receive ∷ block_all ∷ []
+abbrev port : ℕ → ℕ → ℕ → ℕ → ℕ → Record
+port num index base receive block_all =
+    record { max_group = 63; num_group = num; enable = 1; index = index; base = base; receive = receive; block_all = block_all }
 
 -- what is said of an address at the first of three ports: groups 0 to num of it, group 3 is blocked there, group 2 leaves by the second, and group 40 by the third
-abbrev three : ℕ → ℕ → ℕ → List (List ℕ)
+abbrev three : ℕ → ℕ → ℕ → List Record
 three num index base =
     port num index base (2 ^ 64 - 1) (2 ^ 3) ∷ port 63 12 0 (2 ^ 2) (2 ^ 64 - 1) ∷ port 0 63 0 (2 ^ 40) 0 ∷ []
 
@@ -104,6 +106,6 @@ number_edges = (refl, refl, refl, refl, refl, refl, refl, refl, refl, refl)
 pub field_edges : capability_says (space_at 0x100 (0x12 ∷ 0x00 ∷ 0xf1 ∷ 0xff ∷ 0xe5 ∷ 0xff ∷ 0xc4 ∷ 0xff
     ∷ 0xcd ∷ 0x2f ∷ 0x43 ∷ 0x65 ∷ 0x87 ∷ 0xa9 ∷ 0xcb ∷ 0xed
     ∷ 1 ∷ 2 ∷ 3 ∷ 4 ∷ 5 ∷ 6 ∷ 7 ∷ 8 ∷ 0x11 ∷ 0x12 ∷ 0x13 ∷ 0x14 ∷ 0x15 ∷ 0x16 ∷ 0x17 ∷ 0x18 ∷ [])) 0x100
-    ≡ record { number = 0; fields = 0x25 ∷ 4 ∷ 1 ∷ 0x0d ∷ 0xedcba98765432000 ∷ 0x0807060504030201 ∷ 0x1817161514131211 ∷ [] }
+    ≡ record { number = 0; fields = record { max_group = 0x25; num_group = 4; enable = 1; index = 0x0d; base = 0xedcba98765432000; receive = 0x0807060504030201; block_all = 0x1817161514131211 } }
 unfolding capability_says capability_number sized placed is_multicast clashes record_at
 field_edges = refl

@@ -1,11 +1,12 @@
 -- Laws of tests that are lists of facts: what each of them says where the test passes. Assumes nothing.
-use Prim.Native.Nat.{ℕ, ◌%◌, ◌≤◌}
+use Prim.Native.Nat.{◌%◌, ◌≤◌}
 use mathlib.Core.Bool.{Bool, true, false, not, ◌&&◌}
-use mathlib.Core.List.{List, [], ◌∷◌}
+use mathlib.Core.List.{[], ◌∷◌}
 use mathlib.Core.Path.{◌≡◌, refl}
 use borrow.Author.Tests.{ltb-false, leb-true, eqb-true, eqb-false, ne_eqb, not-true}
 use lib.Dec.{eqb, leb, ltb}
 use Rattle.answers.proofs.Checks.{none_of}
+use Rattle.multicast.specs.declared.Record.{Record}
 use Rattle.multicast.specs.Capability.{max_group, num_group, enable, index, base, is_enabled, clashes}
 use Rattle.multicast.specs.Records.{is_record}
 
@@ -18,7 +19,7 @@ one_of_two true b e t = e
 one_of_two false b e t = absurd (eqb-false 0 1 refl (eqb-true 0 1 t))
 
 -- what a record is that the reading gives, in numbers
-pub record Fields (r : List ℕ) : Type 0 where
+pub record Fields (r : Record) : Type 0 where
   pub maximum : max_group r ≤ 63
   pub groups : num_group r ≤ max_group r
   pub enabling : enable r ≤ 1
@@ -26,10 +27,10 @@ pub record Fields (r : List ℕ) : Type 0 where
   pub most : index r ≤ 63
   pub aligned : base r % 4096 ≡ 0
 
-enabled_is : (r : List ℕ) → (enable r ≡ 0 → ⊥) → is_enabled r ≡ true
+enabled_is : (r : Record) → (enable r ≡ 0 → ⊥) → is_enabled r ≡ true
 enabled_is r n = rw (ne_eqb (enable r) 0 n)
 
-pub record_fields : (r : List ℕ) → is_record r ≡ true → Fields r
+pub record_fields : (r : Record) → is_record r ≡ true → Fields r
 unfolding is_record clashes
 record_fields r e =
     let a = both (leb (max_group r) 63) _ e in
@@ -48,7 +49,7 @@ record_fields r e =
     }
 
 -- and it has no numbers that do not go together
-pub record_clear : (r : List ℕ) → is_record r ≡ true → clashes r ≡ false
+pub record_clear : (r : Record) → is_record r ≡ true → clashes r ≡ false
 unfolding is_record
 record_clear r e =
     let a = both (leb (max_group r) 63) _ e in

@@ -14,6 +14,7 @@ use Rattle.answers.specs.Checks.{check}
 use Rattle.answers.proofs.Checks.{none_applies}
 use Rattle.words.specs.Bytes.{byte}
 use Rattle.words.specs.Fields.{bits, word}
+use Rattle.multicast.specs.declared.Record.{Record}
 use Rattle.multicast.specs.Capability.{max_group, enable, index, base, clashes, long, long_of, record_at, CapabilityTold, capability_checks, capability_number, capability_says}
 use Rattle.multicast.specs.Records.{AllBelow, Row, Given, is_record}
 use Rattle.multicast.proofs.Facts.{record_fields, record_clear}
@@ -21,7 +22,7 @@ use Rattle.multicast.proofs.Written.{space_with, below_space, written_found}
 
 -- the statement
 abbrev pub GivenExactly : Type 0
-GivenExactly = (r : List ℕ) → Given r ↔ (Row r × (is_record r ≡ true))
+GivenExactly = (r : Record) → Given r ↔ (Row r × (is_record r ≡ true))
 
 -- ---- what is read is seven numbers of 64 bits
 
@@ -63,7 +64,7 @@ six_small n = omega arith
 page_aligned : (n : ℕ) → bits 63 12 n * 4096 % 4096 ≡ 0
 page_aligned n = omega arith
 
-is_record_lem : (r : List ℕ) → max_group r ≤ 63 → enable r ≤ 1 → index r ≤ 63 → base r % 4096 ≡ 0 → clashes r ≡ false → is_record r ≡ true
+is_record_lem : (r : Record) → max_group r ≤ 63 → enable r ≤ 1 → index r ≤ 63 → base r % 4096 ≡ 0 → clashes r ≡ false → is_record r ≡ true
 unfolding is_record
 is_record_lem r m e i b c = rw (le-leb (max_group r) 63 m, le-leb (enable r) 1 e, le-leb (index r) 63 i, eq-eqb (base r % 4096) 0 b, c)
 
@@ -77,7 +78,7 @@ record_at_lem s at e = let f = fits_at s at in is_record_lem (record_at s at) f.
 
 -- ---- where the number is 0
 
-found : (s : List ℕ) (at : ℕ) (r : List ℕ) → capability_says s at ≡ record { number = 0; fields = r } → (clashes (record_at s at) ≡ false) × (record_at s at ≡ r)
+found : (s : List ℕ) (at : ℕ) (r : Record) → capability_says s at ≡ record { number = 0; fields = r } → (clashes (record_at s at) ≡ false) × (record_at s at ≡ r)
 unfolding capability_says capability_number
 found s at r e =
     let none : capability_number s at ≡ 0 = ap (λ (t : CapabilityTold). t.number) e in (

@@ -1,19 +1,24 @@
 -- Laws of the ports that a group leaves by: of one port, and of a set that has those from a place on. Assumes nothing.
 use Prim.Native.Nat.{ℕ, zero, suc, ◌+◌, ◌-◌, ◌*◌, ◌%◌, ◌^◌, ◌≤◌, ◌<◌}
 use mathlib.Core.Bool.{Bool, true, false, ◌&&◌, cond}
-use mathlib.Core.List.{List}
+use mathlib.Core.List.{List, [], ◌∷◌}
 use mathlib.Core.Path.{◌≡◌, refl, sym, ap, subst, ◌∙◌}
 use native.Mathlib.Nat.{add-zero, le_refl, mod-eq_of_lt, pow-suc}
 use native.Mathlib.Omega.{arith}
 use borrow.Author.Tests.{eq-eqb, ne_eqb, lt-ltb, le-ltb}
-use lib.Bits.{bit_or}
 use lib.Pow.{pow_mono, pow_pos}
 use lib.Dec.{eqb}
-use lib.ListN.{length}
+use lib.ListN.{length, take, drop, length-drop}
+use lib.Seq.{take_all, length-take-le, get_or-take, get_or-drop}
+use Rattle.std.specs.Prelude.{reverse}
+use Rattle.std.specs.List.{fold}
+use Rattle.std.proofs.lemmas.Grind.{reverse_onto}
+use Rattle.std.proofs.lemmas.List.Sums.{fold-append}
 use Rattle.words.specs.Fields.{bit}
-use Rattle.multicast.specs.Capability.{receive}
+use Rattle.multicast.specs.declared.Record.{Record}
+use Rattle.multicast.specs.Capability.{receive, no_fields}
 use Rattle.multicast.specs.Judging.{port_at, is_member}
-use Rattle.multicast.specs.Inner.{member_bit, HoldsFrom, Spans, Gathers, SetOf}
+use Rattle.multicast.specs.Inner.{member_bit, HoldsFrom, put_below, SetOf}
 use Rattle.multicast.proofs.Sets.{bit_small, bit_above, below_set, lowest_bit, higher_bit}
 
 -- a bit as a test, and back
@@ -30,7 +35,7 @@ most_down count place set t h small l =
     one_more : count - place ≡ suc (count - (place + 1))
     one_more = omega arith
 
-module _ (ports : List (List ℕ)) (entering group : ℕ) where
+module _ (ports : List Record) (entering group : ℕ) where
   pub member_entering : (k : ℕ) → k < length ports → k ≡ entering → 0 ≡ member_bit ports entering group k
   unfolding is_member
   member_entering k h e = rw (lt-ltb k (length ports) h, eq-eqb k entering e)
@@ -80,64 +85,61 @@ module _ (ports : List (List ℕ)) (entering group : ℕ) where
 
 -- ---- what is gathered
 
-module _ (ports : List (List ℕ)) (to group above : ℕ) where
-  pub gathers_none : above < 2 ^ (length ports - to) → Gathers ports to to group above above
-  gathers_none h = ((λ entering apart s. s), h)
+-- a number below one power of two is below a higher one
+lower : (n i j : ℕ) → n < 2 ^ i → i ≤ j → n < 2 ^ j
+lower n i j h l = wide (2 ^ i) (2 ^ j) h (pow_mono l)
+  where
+    wide : (a b : ℕ) → n < a → a ≤ b → n < b
+    wide a b l m = omega arith
 
-  -- from a place on, and from the one below it: the port's Receive bit
-  pub gathers_down : (from place set b : ℕ) → from ≡ place + 1 → place < length ports → place < to → length ports ≤ 32
-      → b ≡ bit group (receive (port_at ports place)) → Gathers ports from to group above set
-      → Gathers ports place to group above (bit_or (set * 2 % 2 ^ 32) b)
-  gathers_down from place set b f h l few e g =
-      rw (below_set set b small narrow) (
-        (λ entering apart s. holds_down ports entering group place set b h (e ∙ member_other ports entering group place h (apart place (le_refl place) l)) (subst (λ (n : ℕ). HoldsFrom ports entering group n set) f (g.0 entering (λ k i j. apart k (omega arith) j) s))),
-        most_down (length ports) place set b h small (subst (λ (n : ℕ). set < 2 ^ (length ports - n)) f g.1),
-      )
-    where
-      small : b < 2
-      small = rw e (bit_small group (receive (port_at ports place)))
+module _ (ports : List Record) (entering group : ℕ) (few : length ports ≤ 32) where
+  -- a part of the list: what each of its ports receives is what the port receives that stands in its place
+  abbrev Part : List Record → ℕ → Type 0
+  Part part from = (k : ℕ) → k < length part → receive (port_at part k) ≡ receive (port_at ports (from + k))
 
-      narrow : set < 2 ^ 31
-      narrow = wide (2 ^ (length ports - from)) (2 ^ 31) g.1 (pow_mono {i = length ports - from} {j = 31} (omega arith))
-        where
-          wide : (a b : ℕ) → set < a → a ≤ b → set < b
-          wide a b l m = omega arith
+  -- a port of the list, below a set that has the members behind it
+  put : (port : Record) (from set : ℕ) → from < length ports → (from ≡ entering → ⊥) → receive port ≡ receive (port_at ports from)
+      → HoldsFrom ports entering group (from + 1) set → HoldsFrom ports entering group from (put_below group set port)
+  put port from set h apart same s =
+      rw (below_set set (bit group (receive port)) (bit_small group (receive port)) (lower set (length ports - (from + 1)) 31 s.most (omega arith)))
+      (holds_down ports entering group from set (bit group (receive port)) h (ap (bit group) same ∙ member_other ports entering group from h apart) s)
+
+  -- below a set that has the members behind a part, the members of the part, where the place that is entered by is none of it
+  gathered : (part : List Record) (from set : ℕ) → Part part from → from + length part ≤ length ports
+      → ((k : ℕ) → from ≤ k → k < from + length part → k ≡ entering → ⊥) → HoldsFrom ports entering group (from + length part) set
+      → HoldsFrom ports entering group from (fold (put_below group) set (reverse part))
+  gathered [] from set same inside apart s = subst (λ (n : ℕ). HoldsFrom ports entering group n set) (add-zero from) s
+  gathered (port ∷ part) from set same inside apart s =
+      rw (reverse_onto part port [], fold-append (put_below group) set (reverse part) (port ∷ []))
+      (put port from (fold (put_below group) set (reverse part)) (omega arith) (apart from (le_refl from) (omega arith)) (same 0 (omega arith) ∙ ap (λ (n : ℕ). receive (port_at ports n)) (add-zero from))
+      (gathered part (from + 1) set (λ k h. same (suc k) (omega arith) ∙ ap (λ (n : ℕ). receive (port_at ports n)) (omega arith)) (omega arith)
+      (λ k l h. apart k (omega arith) (omega arith)) (subst (λ (n : ℕ). HoldsFrom ports entering group n set) (omega arith) s)))
 
 -- a place is left out: the set above it, and a 0 for it
-module _ (ports : List (List ℕ)) (entering group set : ℕ) (h : entering < length ports) where
+module _ (ports : List Record) (entering group set : ℕ) (h : entering < length ports) where
   pub holds_entering : HoldsFrom ports entering group (entering + 1) set → HoldsFrom ports entering group entering (set * 2)
   holds_entering s =
       subst (HoldsFrom ports entering group entering) (omega arith) (holds_down ports entering group entering set 0 h (member_entering ports entering group entering h refl) s)
 
--- ---- twice: the places above the one that is entered by, and, with a 0 for that, those below
+-- ---- twice: the ports above the one that is entered by, and, with a 0 for that, those below
 
-narrow : (ports : List (List ℕ)) (entering above : ℕ) → entering < length ports → length ports ≤ 32 → above < 2 ^ (length ports - (entering + 1)) → above < 2 ^ 31
-narrow ports entering above h few l = wide (2 ^ (length ports - (entering + 1))) (2 ^ 31) l (pow_mono {i = length ports - (entering + 1)} {j = 31} (omega arith))
-  where
-    wide : (a b : ℕ) → above < a → a ≤ b → above < b
-    wide a b l m = omega arith
+module _ (ports : List Record) (entering group : ℕ) (h : entering < length ports) (few : length ports ≤ 32) where
+  pub gathered_all : (above set : ℕ) → above ≡ fold (put_below group) 0 (reverse (take (length ports - (entering + 1)) (drop (entering + 1) ports)))
+      → set ≡ fold (put_below group) (above * 2 % 2 ^ 32) (reverse (take entering ports)) → SetOf ports entering group set
+  gathered_all above set e f =
+      holds_all ports entering group set few
+      (rw (f, mod-eq_of_lt {n = above * 2} {m = 2 ^ 32} (omega (arith, lower above (length ports - (entering + 1)) 31 upper.most (omega arith))))
+      (gathered ports entering group few (take entering ports) 0 (above * 2) (λ k l. ap receive (get_or-take entering ports k no_fields (omega (arith, many))) ∙ ap (λ (n : ℕ). receive (port_at ports n)) (omega arith)) (omega (arith, many))
+      (λ k i l. λ same. omega (arith, many)) (subst (λ (n : ℕ). HoldsFrom ports entering group n (above * 2)) (omega (arith, many)) (holds_entering ports entering group above h upper))))
+    where
+      many : length (take entering ports) ≡ entering
+      many = length-take-le entering ports (omega arith)
 
-module _ (ports : List (List ℕ)) (entering group : ℕ) (h : entering < length ports) (few : length ports ≤ 32) where
-  pub gathered_start : group ≤ 63 → Spans ports (entering + 1) (length ports) group 0
-  gathered_start small = record { ordered = omega arith; inside = le_refl (length ports); few = few; small = small; fits = pow_pos (length ports - length ports) }
+      behind : length (drop (entering + 1) ports) ≡ length ports - (entering + 1)
+      behind = length-drop (entering + 1) ports
 
-  module _ (above : ℕ) where
-    doubled : above < 2 ^ (length ports - (entering + 1)) → above * 2 % 2 ^ 32 ≡ above * 2
-    doubled l = mod-eq_of_lt {n = above * 2} {m = 2 ^ 32} (omega (arith, narrow ports entering above h few l))
-
-    pub gathered_above : group ≤ 63 → above < 2 ^ (length ports - (entering + 1)) → Spans ports 0 entering group (above * 2 % 2 ^ 32)
-    gathered_above small l =
-        record {
-          ordered = omega arith;
-          inside = omega arith;
-          few = few;
-          small = small;
-          fits = rw (doubled l) (subst (λ (x : ℕ). x < 2 ^ (length ports - entering)) (add-zero (above * 2)) (most_down (length ports) entering above 0 h (omega arith) l));
-        }
-
-    pub gathered_all : (set : ℕ) → Gathers ports (entering + 1) (length ports) group 0 above → Gathers ports 0 entering group (above * 2 % 2 ^ 32) set
-        → SetOf ports entering group set
-    gathered_all set a b =
-        holds_all ports entering group set few
-        (b.0 entering (λ k i j e. absurd (omega arith))
-        (rw (doubled a.1) (holds_entering ports entering group above h (a.0 entering (λ k i j e. absurd (omega arith)) (holds_end ports entering group)))))
+      upper : HoldsFrom ports entering group (entering + 1) above
+      upper =
+          rw (e, take_all (length ports - (entering + 1)) (drop (entering + 1) ports) (omega (arith, behind)))
+          (gathered ports entering group few (drop (entering + 1) ports) (entering + 1) 0 (λ k l. ap receive (get_or-drop (entering + 1) ports k no_fields)) (omega (arith, behind))
+          (λ k i l. λ same. omega (arith, behind)) (subst (λ (n : ℕ). HoldsFrom ports entering group n 0) (omega (arith, behind)) (holds_end ports entering group)))

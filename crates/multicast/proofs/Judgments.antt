@@ -7,10 +7,12 @@ use native.Mathlib.Omega.{arith}
 use borrow.Author.Tests.{eq-eqb, ne_eqb, lt-ltb, le-ltb, ltb-false, le-leb, lt-leb, leb-false, not-false}
 use lib.Dec.{leb, ltb}
 use lib.ListN.{length}
+use Rattle.std.specs.Prelude.{Ok, Err}
 use Rattle.answers.proofs.Checks.{none_of}
 use Rattle.answers.specs.declared.Refusal.TheVariants.{BadDescription}
 use Rattle.words.specs.Fields.{bit}
-use Rattle.multicast.specs.declared.Judged.TheVariants.{Refused, NoHit, Dropped, Leaves}
+use Rattle.multicast.specs.declared.Record.{Record}
+use Rattle.multicast.specs.declared.Judged.TheVariants.{NoHit, Dropped, Leaves}
 use Rattle.multicast.specs.Capability.{block_all}
 use Rattle.multicast.specs.Records.{are_records}
 use Rattle.multicast.specs.Judging.{port_at, is_bad, group_of, is_hit, Verdict, no_hit, dropped, leaves, unsaid, JudgedTold, told, entering_by, judged, Judges}
@@ -20,7 +22,7 @@ use Rattle.multicast.proofs.Sets.{bit_above}
 no_bit : (k : ℕ) → bit k 0 ≡ 0
 no_bit k = bit_above k 0 0 (omega arith) (omega arith)
 
-abbrev causes : List (List ℕ) → ℕ → List Bool
+abbrev causes : List Record → ℕ → List Bool
 causes ports entering = ltb 32 (length ports) ∷ leb (length ports) entering ∷ not (are_records ports) ∷ []
 
 -- of the verdicts, that it leaves
@@ -30,7 +32,7 @@ is_leaves dropped = false
 is_leaves no_hit = false
 is_leaves unsaid = false
 
-module _ (ports : List (List ℕ)) (entering : ℕ) where
+module _ (ports : List Record) (entering : ℕ) where
   pub bad_long : 32 < length ports → is_bad ports entering ≡ true
   unfolding is_bad
   bad_long h = rw (lt-ltb 32 (length ports) h)
@@ -61,17 +63,17 @@ module _ (ports : List (List ℕ)) (entering : ℕ) where
   good_records e = not-false _ (none_of (causes ports entering) e).1.1.0
 
   module _ (address : ℕ) where
-    pub judges_bad : is_bad ports entering ≡ true → Judges ports entering address (Refused BadDescription)
+    pub judges_bad : is_bad ports entering ≡ true → Judges ports entering address (Err BadDescription)
     unfolding judged
     judges_bad e = record { tells = rw e; each = λ k h. rw e (no_bit k); most = omega arith }
 
-    pub judges_no_hit : is_bad ports entering ≡ false → is_hit (port_at ports entering) address ≡ false → Judges ports entering address NoHit
+    pub judges_no_hit : is_bad ports entering ≡ false → is_hit (port_at ports entering) address ≡ false → Judges ports entering address (Ok NoHit)
     unfolding judged entering_by
     judges_no_hit e h = record { tells = rw (e, h); each = λ k l. rw (e, h) (no_bit k); most = omega arith }
 
     pub judges_dropped : (group : ℕ) → is_bad ports entering ≡ false → is_hit (port_at ports entering) address ≡ true
         → group ≡ group_of (port_at ports entering) address → bit group (block_all (port_at ports entering)) ≡ 1
-        → Judges ports entering address (Dropped group)
+        → Judges ports entering address (Ok (Dropped group))
     unfolding judged entering_by
     judges_dropped group e h g b =
         let blocked = eq-eqb (bit group (block_all (port_at ports entering))) 1 b in
@@ -79,14 +81,14 @@ module _ (ports : List (List ℕ)) (entering : ℕ) where
 
     pub judges_leaves : (group set : ℕ) → is_bad ports entering ≡ false → is_hit (port_at ports entering) address ≡ true
         → group ≡ group_of (port_at ports entering) address → (bit group (block_all (port_at ports entering)) ≡ 1 → ⊥) → SetOf ports entering group set
-        → Judges ports entering address (Leaves group set)
+        → Judges ports entering address (Ok (Leaves group set))
     unfolding judged entering_by
     judges_leaves group set e h g b s =
         let free = ne_eqb (bit group (block_all (port_at ports entering))) 1 b in
         record { tells = rw (e, h, ← g, free); each = λ k l. rw (e, h, ← g, free) (s.each k l); most = s.most }
 
     -- a packet leaves by a good list only
-    pub leaves_good : (group set : ℕ) → Judges ports entering address (Leaves group set) → is_bad ports entering ≡ false
+    pub leaves_good : (group set : ℕ) → Judges ports entering address (Ok (Leaves group set)) → is_bad ports entering ≡ false
     unfolding judged is_leaves
     leaves_good group set j = go (is_bad ports entering) refl (ap (λ (t : JudgedTold). is_leaves t.verdict) j.tells)
       where

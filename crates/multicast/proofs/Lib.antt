@@ -4,7 +4,6 @@ pub mod Edges
 pub mod Facts
 pub mod Given
 pub mod Held
-pub mod Joins
 pub mod Judgments
 pub mod Numbers
 pub mod Refusals

@@ -6,19 +6,21 @@ use mathlib.Core.Path.{◌≡◌, sym, ap, subst, ◌∙◌}
 use native.Mathlib.Omega.{arith}
 use borrow.Author.Tests.{ne_eqb}
 use Rattle.answers.proofs.Checks.{First, Positive, gives_first, gives_one_of}
-use Rattle.multicast.specs.declared.Capability.{Capability}
+use Rattle.std.specs.Prelude.{Result}
+use Rattle.answers.specs.declared.Refusal.{Refusal}
+use Rattle.multicast.specs.declared.Record.{Record}
 use Rattle.multicast.specs.Capability.{CapabilityTold, tells_capability, capability_checks, capability_number, no_fields, capability_says}
 
 -- the statements, of any answer that meets its promise
 abbrev pub ReadNumber : Type 0
 ReadNumber =
-    (s : List ℕ) (at : ℕ) (r : Capability) → tells_capability r ≡ capability_says s at
+    (s : List ℕ) (at : ℕ) (r : Result Record Refusal) → tells_capability r ≡ capability_says s at
     → First (capability_checks s at) (tells_capability r).number × Memᴰ (tells_capability r).number (0 ∷ 1 ∷ 8 ∷ 9 ∷ 13 ∷ [])
 
 abbrev pub RefusedReadTellsNothing : Type 0
 RefusedReadTellsNothing =
-    (s : List ℕ) (at : ℕ) (r : Capability) → tells_capability r ≡ capability_says s at → ((tells_capability r).number ≡ 0 → ⊥)
-    → r.fields ≡ no_fields
+    (s : List ℕ) (at : ℕ) (r : Result Record Refusal) → tells_capability r ≡ capability_says s at → ((tells_capability r).number ≡ 0 → ⊥)
+    → (tells_capability r).fields ≡ no_fields
 
 one_of : (n : ℕ) → Memᴰ n (0 ∷ 1 ∷ 1 ∷ 8 ∷ 9 ∷ 13 ∷ []) → Memᴰ n (0 ∷ 1 ∷ 8 ∷ 9 ∷ 13 ∷ [])
 one_of n (Memᴰ.head e) = Memᴰ.head e

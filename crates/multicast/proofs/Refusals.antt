@@ -10,8 +10,10 @@ use native.Mathlib.Omega.{arith}
 use borrow.Author.Tests.{eqb-false}
 use lib.ListN.{length}
 use Rattle.answers.specs.declared.Refusal.TheVariants.{BadDescription}
+use Rattle.std.specs.Prelude.{Result, Err}
+use Rattle.answers.specs.declared.Refusal.{Refusal}
+use Rattle.multicast.specs.declared.Record.{Record}
 use Rattle.multicast.specs.declared.Judged.{Judged}
-use Rattle.multicast.specs.declared.Judged.TheVariants.{Refused}
 use Rattle.multicast.specs.Capability.{block_all}
 use Rattle.multicast.specs.Records.{Row, Given, is_record, are_records}
 use Rattle.multicast.specs.Judging.{port_at, is_bad, group_of, is_hit, is_set, JudgedTold, told, unsaid, no_hit, dropped, leaves, entering_by, judged, tells_judged, Judges}
@@ -22,7 +24,7 @@ use Rattle.multicast.proofs.Unique.{judge_unique}
 use Rattle.multicast.proofs.Walks.{record_among}
 
 -- why an address is refused: "a longer list, no such port, or a record the reading can't give"
-pub data Refusable (ports : List (List ℕ)) (entering : ℕ) : Type 0 where
+pub data Refusable (ports : List Record) (entering : ℕ) : Type 0 where
   longer : 32 < length ports → Refusable ports entering
   no_port : length ports ≤ entering → Refusable ports entering
   not_given : (k : ℕ) → k < length ports → (Given (port_at ports k) → ⊥) → Refusable ports entering
@@ -30,20 +32,20 @@ pub data Refusable (ports : List (List ℕ)) (entering : ℕ) : Type 0 where
 -- the statements
 abbrev pub RefusedExactly : Type 0
 RefusedExactly =
-    (ports : List (List ℕ)) (entering address : ℕ) (r : Judged) → ((k : ℕ) → k < length ports → Row (port_at ports k)) → Judges ports entering address r
+    (ports : List Record) (entering address : ℕ) (r : Result Judged Refusal) → ((k : ℕ) → k < length ports → Row (port_at ports k)) → Judges ports entering address r
     → (((tells_judged r).number ≡ 1) ↔ Refusable ports entering) × (((tells_judged r).number ≡ 0) ⊎ ((tells_judged r).number ≡ 1))
 
 abbrev pub RefusedTellsNothing : Type 0
 RefusedTellsNothing =
-    (ports : List (List ℕ)) (entering address : ℕ) (r : Judged) → Judges ports entering address r → ((tells_judged r).number ≡ 0 → ⊥)
-    → r ≡ Refused BadDescription
+    (ports : List Record) (entering address : ℕ) (r : Result Judged Refusal) → Judges ports entering address r → ((tells_judged r).number ≡ 0 → ⊥)
+    → r ≡ Err BadDescription
 
 -- ---- the number, by whether the list is bad
 
 never : true ≡ false → ⊥
 never e = eqb-false 0 0 e refl
 
-served_number : (r : List ℕ) (address : ℕ) → (entering_by r address).number ≡ 0
+served_number : (r : Record) (address : ℕ) → (entering_by r address).number ≡ 0
 unfolding entering_by
 served_number r address = go (is_hit r address) (is_set (group_of r address) (block_all r)) (group_of r address)
   where
@@ -52,7 +54,7 @@ served_number r address = go (is_hit r address) (is_set (group_of r address) (bl
     go true false g = refl
     go false blocked g = refl
 
-judged_number : (ports : List (List ℕ)) (entering address : ℕ) → (judged ports entering address).number ≡ cond (is_bad ports entering) 1 0
+judged_number : (ports : List Record) (entering address : ℕ) → (judged ports entering address).number ≡ cond (is_bad ports entering) 1 0
 unfolding judged
 judged_number ports entering address = go (is_bad ports entering)
   where
@@ -62,7 +64,7 @@ judged_number ports entering address = go (is_bad ports entering)
 
 -- ---- and that, by the causes
 
-first_not : (ports : List (List ℕ)) → are_records ports ≡ false → (k : ℕ) × (k < length ports) × (is_record (port_at ports k) ≡ false)
+first_not : (ports : List Record) → are_records ports ≡ false → (k : ℕ) × (k < length ports) × (is_record (port_at ports k) ≡ false)
 first_not [] e = absurd (never e)
 first_not (r ∷ rs) e = go (is_record r) refl e (first_not rs)
   where
@@ -71,7 +73,7 @@ first_not (r ∷ rs) e = go (is_record r) refl e (first_not rs)
     go false f e rest = (0, omega arith, f)
     go true f e rest = let (k, h, n) = rest e in (suc k, omega arith, n)
 
-module _ (ports : List (List ℕ)) (entering : ℕ) where
+module _ (ports : List Record) (entering : ℕ) where
   bad_refusable : is_bad ports entering ≡ true → Refusable ports entering
   bad_refusable e =
       ⊎_elim longer (λ (few : length ports ≤ 32). ⊎_elim (λ (inside : entering < length ports). among few inside (are_records ports) refl) no_port (below_or_from entering (length ports)))
@@ -114,7 +116,7 @@ refused_exactly ports entering address r rows j =
 
 pub refused_tells_nothing : RefusedTellsNothing
 refused_tells_nothing ports entering address r j n =
-    judge_unique ports entering address r (Refused BadDescription) j
+    judge_unique ports entering address r (Err BadDescription) j
     (judges_bad ports entering address (is_bad_lem (is_bad ports entering) (λ e. n (ap (λ (t : JudgedTold). t.number) j.tells ∙ judged_number ports entering address ∙ e))))
   where
     is_bad_lem : (b : Bool) → (◌≡◌ {A = ℕ} (cond b 1 0) 0 → ⊥) → b ≡ true

@@ -3,29 +3,33 @@ use Prim.Native.Nat.{ℕ}
 use mathlib.Core.List.{List}
 use mathlib.Core.Path.{◌≡◌, refl, sym, ap, ap₂, ◌∙◌}
 use native.Mathlib.Omega.{arith}
-use Rattle.answers.proofs.Unique.{answer_tells, number_tells}
-use Rattle.multicast.specs.declared.Capability.{Capability}
+use Rattle.answers.proofs.Unique.{number_positive, number_tells}
+use Rattle.std.specs.Prelude.{Result, Ok, Err}
+use Rattle.answers.specs.declared.Refusal.{Refusal}
+use Rattle.multicast.specs.declared.Record.{Record}
 use Rattle.multicast.specs.declared.Judged.{Judged}
-use Rattle.multicast.specs.declared.Judged.TheVariants.{Refused, NoHit, Dropped, Leaves}
+use Rattle.multicast.specs.declared.Judged.TheVariants.{NoHit, Dropped, Leaves}
 use Rattle.multicast.specs.Capability.{CapabilityTold, tells_capability, capability_says}
 use Rattle.multicast.specs.Judging.{JudgedTold, Verdict, unsaid, no_hit, dropped, leaves, tells_judged, ports_of, Judges}
 use Rattle.multicast.proofs.Sets.{same_bits}
 
 -- the statements
 abbrev pub ReadUnique : Type 0
-ReadUnique = (s : List ℕ) (at : ℕ) (r q : Capability) → tells_capability r ≡ capability_says s at → tells_capability q ≡ capability_says s at → r ≡ q
+ReadUnique = (s : List ℕ) (at : ℕ) (r q : Result Record Refusal) → tells_capability r ≡ capability_says s at → tells_capability q ≡ capability_says s at → r ≡ q
 
 abbrev pub JudgeUnique : Type 0
 JudgeUnique =
-    (ports : List (List ℕ)) (entering address : ℕ) (r q : Judged) → Judges ports entering address r → Judges ports entering address q → r ≡ q
+    (ports : List Record) (entering address : ℕ) (r q : Result Judged Refusal) → Judges ports entering address r → Judges ports entering address q → r ≡ q
+
+-- what is told of a reading is all there is to it
+read_apart : (r q : Result Record Refusal) → tells_capability r ≡ tells_capability q → r ≡ q
+read_apart (Ok r) (Ok q) e = ap (λ (t : CapabilityTold). Ok t.fields) e
+read_apart (Ok r) (Err y) e = absurd (number_positive y (sym (ap (λ (t : CapabilityTold). t.number) e)))
+read_apart (Err x) (Ok q) e = absurd (number_positive x (ap (λ (t : CapabilityTold). t.number) e))
+read_apart (Err x) (Err y) e = ap Err (number_tells x y (ap (λ (t : CapabilityTold). t.number) e))
 
 pub read_unique : ReadUnique
-read_unique s at r q e f =
-    let same : tells_capability r ≡ tells_capability q = e ∙ sym f in
-    whole r q (answer_tells r.answer q.answer (ap (λ (t : CapabilityTold). t.number) same)) (ap (λ (t : CapabilityTold). t.fields) same)
-  where
-    whole : (r q : Capability) → r.answer ≡ q.answer → r.fields ≡ q.fields → r ≡ q
-    whole r q a b = ap₂ (λ answer fields. record { answer = answer; fields = fields }) a b
+read_unique s at r q e f = read_apart r q (e ∙ sym f)
 
 -- two verdicts that are not the same one
 kind : Verdict → ℕ
@@ -34,28 +38,28 @@ kind no_hit = 1
 kind dropped = 2
 kind leaves = 3
 
-kinds : (r q : Judged) → tells_judged r ≡ tells_judged q → kind (tells_judged r).verdict ≡ kind (tells_judged q).verdict
+kinds : (r q : Result Judged Refusal) → tells_judged r ≡ tells_judged q → kind (tells_judged r).verdict ≡ kind (tells_judged q).verdict
 kinds r q e = ap (λ (t : JudgedTold). kind t.verdict) e
 
 -- what is told and the ports are all there is to an answer
-pub told_apart : (r q : Judged) → tells_judged r ≡ tells_judged q → ports_of r ≡ ports_of q → r ≡ q
+pub told_apart : (r q : Result Judged Refusal) → tells_judged r ≡ tells_judged q → ports_of r ≡ ports_of q → r ≡ q
 unfolding kind
-told_apart (Refused a) (Refused b) e f = ap Refused (number_tells a b (ap (λ (t : JudgedTold). t.number) e))
-told_apart (Refused a) NoHit e f = absurd (omega (arith, kinds (Refused a) NoHit e))
-told_apart (Refused a) (Dropped g) e f = absurd (omega (arith, kinds (Refused a) (Dropped g) e))
-told_apart (Refused a) (Leaves g p) e f = absurd (omega (arith, kinds (Refused a) (Leaves g p) e))
-told_apart NoHit (Refused b) e f = absurd (omega (arith, kinds NoHit (Refused b) e))
-told_apart NoHit NoHit e f = refl
-told_apart NoHit (Dropped g) e f = absurd (omega (arith, kinds NoHit (Dropped g) e))
-told_apart NoHit (Leaves g p) e f = absurd (omega (arith, kinds NoHit (Leaves g p) e))
-told_apart (Dropped g) (Refused b) e f = absurd (omega (arith, kinds (Dropped g) (Refused b) e))
-told_apart (Dropped g) NoHit e f = absurd (omega (arith, kinds (Dropped g) NoHit e))
-told_apart (Dropped g) (Dropped h) e f = ap Dropped (ap (λ (t : JudgedTold). t.group) e)
-told_apart (Dropped g) (Leaves h p) e f = absurd (omega (arith, kinds (Dropped g) (Leaves h p) e))
-told_apart (Leaves g p) (Refused b) e f = absurd (omega (arith, kinds (Leaves g p) (Refused b) e))
-told_apart (Leaves g p) NoHit e f = absurd (omega (arith, kinds (Leaves g p) NoHit e))
-told_apart (Leaves g p) (Dropped h) e f = absurd (omega (arith, kinds (Leaves g p) (Dropped h) e))
-told_apart (Leaves g p) (Leaves h q) e f = ap₂ Leaves (ap (λ (t : JudgedTold). t.group) e) f
+told_apart (Err a) (Err b) e f = ap Err (number_tells a b (ap (λ (t : JudgedTold). t.number) e))
+told_apart (Err a) (Ok NoHit) e f = absurd (omega (arith, kinds (Err a) (Ok NoHit) e))
+told_apart (Err a) (Ok (Dropped g)) e f = absurd (omega (arith, kinds (Err a) (Ok (Dropped g)) e))
+told_apart (Err a) (Ok (Leaves g p)) e f = absurd (omega (arith, kinds (Err a) (Ok (Leaves g p)) e))
+told_apart (Ok NoHit) (Err b) e f = absurd (omega (arith, kinds (Ok NoHit) (Err b) e))
+told_apart (Ok NoHit) (Ok NoHit) e f = refl
+told_apart (Ok NoHit) (Ok (Dropped g)) e f = absurd (omega (arith, kinds (Ok NoHit) (Ok (Dropped g)) e))
+told_apart (Ok NoHit) (Ok (Leaves g p)) e f = absurd (omega (arith, kinds (Ok NoHit) (Ok (Leaves g p)) e))
+told_apart (Ok (Dropped g)) (Err b) e f = absurd (omega (arith, kinds (Ok (Dropped g)) (Err b) e))
+told_apart (Ok (Dropped g)) (Ok NoHit) e f = absurd (omega (arith, kinds (Ok (Dropped g)) (Ok NoHit) e))
+told_apart (Ok (Dropped g)) (Ok (Dropped h)) e f = ap (λ (t : JudgedTold). Ok (Dropped t.group)) e
+told_apart (Ok (Dropped g)) (Ok (Leaves h p)) e f = absurd (omega (arith, kinds (Ok (Dropped g)) (Ok (Leaves h p)) e))
+told_apart (Ok (Leaves g p)) (Err b) e f = absurd (omega (arith, kinds (Ok (Leaves g p)) (Err b) e))
+told_apart (Ok (Leaves g p)) (Ok NoHit) e f = absurd (omega (arith, kinds (Ok (Leaves g p)) (Ok NoHit) e))
+told_apart (Ok (Leaves g p)) (Ok (Dropped h)) e f = absurd (omega (arith, kinds (Ok (Leaves g p)) (Ok (Dropped h)) e))
+told_apart (Ok (Leaves g p)) (Ok (Leaves h q)) e f = ap₂ (λ group ports. Ok (Leaves group ports)) (ap (λ (t : JudgedTold). t.group) e) f
 
 pub judge_unique : JudgeUnique
 judge_unique ports entering address r q a b =

@@ -3,7 +3,6 @@
 -- past 2^64 the addresses below are those of it. And no address is in two windows of a port, so it hits one group at most. Assumes nothing.
 use Prim.Native.Nat.{ℕ, ◌+◌, ◌-◌, ◌*◌, ◌/◌, ◌^◌, ◌≤◌, ◌<◌}
 use mathlib.Core.Bool.{true}
-use mathlib.Core.List.{List}
 use mathlib.Core.Logic.{◌↔◌}
 use mathlib.Core.Path.{◌≡◌, sym, ap, ◌∙◌}
 use native.Mathlib.Nat.{add-mul, one-mul, div-mul-le_self, lt-div-mul-add, div-eq_of_lt-le}
@@ -11,35 +10,36 @@ use native.Mathlib.Omega.{arith}
 use borrow.Author.Tests.{leb-true, le-leb}
 use lib.Dec.{leb}
 use lib.Pow.{pow_pos}
+use Rattle.multicast.specs.declared.Record.{Record}
 use Rattle.multicast.specs.Capability.{num_group, index, base, is_enabled}
 use Rattle.multicast.specs.Judging.{group_of, is_hit}
 use Rattle.multicast.proofs.Facts.{both}
 
 -- the first address of a group's window, and whether an address is in it
-abbrev pub start : List ℕ → ℕ → ℕ
+abbrev pub start : Record → ℕ → ℕ
 start r g = base r + g * 2 ^ index r
 
-pub record Window (r : List ℕ) (g address : ℕ) : Type 0 where
+pub record Window (r : Record) (g address : ℕ) : Type 0 where
   pub from : start r g ≤ address
   pub below : address < start r g + 2 ^ index r
 
 -- the statements
-pub record HitsGroup (r : List ℕ) (g address : ℕ) : Type 0 where
+pub record HitsGroup (r : Record) (g address : ℕ) : Type 0 where
   pub enabled : is_enabled r ≡ true
   pub most : g ≤ num_group r
   pub window : Window r g address
 
 abbrev pub HitsExactly : Type 0
-HitsExactly = (r : List ℕ) (g address : ℕ) → ((is_hit r address ≡ true) × (group_of r address ≡ g)) ↔ HitsGroup r g address
+HitsExactly = (r : Record) (g address : ℕ) → ((is_hit r address ≡ true) × (group_of r address ≡ g)) ↔ HitsGroup r g address
 
 abbrev pub WindowExactly : Type 0
-WindowExactly = (r : List ℕ) (g address : ℕ) → Window r g address ↔ ((k : ℕ) × (k < 2 ^ index r) × (address ≡ start r g + k))
+WindowExactly = (r : Record) (g address : ℕ) → Window r g address ↔ ((k : ℕ) × (k < 2 ^ index r) × (address ≡ start r g + k))
 
 abbrev pub OneWindow : Type 0
-OneWindow = (r : List ℕ) (g h address : ℕ) → Window r g address → Window r h address → g ≡ h
+OneWindow = (r : Record) (g h address : ℕ) → Window r g address → Window r h address → g ≡ h
 
 abbrev pub OneGroup : Type 0
-OneGroup = (r : List ℕ) (g h address : ℕ) → HitsGroup r g address → HitsGroup r h address → g ≡ h
+OneGroup = (r : Record) (g h address : ℕ) → HitsGroup r g address → HitsGroup r h address → g ≡ h
 
 -- ---- a quotient, by the bounds of what is divided
 

@@ -2,7 +2,7 @@
 use Prim.Native.Nat.{ℕ, zero, suc, ◌+◌, ◌*◌, ◌/◌, ◌%◌, ◌^◌, ◌≤◌, ◌<◌}
 use mathlib.Core.Bool.{true, false}
 use mathlib.Core.List.{List, [], ◌∷◌, ◌++◌}
-use mathlib.Core.Path.{◌≡◌, refl, sym, ap, ap₂, ◌∙◌}
+use mathlib.Core.Path.{◌≡◌, refl, sym, ap, ◌∙◌}
 use native.Mathlib.Nat.{mod-lt, mod-eq_of_lt, div-one}
 use native.Mathlib.Omega.{arith}
 use lib.ListN.{length, get_or, replicate}
@@ -10,7 +10,8 @@ use lib.Pow.{high, low}
 use Rattle.words.specs.Fields.{bits, bit, joined, word}
 use Rattle.words.specs.Places.{placed}
 use Rattle.records.specs.Required.{sized}
-use Rattle.multicast.specs.Capability.{max_group, num_group, enable, index, base, receive, block_all, is_multicast, half_of, long_of, record_of, record_at, clashes, capability_says}
+use Rattle.multicast.specs.declared.Record.{Record}
+use Rattle.multicast.specs.Capability.{max_group, num_group, enable, index, base, receive, block_all, numbers, is_multicast, half_of, long_of, record_of, record_at, clashes, capability_says}
 use Rattle.multicast.specs.Records.{AllBelow, Row}
 use Rattle.multicast.proofs.Facts.{Fields}
 use Rattle.multicast.proofs.Stands.{record_stands}
@@ -28,14 +29,14 @@ abbrev long_bytes : ℕ → List ℕ → List ℕ
 long_bytes n rest = part n 0 ∷ part n 1 ∷ part n 2 ∷ part n 3 ∷ part n 4 ∷ part n 5 ∷ part n 6 ∷ part n 7 ∷ rest
 
 -- 28h bytes: the header, the two registers of 16 bits, three of 64, and eight more
-abbrev written : List ℕ → List ℕ
+abbrev written : Record → List ℕ
 written r =
     0x12 ∷ 0 ∷ 1 ∷ 0
     ∷ max_group r ∷ 0
     ∷ num_group r ∷ enable r * 128
     ∷ long_bytes (base r + index r) (long_bytes (receive r) (long_bytes (block_all r) (replicate 8 0)))
 
-unfoldable pub space_with : List ℕ → List ℕ
+unfoldable pub space_with : Record → List ℕ
 space_with r = replicate 256 0 ++ written r ++ replicate 3800 0
 
 -- ---- eight bytes are the number that they are made of
@@ -75,14 +76,14 @@ below_long : (n : ℕ) (rest : List ℕ) → AllBelow 256 rest → AllBelow 256 
 below_long n rest h =
     (part_small n 0, (part_small n 1, (part_small n 2, (part_small n 3, (part_small n 4, (part_small n 5, (part_small n 6, (part_small n 7, h))))))))
 
-below_written : (r : List ℕ) → max_group r ≤ 63 → num_group r ≤ 63 → enable r ≤ 1 → AllBelow 256 (written r)
+below_written : (r : Record) → max_group r ≤ 63 → num_group r ≤ 63 → enable r ≤ 1 → AllBelow 256 (written r)
 below_written r m g e =
     let last : List ℕ = replicate 8 0 in
     let block = below_long (block_all r) last (below_replicate 8) in
     let registers = below_long (base r + index r) (long_bytes (receive r) (long_bytes (block_all r) last)) (below_long (receive r) (long_bytes (block_all r) last) block) in
     (omega arith, (omega arith, (omega arith, (omega arith, (omega arith, (omega arith, (omega arith, (omega arith, registers))))))))
 
-pub below_space : (r : List ℕ) → max_group r ≤ 63 → num_group r ≤ 63 → enable r ≤ 1 → AllBelow 256 (space_with r)
+pub below_space : (r : Record) → max_group r ≤ 63 → num_group r ≤ 63 → enable r ≤ 1 → AllBelow 256 (space_with r)
 unfolding space_with
 below_space r m g e =
     below_append (replicate 256 0) (written r ++ replicate 3800 0) (below_replicate 256) (below_append (written r) (replicate 3800 0) (below_written r m g e) (below_replicate 3800))
@@ -94,18 +95,6 @@ below_at bound [] i a h = absurd (omega arith)
 below_at bound (x ∷ l) zero a h = a.0
 below_at bound (x ∷ l) (suc i) a h = below_at bound l i a.1 (omega arith)
 
--- a row is its seven numbers
-seven_numbers : (r : List ℕ) → length r ≡ 7 → r ≡ max_group r ∷ num_group r ∷ enable r ∷ index r ∷ base r ∷ receive r ∷ block_all r ∷ []
-seven_numbers [] h = absurd (omega arith)
-seven_numbers (a ∷ []) h = absurd (omega arith)
-seven_numbers (a ∷ b ∷ []) h = absurd (omega arith)
-seven_numbers (a ∷ b ∷ c ∷ []) h = absurd (omega arith)
-seven_numbers (a ∷ b ∷ c ∷ d ∷ []) h = absurd (omega arith)
-seven_numbers (a ∷ b ∷ c ∷ d ∷ e ∷ []) h = absurd (omega arith)
-seven_numbers (a ∷ b ∷ c ∷ d ∷ e ∷ f ∷ []) h = absurd (omega arith)
-seven_numbers (a ∷ b ∷ c ∷ d ∷ e ∷ f ∷ g ∷ []) h = refl
-seven_numbers (a ∷ b ∷ c ∷ d ∷ e ∷ f ∷ g ∷ x ∷ l) h = absurd (omega arith)
-
 -- the lowest k bits of a number, and those above, by its parts
 lowest_of : (hi k lo n : ℕ) → n ≡ hi * 2 ^ k + lo → lo < 2 ^ k → n / 2 ^ 0 % 2 ^ k ≡ lo
 lowest_of hi k lo n e h = ap (λ (x : ℕ). x % 2 ^ k) (div-one n ∙ e) ∙ low hi k h
@@ -115,7 +104,7 @@ above_of hi k lo n e h = ap (λ (x : ℕ). x / 2 ^ k) e ∙ high hi k h
 
 -- five numbers, each as its field has it
 fields_again : (m n e i b x y : ℕ) → m ≤ 63 → n ≤ 63 → e ≤ 1 → i ≤ 63 → b % 4096 ≡ 0 → b < 18446744073709551616
-    → ◌≡◌ {A = List ℕ} (m ∷ n ∷ e ∷ i ∷ b ∷ x ∷ y ∷ []) (record_of (half_of m 0) (half_of n (e * 128)) (b + i) x y)
+    → ◌≡◌ {A = Record} (record { max_group = m; num_group = n; enable = e; index = i; base = b; receive = x; block_all = y }) (record_of (half_of m 0) (half_of n (e * 128)) (b + i) x y)
 fields_again m n e i b x y hm hn he hi hb wide =
     let a : m ≡ bits 5 0 (half_of m 0) = sym (lowest_of 0 6 m (half_of m 0) (omega arith) (omega arith)) in
     let c : n ≡ bits 5 0 (half_of n (e * 128)) = sym (lowest_of (e * 512) 6 n (half_of n (e * 128)) (omega arith) (omega arith)) in
@@ -124,11 +113,11 @@ fields_again m n e i b x y hm hn he hi hb wide =
     let f : i ≡ bits 5 0 (b + i) = sym (lowest_of (b / 4096 * 64) 6 i (b + i) (omega arith) (omega arith)) in
     let page : (b + i) / 2 ^ 12 % 2 ^ 52 ≡ b / 4096 = ap (λ (z : ℕ). z % 2 ^ 52) (above_of (b / 4096) 12 i (b + i) (omega arith) (omega arith)) ∙ mod-eq_of_lt {n = b / 4096} {m = 2 ^ 52} (omega arith) in
     let g : b ≡ bits 63 12 (b + i) * 2 ^ 12 = q ∙ sym (ap (λ (z : ℕ). z * 4096) page) in
-    ap₂ ◌∷◌ a (ap₂ ◌∷◌ c (ap₂ ◌∷◌ d (ap₂ ◌∷◌ f (ap (λ (z : ℕ). z ∷ x ∷ y ∷ []) g))))
+    λ j. record { max_group = a j; num_group = c j; enable = d j; index = f j; base = g j; receive = x; block_all = y }
 
-module _ (r : List ℕ) (f : Fields r) (row : Row r) where
-  at_place : (i : ℕ) → i < 7 → get_or r i 0 < 2 ^ 64
-  at_place i h = below_at (2 ^ 64) r i row.wide (omega (arith, row.seven))
+module _ (r : Record) (f : Fields r) (row : Row r) where
+  at_place : (i : ℕ) → i < 7 → get_or (numbers r) i 0 < 2 ^ 64
+  at_place i h = below_at (2 ^ 64) (numbers r) i row.wide (omega (arith, row.seven))
 
   -- the record that stands in that space
   pub record_read : record_at (space_with r) 0x100 ≡ r
@@ -136,7 +125,7 @@ module _ (r : List ℕ) (f : Fields r) (row : Row r) where
   record_read =
       sym
       (record_stands (space_with r) 0x100
-      (seven_numbers r row.seven ∙ fields_again (max_group r) (num_group r) (enable r) (index r) (base r) (receive r) (block_all r) f.maximum (omega (arith, f.groups, f.maximum)) f.enabling f.most f.aligned (at_place 4 (omega arith)))
+      (fields_again (max_group r) (num_group r) (enable r) (index r) (base r) (receive r) (block_all r) f.maximum (omega (arith, f.groups, f.maximum)) f.enabling f.most f.aligned (at_place 4 (omega arith)))
       refl refl
       (sym (long_parts (base r + index r) (omega (arith, at_place 4 (omega arith), f.aligned, f.most))))
       (sym (long_parts (receive r) (at_place 5 (omega arith))))
@@ -155,4 +144,4 @@ module _ (r : List ℕ) (f : Fields r) (row : Row r) where
   pub written_found : clashes r ≡ false → capability_says (space_with r) 0x100 ≡ record { number = 0; fields = r }
   written_found e =
       sym (capability_found (space_with r) 0x100 (capability_number_lem (space_with r) 0x100 stands_there.0 placed_there stands_there.1 refl (ap clashes record_read ∙ e)))
-      ∙ ap (λ (l : List ℕ). record { number = 0; fields = l }) record_read
+      ∙ ap (λ (fields : Record). record { number = 0; fields = fields }) record_read

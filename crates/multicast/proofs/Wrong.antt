@@ -10,9 +10,10 @@ use native.Mathlib.Nat.{mod_self, sub-zero}
 use native.Mathlib.Omega.{arith}
 use borrow.Author.Tests.{le-leb, lt-leb, eqb-true, eqb-false}
 use lib.Pow.{pow_pos, shl-shr}
-use Rattle.answers.specs.declared.Answer.TheVariants.{Done}
+use Rattle.std.specs.Prelude.{Result, Ok}
+use Rattle.answers.specs.declared.Refusal.{Refusal}
 use Rattle.words.specs.Fields.{bit}
-use Rattle.multicast.specs.declared.Capability.{Capability}
+use Rattle.multicast.specs.declared.Record.{Record}
 use Rattle.multicast.specs.declared.Judged.{Judged}
 use Rattle.multicast.specs.declared.Judged.TheVariants.{NoHit, Leaves}
 use Rattle.multicast.specs.Capability.{num_group, enable, index, base, receive, block_all, clashes, long, CapabilityTold, tells_capability, capability_says}
@@ -24,13 +25,13 @@ use Rattle.multicast.proofs.Written.{space_with, written_found}
 
 -- a judge, and that it meets the promise at an input
 abbrev pub Judge : Type 0
-Judge = List (List ℕ) → ℕ → ℕ → Judged
+Judge = List Record → ℕ → ℕ → Result Judged Refusal
 
-abbrev pub RightAt : Judge → List (List ℕ) → ℕ → ℕ → Type 0
+abbrev pub RightAt : Judge → List Record → ℕ → ℕ → Type 0
 RightAt f ports entering address = Judges ports entering address (f ports entering address)
 
 -- what a judge says: the group, and whether there is a hit
-abbrev pub group_told : Judge → List (List ℕ) → ℕ → ℕ → ℕ
+abbrev pub group_told : Judge → List Record → ℕ → ℕ → ℕ
 group_told f ports entering address = (tells_judged (f ports entering address)).group
 
 abbrev pub is_hit_verdict : Verdict → Bool
@@ -39,56 +40,57 @@ is_hit_verdict no_hit = false
 is_hit_verdict dropped = true
 is_hit_verdict leaves = true
 
-abbrev pub HitTold : Judge → List (List ℕ) → ℕ → ℕ → Type 0
+abbrev pub HitTold : Judge → List Record → ℕ → ℕ → Type 0
 HitTold f ports entering address = is_hit_verdict (tells_judged (f ports entering address)).verdict ≡ true
 
 -- ---- the wrong ways, at an input
 
 -- a port with its own Block All bit for the group is none that the packet leaves by
-abbrev pub BlocksWhereItLeaves : Judge → List (List ℕ) → ℕ → ℕ → Type 0
+abbrev pub BlocksWhereItLeaves : Judge → List Record → ℕ → ℕ → Type 0
 BlocksWhereItLeaves f ports entering address =
     (k : ℕ) → bit (group_told f ports entering address) (block_all (port_at ports k)) ≡ 1 → bit k (ports_of (f ports entering address)) ≡ 0
 
 -- of the group, so many bits are compared with Num Group, and those above are lost
-abbrev pub LosesGroupBits : ℕ → Judge → List (List ℕ) → ℕ → ℕ → Type 0
+abbrev pub LosesGroupBits : ℕ → Judge → List Record → ℕ → ℕ → Type 0
 LosesGroupBits width f ports entering address =
     enable (port_at ports entering) ≡ 1 → base (port_at ports entering) ≤ address
     → group_of (port_at ports entering) address % 2 ^ width ≤ num_group (port_at ports entering) → HitTold f ports entering address
 
 -- a hit is below the end of all windows, of which 64 bits are kept
-abbrev pub LosesEndBits : Judge → List (List ℕ) → ℕ → ℕ → Type 0
+abbrev pub LosesEndBits : Judge → List Record → ℕ → ℕ → Type 0
 LosesEndBits f ports entering address =
     HitTold f ports entering address
     → address - base (port_at ports entering) < (num_group (port_at ports entering) + 1) * 2 ^ index (port_at ports entering) % 2 ^ 64
 
 -- so many groups as Num Group says are hit, and not one more
-abbrev pub TakesNumGroupAsCount : Judge → List (List ℕ) → ℕ → ℕ → Type 0
+abbrev pub TakesNumGroupAsCount : Judge → List Record → ℕ → ℕ → Type 0
 TakesNumGroupAsCount f ports entering address =
     HitTold f ports entering address → group_told f ports entering address < num_group (port_at ports entering)
 
 -- the port that it entered by is as any other
-abbrev pub LeavesByEntering : Judge → List (List ℕ) → ℕ → ℕ → Type 0
+abbrev pub LeavesByEntering : Judge → List Record → ℕ → ℕ → Type 0
 LeavesByEntering f ports entering address =
     (tells_judged (f ports entering address)).verdict ≡ leaves
     → bit entering (ports_of (f ports entering address)) ≡ bit (group_told f ports entering address) (receive (port_at ports entering))
 
 -- no group from 32 on leaves by any port, or none is dropped
-abbrev pub ForgetsHighReceive : Judge → List (List ℕ) → ℕ → ℕ → Type 0
+abbrev pub ForgetsHighReceive : Judge → List Record → ℕ → ℕ → Type 0
 ForgetsHighReceive f ports entering address =
     (k : ℕ) → 32 ≤ group_told f ports entering address → bit k (ports_of (f ports entering address)) ≡ 0
 
-abbrev pub ForgetsHighBlocks : Judge → List (List ℕ) → ℕ → ℕ → Type 0
+abbrev pub ForgetsHighBlocks : Judge → List Record → ℕ → ℕ → Type 0
 ForgetsHighBlocks f ports entering address =
     32 ≤ group_told f ports entering address → (tells_judged (f ports entering address)).verdict ≡ dropped → ⊥
 
 -- ---- the inputs
 
 -- an enabled port with this Num Group, index, Receive and Block All, and base 0
-abbrev pub port : ℕ → ℕ → ℕ → ℕ → List ℕ
-port num index receive block_all = 63 ∷ num ∷ 1 ∷ index ∷ 0 ∷ receive ∷ block_all ∷ []
+abbrev pub port : ℕ → ℕ → ℕ → ℕ → Record
+port num index receive block_all =
+    record { max_group = 63; num_group = num; enable = 1; index = index; base = 0; receive = receive; block_all = block_all }
 
 -- two of them: Num Group and index of the first, what it blocks, what both receive, and what the second blocks
-abbrev pub two : ℕ → ℕ → ℕ → ℕ → ℕ → List (List ℕ)
+abbrev pub two : ℕ → ℕ → ℕ → ℕ → ℕ → List Record
 two num index blocked receive other = port num index receive blocked ∷ port 0 12 receive other ∷ []
 
 -- an address past group 0 of a port that has that one only
@@ -97,7 +99,7 @@ unfolding entering_by is_hit
 past_group address h = rw (le-leb 0 address (omega arith), lt-leb (group_of (port 0 12 0 0) address) 0 h)
 
 module _ (f : Judge) where
-  says : (ports : List (List ℕ)) (entering address : ℕ) (t : JudgedTold) → RightAt f ports entering address → judged ports entering address ≡ t
+  says : (ports : List Record) (entering address : ℕ) (t : JudgedTold) → RightAt f ports entering address → judged ports entering address ≡ t
       → tells_judged (f ports entering address) ≡ t
   says ports entering address t right e = right.tells ∙ e
 
@@ -160,16 +162,16 @@ module _ (f : Judge) where
       wrong (omega arith) (ap (λ (t : JudgedTold). t.verdict) e)
 
 -- what each of them answers at its input: a judge that always answers so is wrong in this way there
-abbrev always : Judged → Judge
+abbrev always : Result Judged Refusal → Judge
 always answer ports entering address = answer
 
-pub such_judges_exist : BlocksWhereItLeaves (always (Leaves 0 0)) (two 0 12 0 1 1) 0 0
-    × ((width : ℕ) → LosesGroupBits width (always (Leaves 0 0)) (two 0 12 0 0 0) 0 (2 ^ width * 2 ^ 12))
-    × LosesEndBits (always NoHit) (two 1 63 0 0 0) 0 0
-    × TakesNumGroupAsCount (always NoHit) (two 0 12 0 0 0) 0 0
-    × LeavesByEntering (always (Leaves 0 3)) (two 0 12 0 1 0) 0 0
-    × ForgetsHighReceive (always (Leaves 40 0)) (two 40 12 0 (2 ^ 40) 0) 0 0x28000
-    × ForgetsHighBlocks (always (Leaves 40 0)) (two 40 12 (2 ^ 40) 0 0) 0 0x28000
+pub such_judges_exist : BlocksWhereItLeaves (always (Ok (Leaves 0 0))) (two 0 12 0 1 1) 0 0
+    × ((width : ℕ) → LosesGroupBits width (always (Ok (Leaves 0 0))) (two 0 12 0 0 0) 0 (2 ^ width * 2 ^ 12))
+    × LosesEndBits (always (Ok NoHit)) (two 1 63 0 0 0) 0 0
+    × TakesNumGroupAsCount (always (Ok NoHit)) (two 0 12 0 0 0) 0 0
+    × LeavesByEntering (always (Ok (Leaves 0 3))) (two 0 12 0 1 0) 0 0
+    × ForgetsHighReceive (always (Ok (Leaves 40 0))) (two 40 12 0 (2 ^ 40) 0) 0 0x28000
+    × ForgetsHighBlocks (always (Ok (Leaves 40 0))) (two 40 12 (2 ^ 40) 0 0) 0 0x28000
 such_judges_exist = (
   (λ k e. no_bit k),
   (λ width a b c. refl),
@@ -195,22 +197,27 @@ such_judges_exist = (
 -- ---- readers
 
 abbrev pub Reader : Type 0
-Reader = List ℕ → ℕ → Capability
+Reader = List ℕ → ℕ → Result Record Refusal
 
 abbrev pub ReadsRightAt : Reader → List ℕ → ℕ → Type 0
 ReadsRightAt f s at = tells_capability (f s at) ≡ capability_says s at
 
 -- the base is the whole register, with the index in its low bits
 abbrev pub KeepsLowBits : Reader → List ℕ → ℕ → Type 0
-KeepsLowBits f s at = (tells_capability (f s at)).number ≡ 0 → base (f s at).fields ≡ long s (at + 8)
+KeepsLowBits f s at = (tells_capability (f s at)).number ≡ 0 → base (tells_capability (f s at)).fields ≡ long s (at + 8)
 
 -- a register of 64 bits is read as its low word: the base, Receive or Block All
-abbrev pub ForgetsHighWord : (List ℕ → ℕ) → Reader → List ℕ → ℕ → Type 0
-ForgetsHighWord register f s at = (tells_capability (f s at)).number ≡ 0 → register (f s at).fields < 2 ^ 32
+abbrev pub ForgetsHighWord : (Record → ℕ) → Reader → List ℕ → ℕ → Type 0
+ForgetsHighWord register f s at = (tells_capability (f s at)).number ≡ 0 → register (tells_capability (f s at)).fields < 2 ^ 32
+
+-- the record of an enabled port, by its base, Receive and Block All
+abbrev having : ℕ → ℕ → ℕ → Record
+having base receive block_all =
+    record { max_group = 63; num_group = 40; enable = 1; index = 12; base = base; receive = receive; block_all = block_all }
 
 -- the record of an enabled port with its base at 2^40, of which group 40 is received and blocked, in a space of bytes
-abbrev pub example : List ℕ
-example = 63 ∷ 40 ∷ 1 ∷ 12 ∷ 2 ^ 40 ∷ 2 ^ 40 ∷ 2 ^ 40 ∷ []
+abbrev pub example : Record
+example = having (2 ^ 40) (2 ^ 40) (2 ^ 40)
 
 example_record : is_record example ≡ true
 unfolding is_record clashes
@@ -231,7 +238,7 @@ module _ (f : Reader) (right : ReadsRightAt f (space_with example) 0x100) where
   found : (tells_capability (f (space_with example) 0x100)).number ≡ 0
   found = ap (λ (t : CapabilityTold). t.number) reads
 
-  field_read : (register : List ℕ → ℕ) → register (f (space_with example) 0x100).fields ≡ register example
+  field_read : (register : Record → ℕ) → register (tells_capability (f (space_with example) 0x100)).fields ≡ register example
   field_read register = ap (λ (t : CapabilityTold). register t.fields) reads
 
   pub no_keeps_low_bits : KeepsLowBits f (space_with example) 0x100 → ⊥
@@ -247,11 +254,11 @@ module _ (f : Reader) (right : ReadsRightAt f (space_with example) 0x100) where
   no_forgets_high_word_of_block_all wrong = let low = wrong found in let e = field_read block_all in omega arith
 
 -- what each of these readers answers there: one that always answers so is wrong in this way
-abbrev reads_always : List ℕ → Reader
-reads_always fields s at = record { answer = Done; fields = fields }
+abbrev reads_always : Record → Reader
+reads_always fields s at = Ok fields
 
-pub such_readers_exist : KeepsLowBits (reads_always (63 ∷ 40 ∷ 1 ∷ 12 ∷ (2 ^ 40 + 12) ∷ 2 ^ 40 ∷ 2 ^ 40 ∷ [])) (space_with example) 0x100
-    × ForgetsHighWord base (reads_always (63 ∷ 40 ∷ 1 ∷ 12 ∷ 0 ∷ 2 ^ 40 ∷ 2 ^ 40 ∷ [])) (space_with example) 0x100
-    × ForgetsHighWord receive (reads_always (63 ∷ 40 ∷ 1 ∷ 12 ∷ 2 ^ 40 ∷ 0 ∷ 2 ^ 40 ∷ [])) (space_with example) 0x100
-    × ForgetsHighWord block_all (reads_always (63 ∷ 40 ∷ 1 ∷ 12 ∷ 2 ^ 40 ∷ 2 ^ 40 ∷ 0 ∷ [])) (space_with example) 0x100
+pub such_readers_exist : KeepsLowBits (reads_always (having (2 ^ 40 + 12) (2 ^ 40) (2 ^ 40))) (space_with example) 0x100
+    × ForgetsHighWord base (reads_always (having 0 (2 ^ 40) (2 ^ 40))) (space_with example) 0x100
+    × ForgetsHighWord receive (reads_always (having (2 ^ 40) 0 (2 ^ 40))) (space_with example) 0x100
+    × ForgetsHighWord block_all (reads_always (having (2 ^ 40) (2 ^ 40) 0)) (space_with example) 0x100
 such_readers_exist = ((λ e. sym example_window), (λ e. omega arith), (λ e. omega arith), (λ e. omega arith))

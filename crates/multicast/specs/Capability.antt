@@ -1,34 +1,40 @@
 -- Document 02, 8/13: "Read the Multicast extended capability": the number and the fields of the one asked for at an offset. Assumes nothing.
-use Rattle.std.specs.Prelude.{ℕ, ◌+◌, ◌*◌, ◌^◌, Bool, not, ◌&&◌, cond, List, [], ◌∷◌, eqb, leb, ltb, get_or}
+use Rattle.std.specs.Prelude.{ℕ, ◌+◌, ◌*◌, ◌^◌, Bool, not, ◌&&◌, cond, List, [], ◌∷◌, eqb, leb, ltb, Result, Ok, Err}
 use Rattle.answers.specs.Checks.{Check, check, first_that_applies, any}
-use Rattle.answers.specs.Numbers.{answer_of}
+use Rattle.answers.specs.declared.Refusal.{Refusal}
+use Rattle.answers.specs.Numbers.{number_of}
 use Rattle.words.specs.Bytes.{byte}
 use Rattle.words.specs.Fields.{bits, bit, word}
 use Rattle.words.specs.Places.{placed}
 use Rattle.records.specs.Required.{all, required, sized}
-use Rattle.multicast.specs.declared.Capability.{Capability}
+use Rattle.multicast.specs.declared.Record.{Record}
 
--- a record is seven numbers, in the order in which the request names its fields
-abbrev pub max_group : List ℕ → ℕ
-max_group fields = get_or fields 0 0
+-- a record is seven numbers
+abbrev pub max_group : Record → ℕ
+max_group fields = fields.max_group
 
-abbrev pub num_group : List ℕ → ℕ
-num_group fields = get_or fields 1 0
+abbrev pub num_group : Record → ℕ
+num_group fields = fields.num_group
 
-abbrev pub enable : List ℕ → ℕ
-enable fields = get_or fields 2 0
+abbrev pub enable : Record → ℕ
+enable fields = fields.enable
 
-abbrev pub index : List ℕ → ℕ
-index fields = get_or fields 3 0
+abbrev pub index : Record → ℕ
+index fields = fields.index
 
-abbrev pub base : List ℕ → ℕ
-base fields = get_or fields 4 0
+abbrev pub base : Record → ℕ
+base fields = fields.base
 
-abbrev pub receive : List ℕ → ℕ
-receive fields = get_or fields 5 0
+abbrev pub receive : Record → ℕ
+receive fields = fields.receive
 
-abbrev pub block_all : List ℕ → ℕ
-block_all fields = get_or fields 6 0
+abbrev pub block_all : Record → ℕ
+block_all fields = fields.block_all
+
+-- these, in the order in which the request names them
+abbrev pub numbers : Record → List ℕ
+numbers fields =
+    max_group fields ∷ num_group fields ∷ enable fields ∷ index fields ∷ base fields ∷ receive fields ∷ block_all fields ∷ []
 
 -- "ID 0012h, version 1", of the header there: document 01, "ID 15:0, version 19:16"
 unfoldable pub is_multicast : ℕ → Bool
@@ -49,26 +55,26 @@ long s at = long_of (word s at) (word s (at + 4))
 
 -- "at +4 Max Group 5:0; at +6 Num Group 5:0 and Enable 15; at +8, 64 bits, Index Position 5:0 and base address 63:12; at +10h Receive and at +18h
 -- Block All, 64 bits each": of what stands at these five places. The base address is its bits in their place
-abbrev pub record_of : ℕ → ℕ → ℕ → ℕ → ℕ → List ℕ
-record_of maximum control window receive block_all =
-    bits 5 0 maximum
-    ∷ bits 5 0 control
-    ∷ bit 15 control
-    ∷ bits 5 0 window
-    ∷ bits 63 12 window * 2 ^ 12
-    ∷ receive
-    ∷ block_all
-    ∷ []
+abbrev pub record_of : ℕ → ℕ → ℕ → ℕ → ℕ → Record
+record_of maximum control window receive block_all = record {
+  max_group = bits 5 0 maximum;
+  num_group = bits 5 0 control;
+  enable = bit 15 control;
+  index = bits 5 0 window;
+  base = bits 63 12 window * 2 ^ 12;
+  receive = receive;
+  block_all = block_all;
+}
 
-unfoldable pub record_at : List ℕ → ℕ → List ℕ
+unfoldable pub record_at : List ℕ → ℕ → Record
 record_at s at = record_of (half s (at + 4)) (half s (at + 6)) (long s (at + 8)) (long s (at + 0x10)) (long s (at + 0x18))
 
 -- "while enabled"
-abbrev pub is_enabled : List ℕ → Bool
+abbrev pub is_enabled : Record → Bool
 is_enabled fields = not (eqb (enable fields) 0)
 
 -- "Num Group over Max Group, or index under 12 while enabled"
-unfoldable pub clashes : List ℕ → Bool
+unfoldable pub clashes : Record → Bool
 clashes fields = any (ltb (max_group fields) (num_group fields) ∷ (is_enabled fields && ltb (index fields) 12) ∷ [])
 
 -- "asked for at the same offsets as a DVSEC", which document 01 has: a multiple of 4 from 100h to FFCh, else 1. "Not this structure: 8; fewer than 28h
@@ -88,15 +94,16 @@ capability_number s at = first_that_applies (capability_checks s at)
 -- the number, and the seven fields
 pub record CapabilityTold : Type 0 where
   pub number : ℕ
-  pub fields : List ℕ
+  pub fields : Record
 
 -- "0 for every field of a record"
-abbrev pub no_fields : List ℕ
-no_fields = 0 ∷ 0 ∷ 0 ∷ 0 ∷ 0 ∷ 0 ∷ 0 ∷ []
+abbrev pub no_fields : Record
+no_fields = record { max_group = 0; num_group = 0; enable = 0; index = 0; base = 0; receive = 0; block_all = 0 }
 
 -- what an answer tells
-abbrev pub tells_capability : Capability → CapabilityTold
-tells_capability read = record { number = answer_of read.answer; fields = read.fields }
+abbrev pub tells_capability : Result Record Refusal → CapabilityTold
+tells_capability (Ok fields) = record { number = 0; fields = fields }
+tells_capability (Err refusal) = record { number = number_of refusal; fields = no_fields }
 
 -- what the request says of the capability asked for
 unfoldable pub capability_says : List ℕ → ℕ → CapabilityTold

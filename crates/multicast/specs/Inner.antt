@@ -1,47 +1,29 @@
 -- What the private functions of this crate tell each other; no promise of a public entry cites this file. Assumes nothing.
-use Rattle.std.specs.Prelude.{ℕ, ◌+◌, ◌-◌, ◌^◌, ◌≤◌, ◌<◌, true, false, cond, List, ◌≡◌, length}
+use Rattle.std.specs.Prelude.{ℕ, ◌+◌, ◌-◌, ◌*◌, ◌%◌, ◌^◌, bit_or, ◌≤◌, ◌<◌, true, false, cond, List, ◌≡◌, length, Option, None, Some}
 use Rattle.words.specs.Fields.{bit}
-use Rattle.answers.specs.declared.Refusal.{Refusal}
-use Rattle.answers.specs.declared.Answer.TheVariants.{Refused}
-use Rattle.multicast.specs.declared.Capability.{Capability}
-use Rattle.multicast.specs.Capability.{no_fields}
+use Rattle.multicast.specs.declared.Record.{Record}
+use Rattle.multicast.specs.Capability.{receive}
 use Rattle.multicast.specs.Judging.{group_of, is_hit, is_member}
-use Rattle.multicast.specs.declared.groups.Hit.{Hit}
-use Rattle.multicast.specs.declared.groups.Hit.TheVariants.{Nothing, Group}
-
--- a capability that is refused
-abbrev pub refused_with : Refusal → Capability
-refused_with refusal = record { answer = Refused refusal; fields = no_fields }
 
 -- the group that an address hits, or none
-abbrev pub Hits : List ℕ → ℕ → Hit → Type 0
-Hits port address Nothing = is_hit port address ≡ false
-Hits port address (Group g) = (is_hit port address ≡ true) × (g ≡ group_of port address) × (g ≤ 63)
+abbrev pub Hits : Record → ℕ → Option ℕ → Type 0
+Hits port address None = is_hit port address ≡ false
+Hits port address (Some g) = (is_hit port address ≡ true) × (g ≡ group_of port address) × (g ≤ 63)
 
 -- 1 where a group leaves by port k, else 0
-abbrev pub member_bit : List (List ℕ) → ℕ → ℕ → ℕ → ℕ
+abbrev pub member_bit : List Record → ℕ → ℕ → ℕ → ℕ
 member_bit ports entering group k = cond (is_member ports entering group k) 1 0
 
 -- a set that has the members from a place on, bit 0 for that place
-pub record HoldsFrom (ports : List (List ℕ)) (entering group place r : ℕ) : Type 0 where
+pub record HoldsFrom (ports : List Record) (entering group place r : ℕ) : Type 0 where
   pub each : (k : ℕ) → bit k r ≡ member_bit ports entering group (place + k)
   pub most : r < 2 ^ (length ports - place)
 
--- what is gathered from a list: places in it, of at most 32, below a set that has no more bits than there are places above
-pub record Spans (ports : List (List ℕ)) (from to group above : ℕ) : Type 0 where
-  pub ordered : from ≤ to
-  pub inside : to ≤ length ports
-  pub few : length ports ≤ 32
-  pub small : group ≤ 63
-  pub fits : above < 2 ^ (length ports - to)
-
--- where the place that is entered by is none of them: the members, where they stood below those above
-abbrev pub Gathers : List (List ℕ) → ℕ → ℕ → ℕ → ℕ → ℕ → Type 0
-Gathers ports from to group above r =
-    ((entering : ℕ) → ((k : ℕ) → from ≤ k → k < to → k ≡ entering → ⊥) → HoldsFrom ports entering group to above → HoldsFrom ports entering group from r)
-    × (r < 2 ^ (length ports - from))
+-- a set of 32 bits with a port's Receive bit below all that it has
+abbrev pub put_below : ℕ → ℕ → Record → ℕ
+put_below group set port = bit_or (set * 2 % 2 ^ 32) (bit group (receive port))
 
 -- the set of the ports that a group leaves by
-pub record SetOf (ports : List (List ℕ)) (entering group r : ℕ) : Type 0 where
+pub record SetOf (ports : List Record) (entering group r : ℕ) : Type 0 where
   pub each : (k : ℕ) → k < 32 → bit k r ≡ member_bit ports entering group k
   pub most : r < 2 ^ 32

@@ -4,30 +4,22 @@ ghost use Rattle.words.specs.Fields.{bit};
 ghost use Rattle.multicast.specs.Records.{is_record};
 ghost use Rattle.multicast.specs.Inner.{Hits};
 
-use super::{BASE, ENABLE, INDEX, NUM_GROUP, Record};
-
-#[derive(Clone, Copy)]
-pub(crate) enum Hit {
-    Nothing,
-    Group(u8),
-}
+use crate::Record;
 
 // The group whose window has the address, where the port is enabled and has one.
-pub(crate) fn hit_by(port: Record, address: u64) -> Hit
-    requires { is_record port ≡ true }
-    ensures { Hits port address result }
+#[tactic(auto, unfolding(crate::specs::Judging::is_hit))]
+pub(crate) fn hit_by(port: &Record, address: u64) -> Option<u8>
+    requires { is_record port.now ≡ true }
+    ensures { Hits port.now address result }
 {
-    if port[ENABLE] == 0 {
-        return Hit::Nothing;
+    if port.enable == 0 || address < port.base {
+        return None;
     }
-    if address < port[BASE] {
-        return Hit::Nothing;
+    let group = (address - port.base) >> port.index;
+    if port.num_group < group {
+        return None;
     }
-    let group = (address - port[BASE]) >> port[INDEX];
-    if port[NUM_GROUP] < group {
-        return Hit::Nothing;
-    }
-    Hit::Group(group as u8)
+    Some(group as u8)
 }
 
 // The bit of a register for a group, 0 or 1.

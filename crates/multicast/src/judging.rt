@@ -1,33 +1,23 @@
 // An address judged, by the records of a switch's ports and the place of the one that the packet enters by.
 ghost use Rattle.multicast.specs.Judging.{Judges};
 
-use super::groups::Hit;
-use super::{BLOCK_ALL, Judged, MOST_PORTS, Record, groups, members};
+use crate::{Judged, MOST_PORTS, Record, groups, members};
 use answers::Refusal;
 
 // What becomes of a packet for an address.
-pub fn judge(ports: &[Record], entering: usize, address: u64) -> Judged
+pub fn judge(ports: &[Record], entering: usize, address: u64) -> Result<Judged, Refusal>
     ensures { Judges ports.now entering address result }
 {
-    if MOST_PORTS < ports.len() {
-        return Judged::Refused(Refusal::BadDescription);
+    if MOST_PORTS < ports.len() || ports.len() <= entering || !members::are_records(ports) {
+        return Err(Refusal::BadDescription);
     }
-    if ports.len() <= entering {
-        return Judged::Refused(Refusal::BadDescription);
-    }
-    if !members::are_records(ports) {
-        return Judged::Refused(Refusal::BadDescription);
-    }
-    let port = ports[entering];
-    let Hit::Group(group) = groups::hit_by(port, address) else {
-        return Judged::NoHit;
+    let port = &ports[entering];
+    let Some(group) = groups::hit_by(port, address) else {
+        return Ok(Judged::NoHit);
     };
-    if groups::bit_of(port[BLOCK_ALL], group) == 1 {
-        return Judged::Dropped { group };
+    if groups::bit_of(port.block_all, group) == 1 {
+        return Ok(Judged::Dropped { group });
     }
-    let leaving = members::leaving(ports, entering, group);
-    Judged::Leaves {
-        group,
-        ports: leaving,
-    }
+    let ports = members::leaving(ports, entering, group);
+    Ok(Judged::Leaves { group, ports })
 }

@@ -4,12 +4,15 @@
 use Prim.Native.Nat.{ℕ, ◌<◌}
 use mathlib.Core.List.{List, [], ◌∷◌, Memᴰ}
 use mathlib.Core.Path.{◌≡◌, refl, sym, ap, subst, ◌∙◌}
+use Rattle.std.specs.Prelude.{Result, Ok, Err}
+use Rattle.answers.specs.declared.Refusal.{Refusal}
 use Rattle.answers.proofs.Checks.{First}
 use Rattle.words.specs.Fields.{bit}
+use Rattle.multicast.specs.declared.Record.{Record}
 use Rattle.multicast.specs.Capability.{CapabilityTold, capability_checks, no_fields}
 use Rattle.multicast.specs.Judging.{Verdict, unsaid, no_hit, dropped, leaves, JudgedTold, judged, leaves_by, tells_judged, ports_of}
 use Rattle.multicast.specs.declared.Judged.{Judged}
-use Rattle.multicast.specs.declared.Judged.TheVariants.{Refused, NoHit, Dropped, Leaves}
+use Rattle.multicast.specs.declared.Judged.TheVariants.{NoHit, Dropped, Leaves}
 use Rattle.multicast.proofs.Numbers.{number_says, says_nothing}
 use Rattle.multicast.proofs.Refusals.{refused_tells_nothing}
 use Rattle.offload.specs.declared.HostJudged.{HostJudged}
@@ -25,24 +28,24 @@ code leaves = 3
 -- the statements
 abbrev pub HostMulticastNumber : Type 0
 HostMulticastNumber =
-    (s : List ℕ) (at r : ℕ) (lent after : List ℕ) → HostReads s at lent r after
+    (s : List ℕ) (at r : ℕ) (lent after : Record) → HostReads s at lent r after
     → First (capability_checks s at) r × Memᴰ r (0 ∷ 1 ∷ 8 ∷ 9 ∷ 13 ∷ [])
 
 abbrev pub HostMulticastNothing : Type 0
-HostMulticastNothing = (s : List ℕ) (at r : ℕ) (lent after : List ℕ) → HostReads s at lent r after → (r ≡ 0 → ⊥) → after ≡ no_fields
+HostMulticastNothing = (s : List ℕ) (at r : ℕ) (lent after : Record) → HostReads s at lent r after → (r ≡ 0 → ⊥) → after ≡ no_fields
 
-pub record HostTold (ports : List (List ℕ)) (entering address : ℕ) (r : HostJudged) : Type 0 where
+pub record HostTold (ports : List Record) (entering address : ℕ) (r : HostJudged) : Type 0 where
   pub number : r.number ≡ (judged ports entering address).number
   pub verdict : r.verdict ≡ code (judged ports entering address).verdict
   pub group : r.group ≡ (judged ports entering address).group
   pub each : (k : ℕ) → k < 32 → bit k r.ports ≡ leaves_by ports entering (judged ports entering address) k
 
 abbrev pub HostJudgeTold : Type 0
-HostJudgeTold = (ports : List (List ℕ)) (entering address : ℕ) (r : HostJudged) → HostJudges ports entering address r → HostTold ports entering address r
+HostJudgeTold = (ports : List Record) (entering address : ℕ) (r : HostJudged) → HostJudges ports entering address r → HostTold ports entering address r
 
 abbrev pub HostRefusedNothing : Type 0
 HostRefusedNothing =
-    (ports : List (List ℕ)) (entering address : ℕ) (r : HostJudged) → HostJudges ports entering address r → (r.number ≡ 0 → ⊥)
+    (ports : List Record) (entering address : ℕ) (r : HostJudged) → HostJudges ports entering address r → (r.number ≡ 0 → ⊥)
     → r ≡ record { ports = 0; number = 1; verdict = 0; group = 0 }
 
 pub host_multicast_number : HostMulticastNumber
@@ -55,29 +58,29 @@ host_multicast_nothing s at r lent after e n =
 
 -- ---- an answer, as a host is told it
 
-told_number : (a : Judged) → (told_judged a).number ≡ (tells_judged a).number
-told_number (Refused refusal) = refl
-told_number NoHit = refl
-told_number (Dropped group) = refl
-told_number (Leaves group ports) = refl
+told_number : (a : Result Judged Refusal) → (told_judged a).number ≡ (tells_judged a).number
+told_number (Err refusal) = refl
+told_number (Ok NoHit) = refl
+told_number (Ok (Dropped group)) = refl
+told_number (Ok (Leaves group ports)) = refl
 
-told_verdict : (a : Judged) → (told_judged a).verdict ≡ code (tells_judged a).verdict
-told_verdict (Refused refusal) = refl
-told_verdict NoHit = refl
-told_verdict (Dropped group) = refl
-told_verdict (Leaves group ports) = refl
+told_verdict : (a : Result Judged Refusal) → (told_judged a).verdict ≡ code (tells_judged a).verdict
+told_verdict (Err refusal) = refl
+told_verdict (Ok NoHit) = refl
+told_verdict (Ok (Dropped group)) = refl
+told_verdict (Ok (Leaves group ports)) = refl
 
-told_group : (a : Judged) → (told_judged a).group ≡ (tells_judged a).group
-told_group (Refused refusal) = refl
-told_group NoHit = refl
-told_group (Dropped group) = refl
-told_group (Leaves group ports) = refl
+told_group : (a : Result Judged Refusal) → (told_judged a).group ≡ (tells_judged a).group
+told_group (Err refusal) = refl
+told_group (Ok NoHit) = refl
+told_group (Ok (Dropped group)) = refl
+told_group (Ok (Leaves group ports)) = refl
 
-told_ports : (a : Judged) → (told_judged a).ports ≡ ports_of a
-told_ports (Refused refusal) = refl
-told_ports NoHit = refl
-told_ports (Dropped group) = refl
-told_ports (Leaves group ports) = refl
+told_ports : (a : Result Judged Refusal) → (told_judged a).ports ≡ ports_of a
+told_ports (Err refusal) = refl
+told_ports (Ok NoHit) = refl
+told_ports (Ok (Dropped group)) = refl
+told_ports (Ok (Leaves group ports)) = refl
 
 pub host_judge_told : HostJudgeTold
 host_judge_told ports entering address r h =

@@ -2,6 +2,7 @@
 use Prim.Native.Nat.{ℕ}
 use mathlib.Core.List.{List}
 use mathlib.Core.Path.{◌≡◌, sym, ap, ◌∙◌}
+use Rattle.multicast.specs.declared.Record.{Record}
 use Rattle.multicast.specs.Capability.{CapabilityTold}
 use Rattle.multicast.proofs.Unique.{judge_unique}
 use Rattle.offload.specs.declared.HostJudged.{HostJudged}
@@ -10,11 +11,11 @@ use Rattle.offload.specs.Judges.{HostReads, told_judged, HostJudges}
 -- the statements
 abbrev pub HostMulticastUnique : Type 0
 HostMulticastUnique =
-    (s : List ℕ) (at r q : ℕ) (lent l m : List ℕ) → HostReads s at lent r l → HostReads s at lent q m → (r ≡ q) × (l ≡ m)
+    (s : List ℕ) (at r q : ℕ) (lent l m : Record) → HostReads s at lent r l → HostReads s at lent q m → (r ≡ q) × (l ≡ m)
 
 abbrev pub HostJudgeUnique : Type 0
 HostJudgeUnique =
-    (ports : List (List ℕ)) (entering address : ℕ) (r q : HostJudged) → HostJudges ports entering address r → HostJudges ports entering address q → r ≡ q
+    (ports : List Record) (entering address : ℕ) (r q : HostJudged) → HostJudges ports entering address r → HostJudges ports entering address q → r ≡ q
 
 pub host_multicast_unique : HostMulticastUnique
 host_multicast_unique s at r q lent l m e f =

@@ -2,9 +2,9 @@
 // What hosts of a switch's multicast link, in the same archive as the rest: the entries of multicast with plain numbers.
 // Each function answers for every input and keeps nothing; what it promises is in specs/, over the promises of the entries that it calls.
 // A slice is a pointer and a length. Where the length is 0 the pointer is not followed. A record is seven numbers of 64 bits, one after the other.
-ghost use Rattle.std.specs.Prelude.{◌≡◌};
-ghost use Rattle.offload.specs.Judges.{HostReads, told_judged, HostJudges};
+ghost use Rattle.offload.specs.Judges.{HostReads, HostJudges};
 
+use answers::Refusal;
 use multicast::{Judged, Record};
 
 // What becomes of a packet: the verdict is 0 where the number says that it is refused, 1 no hit, 2 dropped, 3 leaves.
@@ -22,41 +22,44 @@ pub struct HostJudged {
 pub extern "C" fn thawribbon_multicast(space: &[u8], at: usize, groups: &mut Record) -> u8
     ensures { HostReads space.now at groups.old result groups.new }
 {
-    let capability = multicast::read(space, at);
-    let answer = capability.answer;
-    let fields = capability.fields;
-    *groups = fields;
-    answer.number()
+    let read = multicast::read(space, at);
+    *groups = read.unwrap_or_default();
+    answers::number(&read)
 }
 
-fn told_judged(judged: Judged) -> HostJudged
-    ensures { result ≡ told_judged judged }
-{
-    match judged {
-        Judged::Refused(refusal) => HostJudged {
-            ports: 0,
-            number: refusal.number(),
-            verdict: 0,
-            group: 0,
-        },
-        Judged::NoHit => HostJudged {
-            ports: 0,
-            number: 0,
-            verdict: 1,
-            group: 0,
-        },
-        Judged::Dropped { group } => HostJudged {
-            ports: 0,
-            number: 0,
-            verdict: 2,
-            group,
-        },
-        Judged::Leaves { group, ports } => HostJudged {
-            ports,
-            number: 0,
-            verdict: 3,
-            group,
-        },
+impl From<Result<Judged, Refusal>> for HostJudged {
+    ghost use Rattle.std.specs.Prelude.{◌≡◌};
+    ghost use Rattle.offload.specs.Judges.{told_judged};
+
+    ghost from_gives = { λ judged host. host ≡ told_judged judged };
+
+    fn from(judged: Result<Judged, Refusal>) -> HostJudged {
+        match judged {
+            Err(refusal) => HostJudged {
+                ports: 0,
+                number: refusal.number(),
+                verdict: 0,
+                group: 0,
+            },
+            Ok(Judged::NoHit) => HostJudged {
+                ports: 0,
+                number: 0,
+                verdict: 1,
+                group: 0,
+            },
+            Ok(Judged::Dropped { group }) => HostJudged {
+                ports: 0,
+                number: 0,
+                verdict: 2,
+                group,
+            },
+            Ok(Judged::Leaves { group, ports }) => HostJudged {
+                ports,
+                number: 0,
+                verdict: 3,
+                group,
+            },
+        }
     }
 }
 
@@ -64,5 +67,5 @@ fn told_judged(judged: Judged) -> HostJudged
 pub extern "C" fn thawribbon_judge(ports: &[Record], entering: usize, address: u64) -> HostJudged
     ensures { HostJudges ports.now entering address result }
 {
-    told_judged(multicast::judge(ports, entering, address))
+    HostJudged::from(multicast::judge(ports, entering, address))
 }

@@ -12,11 +12,10 @@ use Rattle.board.specs.Description.{with_bytes, Board, badly_described}
 use Rattle.board.specs.Serving.{serve}
 use Rattle.board.proofs.Keeps.{serve_keeps, serve_keeps_well, reset_keeps_well}
 use Rattle.pair.specs.declared.Function.{Function}
-use Rattle.pair.specs.declared.Served.{Served}
 use Rattle.pair.specs.Pair.{Side, Pair, Role, Primary, Alternate, other, side, with_side, board_of, side_of, board, WellPaired, is_for_role}
 use Rattle.pair.specs.Pair as pairs
 use Rattle.pair.specs.Serving.{PairOutcome, served_by, delivered, pair_number, by_pair_number, serve_pair, pair_after_reset}
-use Rattle.pair.specs.Promise.{PairSeen, pair_shows, PairServes, pair_after_call}
+use Rattle.pair.specs.Promise.{Served, PairSeen, pair_shows, PairServes, pair_after_call}
 use Rattle.pair.proofs.Laws.{well_each, well_apart, pair_well, own_answers, neither_answers, by_neither}
 
 -- ---- any property of pairs that holds before, and after either function has served, holds after serving

@@ -29,6 +29,11 @@ use Rattle.pair.specs.Serving.{PairOutcome, answers_as, served_by, delivered, pa
 
 -- ---- whom a packet is for
 
+pub type1_only : (target : Target) → (target ≡ Type1 → ⊥) → is_type1 target ≡ false
+type1_only Type0 n = refl
+type1_only Type1 n = absurd (n refl)
+type1_only Trusted n = refl
+
 module _ (edition number : ℕ) (p : List ℕ) where
   pub for_refused : (refusal : Refusal) → number_under edition p ≡ number_of refusal → is_for edition number p ≡ false
   unfolding is_for

@@ -3,26 +3,25 @@
 use Prim.Native.Nat.{ℕ}
 use mathlib.Core.Bool.{Bool, true, false}
 use mathlib.Core.List.{List}
-use mathlib.Core.Path.{◌≡◌, refl, ap}
+use mathlib.Core.Path.{◌≡◌, refl, ap₂}
 use lib.ListN.{length}
-use Rattle.answers.specs.declared.Answer.TheVariants.{Refused}
+use Rattle.std.specs.Prelude.{Err}
 use Rattle.answers.specs.declared.Refusal.TheVariants.{BadDescription}
-use Rattle.board.specs.declared.Description.{Description}
-use Rattle.board.specs.declared.Served.{Served}
 use Rattle.board.specs.Description.{Board, badly_described}
-use Rattle.board.specs.Promise.{Seen, shows, Serves}
-use Rattle.pair.specs.Pair.{Side, Pair, Primary, Alternate, described, board, is_for_role}
+use Rattle.board.specs.Promise.{Served, Seen, shows, Serves}
+use Rattle.pair.specs.declared.Side.{Side as Lent}
+use Rattle.pair.specs.Pair.{Side, Pair, Primary, Alternate, board, is_for_role}
 use Rattle.pair.specs.Pair as pairs
 use Rattle.pair.specs.Serving.{answers_as, served_by, serve_pair}
-use Rattle.pair.specs.Promise.{pair_shows, PairServes}
-use Rattle.pair.specs.Inner.{refusing, told_by, besides, ServesBeside}
+use Rattle.pair.specs.Promise.{lent_side, pair_shows, PairServes}
+use Rattle.pair.specs.Inner.{besides, ServesBeside}
 use Rattle.pair.proofs.Laws.{equal_refused, beside_refused, alternate_answers, primary_answers}
 
 -- ---- one function beside the other
 
 module _ (d beside : Board) (p reply : List ℕ) where
   pub beside_bad_seen : badly_described beside ≡ true
-      → ServesBeside d beside p reply (record { answer = Refused BadDescription; length = 0; capture = d.capture }) d.ordinary.bytes d.trusted.bytes reply
+      → ServesBeside d beside p reply (record { answer = Err BadDescription; capture = d.capture }) d.ordinary.bytes d.trusted.bytes reply
   unfolding shows besides
   beside_bad_seen b = rw b
 
@@ -30,19 +29,20 @@ module _ (d beside : Board) (p reply : List ℕ) where
   unfolding besides
   beside_served r o t after b e = rw b e
 
--- a function as a board, by a description that was made of it
-abbrev on_board : Description → Side → Board
-on_board x s = record { description = x; capture = s.capture; ordinary = s.ordinary; trusted = s.trusted }
+-- what a function served as a board of its own, and what is then left of its spaces
+pub own_served : (d : Board) (p reply : List ℕ) (r : Served) (o t after left_o left_t : List ℕ) → Serves d p reply r o t after → left_o ≡ o
+    → left_t ≡ t → Serves d p reply r left_o left_t after
+own_served d p reply r o t after left_o left_t e first second = rw (first, second) e
 
 -- ---- the three ways through `serve`
 
 module _ (pair : Pair) (p reply : List ℕ) where
-  pub equal_seen : (r : Rattle.pair.specs.declared.Served.Served) → pairs.number_of Primary pair ≡ pairs.number_of Alternate pair
-      → r ≡ refusing (record { primary = pair.primary.capture; alternate = pair.alternate.capture })
-      → PairServes pair p reply r pair.primary.ordinary.bytes pair.primary.trusted.bytes pair.alternate.ordinary.bytes
-      pair.alternate.trusted.bytes reply
+  pub equal_seen : pairs.number_of Primary pair ≡ pairs.number_of Alternate pair
+      → PairServes pair p reply
+      (record { answer = Err BadDescription; kept = record { primary = pair.primary.capture; alternate = pair.alternate.capture } })
+      pair.primary.ordinary.bytes pair.primary.trusted.bytes pair.alternate.ordinary.bytes pair.alternate.trusted.bytes reply
   unfolding pair_shows
-  equal_seen r e told = rw (told, equal_refused pair p (length reply) e)
+  equal_seen e = rw (equal_refused pair p (length reply) e)
 
   module _ (apart : pairs.number_of Primary pair ≡ pairs.number_of Alternate pair → ⊥) where
     by_alternate : (b : Bool) → badly_described (board Primary pair) ≡ b → is_for_role Alternate pair p ≡ true
@@ -57,46 +57,44 @@ module _ (pair : Pair) (p reply : List ℕ) where
     by_primary true b h = rw b (beside_refused Alternate pair p (length reply) b)
     by_primary false b h = rw b (primary_answers pair p (length reply) apart b h)
 
-    -- the board by which a function was served, and that of the other, with the descriptions that were made of them
-    module _ (x y : Description) (s : Served) (o t after : List ℕ) (r : Rattle.pair.specs.declared.Served.Served) where
-      pub alternate_seen : x ≡ described pair.edition pair.alternate.function → y ≡ described pair.edition pair.primary.function
-          → is_for_role Alternate pair p ≡ true → ServesBeside (on_board x pair.alternate) (on_board y pair.primary) p reply s o t after
-          → r ≡ told_by s pair.primary.capture s.capture
-          → PairServes pair p reply r pair.primary.ordinary.bytes pair.primary.trusted.bytes o t after
+    -- the other function is as it was, and the one as it served
+    module _ (beside : Lent) (s : Served) (o t after : List ℕ) where
+      pub alternate_seen : is_for_role Alternate pair p ≡ true → lent_side beside ≡ pair.primary
+          → ServesBeside (board Alternate pair) (board Primary pair) p reply s o t after
+          → PairServes pair p reply (record { answer = s.answer; kept = record { primary = beside.capture; alternate = s.capture } })
+          beside.ordinary.now beside.trusted.now o t after
       unfolding pair_shows shows
-      alternate_seen dx dy h e told =
-          rw (by_alternate _ refl h, ← dx, ← dy, told)
-          (ap
-          (λ (z : Seen).
+      alternate_seen h same e =
+          rw (by_alternate _ refl h) (ap₂
+          (λ (x : Side) (z : Seen).
           record {
             number = z.number;
             count = z.count;
-            kept = record { primary = pair.primary.capture; alternate = z.capture };
-            primary_ordinary = pair.primary.ordinary.bytes;
-            primary_trusted = pair.primary.trusted.bytes;
+            kept = record { primary = x.capture; alternate = z.capture };
+            primary_ordinary = x.ordinary.bytes;
+            primary_trusted = x.trusted.bytes;
             alternate_ordinary = z.ordinary;
             alternate_trusted = z.trusted;
             reply = z.reply;
           })
-          e)
+          same e)
 
-      pub primary_seen : x ≡ described pair.edition pair.primary.function → y ≡ described pair.edition pair.alternate.function
-          → is_for_role Alternate pair p ≡ false → ServesBeside (on_board x pair.primary) (on_board y pair.alternate) p reply s o t after
-          → r ≡ told_by s s.capture pair.alternate.capture
-          → PairServes pair p reply r o t pair.alternate.ordinary.bytes pair.alternate.trusted.bytes after
+      pub primary_seen : is_for_role Alternate pair p ≡ false → lent_side beside ≡ pair.alternate
+          → ServesBeside (board Primary pair) (board Alternate pair) p reply s o t after
+          → PairServes pair p reply (record { answer = s.answer; kept = record { primary = s.capture; alternate = beside.capture } })
+          o t beside.ordinary.now beside.trusted.now after
       unfolding pair_shows shows
-      primary_seen dx dy h e told =
-          rw (by_primary _ refl h, ← dx, ← dy, told)
-          (ap
-          (λ (z : Seen).
+      primary_seen h same e =
+          rw (by_primary _ refl h) (ap₂
+          (λ (x : Side) (z : Seen).
           record {
             number = z.number;
             count = z.count;
-            kept = record { primary = z.capture; alternate = pair.alternate.capture };
+            kept = record { primary = z.capture; alternate = x.capture };
             primary_ordinary = z.ordinary;
             primary_trusted = z.trusted;
-            alternate_ordinary = pair.alternate.ordinary.bytes;
-            alternate_trusted = pair.alternate.trusted.bytes;
+            alternate_ordinary = x.ordinary.bytes;
+            alternate_trusted = x.trusted.bytes;
             reply = z.reply;
           })
-          e)
+          same e)

@@ -7,20 +7,20 @@ use mathlib.Core.List.{List, [], ◌∷◌, Memᴰ}
 use mathlib.Core.Path.{◌≡◌, refl, sym, ap, ◌∙◌, subst}
 use native.Mathlib.Omega.{arith}
 use lib.ListN.{length}
-use Rattle.answers.specs.Numbers.{answer_of}
+use Rattle.answers.specs.Numbers.{answered}
 use Rattle.answers.proofs.Checks.{Lowest, Positive, Rising, gives_lowest, gives_one_of}
+use Rattle.board.specs.Promise.{count_of}
 use Rattle.board.proofs.Refusals.{outcome_number}
-use Rattle.pair.specs.declared.Served.{Served}
 use Rattle.pair.specs.Pair.{Pair, Primary, Alternate, board, is_for_role}
 use Rattle.pair.specs.Serving.{served_by, delivered, pair_checks, pair_number, pair_refused, by_pair_number, serve_pair}
-use Rattle.pair.specs.Promise.{PairSeen, pair_shows, PairServes}
+use Rattle.pair.specs.Promise.{Served, PairSeen, pair_shows, PairServes}
 use Rattle.pair.proofs.Laws.{each_number}
 
 -- the statements
 abbrev pub PairRefusalKeeps : Type 0
 PairRefusalKeeps =
-    (pair : Pair) (p reply : List ℕ) (r : Served) (po pt ao at after : List ℕ) → PairServes pair p reply r po pt ao at after → (answer_of r.answer ≡ 0 → ⊥)
-    → (r.length ≡ 0) × (r.kept ≡ record { primary = pair.primary.capture; alternate = pair.alternate.capture }) × (po ≡ pair.primary.ordinary.bytes)
+    (pair : Pair) (p reply : List ℕ) (r : Served) (po pt ao at after : List ℕ) → PairServes pair p reply r po pt ao at after → (answered r.answer ≡ 0 → ⊥)
+    → (count_of r.answer ≡ 0) × (r.kept ≡ record { primary = pair.primary.capture; alternate = pair.alternate.capture }) × (po ≡ pair.primary.ordinary.bytes)
     × (pt ≡ pair.primary.trusted.bytes) × (ao ≡ pair.alternate.ordinary.bytes) × (at ≡ pair.alternate.trusted.bytes) × (after ≡ reply)
 
 -- what a number says: it is the lowest that applies, 0 exactly if none does, and no other than 0 to 6
@@ -31,7 +31,7 @@ pub record PairNumberSays (pair : Pair) (p : List ℕ) (size n : ℕ) : Type 0 w
 abbrev pub PairNumberIsLowest : Type 0
 PairNumberIsLowest =
     (pair : Pair) (p reply : List ℕ) (r : Served) (po pt ao at after : List ℕ) → PairServes pair p reply r po pt ao at after
-    → PairNumberSays pair p (length reply) (answer_of r.answer)
+    → PairNumberSays pair p (length reply) (answered r.answer)
 
 -- ---- the number of an outcome is the number of the checks
 

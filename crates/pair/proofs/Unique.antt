@@ -2,11 +2,10 @@
 use Prim.Native.Nat.{ℕ}
 use mathlib.Core.List.{List}
 use mathlib.Core.Path.{◌≡◌, sym, ap, ◌∙◌}
-use Rattle.answers.proofs.Unique.{answer_tells}
+use Rattle.board.proofs.Unique.{same_answer}
 use Rattle.pair.specs.declared.Captures.{Captures}
-use Rattle.pair.specs.declared.Served.{Served}
 use Rattle.pair.specs.Pair.{Pair, forgotten_both}
-use Rattle.pair.specs.Promise.{PairSeen, pair_seen, PairServes}
+use Rattle.pair.specs.Promise.{Served, PairSeen, pair_seen, PairServes}
 
 -- the statement: whatever meets `serve`'s promise from the same pair, packet and reply is the same result, with the same five buffers
 abbrev pub PairServeUnique : Type 0
@@ -15,14 +14,11 @@ PairServeUnique =
     → PairServes pair p reply r po pt ao at after → PairServes pair p reply q po' pt' ao' at' after'
     → (r ≡ q) × (po ≡ po') × (pt ≡ pt') × (ao ≡ ao') × (at ≡ at') × (after ≡ after')
 
-same : (r q : Served) → r.answer ≡ q.answer → r.length ≡ q.length → r.kept ≡ q.kept → r ≡ q
-same r q a n k = λ i. record { answer = a i; length = n i; kept = k i }
-
 pub pair_serve_unique : PairServeUnique
 pair_serve_unique pair p reply r q po pt ao at after po' pt' ao' at' after' e f =
-    let s : pair_seen r po pt ao at after ≡ pair_seen q po' pt' ao' at' after' = e ∙ sym f in (
-      same r q (answer_tells r.answer q.answer (ap (λ (x : PairSeen). x.number) s)) (ap (λ (x : PairSeen). x.count) s)
-          (ap (λ (x : PairSeen). x.kept) s),
+    let s : pair_seen r po pt ao at after ≡ pair_seen q po' pt' ao' at' after' = e ∙ sym f in
+    let a = same_answer r.answer q.answer (ap (λ (x : PairSeen). x.number) s) (ap (λ (x : PairSeen). x.count) s) in (
+      λ i. record { answer = a i; kept = (s i).kept },
       ap (λ (x : PairSeen). x.primary_ordinary) s,
       ap (λ (x : PairSeen). x.primary_trusted) s,
       ap (λ (x : PairSeen). x.alternate_ordinary) s,

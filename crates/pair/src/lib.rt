@@ -5,7 +5,6 @@
 mod choosing;
 mod serving;
 
-use answers::Answer;
 use capture::Capture;
 pub use serving::{reset, serve};
 
@@ -18,17 +17,23 @@ pub struct Function {
     pub b: usize,
 }
 
+// One of the two functions as it is lent: what does not change of it, what it has captured, and its two spaces with the rules and the
+// marks of each.
+#[derive(Drop)]
+pub struct Side<'a> {
+    pub function: Function,
+    pub capture: Capture,
+    pub ordinary: &'a mut [u8],
+    pub ordinary_rules: &'a [u8],
+    pub ordinary_marks: &'a [u8],
+    pub trusted: &'a mut [u8],
+    pub trusted_rules: &'a [u8],
+    pub trusted_marks: &'a [u8],
+}
+
 // What the two functions have captured, each for itself.
 #[derive(Clone, Copy)]
 pub struct Captures {
     pub primary: Capture,
     pub alternate: Capture,
-}
-
-// The answer to a packet: how many bytes of the reply are written, and the captures to keep for the next packet.
-#[derive(Clone, Copy)]
-pub struct Served {
-    pub answer: Answer,
-    pub length: usize,
-    pub kept: Captures,
 }

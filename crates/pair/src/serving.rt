@@ -1,186 +1,120 @@
 // Serving a packet on a board of two functions: one of them serves it as a board of its own, and the other is only looked at.
 ghost use Rattle.std.specs.Prelude.{◌≡◌};
-ghost use Rattle.pair.specs.Pair.{described, forgotten_both};
-ghost use Rattle.pair.specs.Promise.{lent_side, lent_pair, PairServes};
-ghost use Rattle.board.specs.Promise.{lent};
-ghost use Rattle.pair.specs.Inner.{refusing, told_by, ServesBeside};
+ghost use Rattle.board.specs.Description.{badly_described};
+ghost use Rattle.board.specs.Promise.{Serves};
+ghost use Rattle.pair.specs.Pair.{described, board_of, forgotten_both};
+ghost use Rattle.pair.specs.Promise.{lent_side, held_side, lent_pair, PairServes};
+ghost use Rattle.pair.specs.Inner.{ServesBeside};
 
-use super::{Captures, Function, Served, choosing};
-use answers::{Answer, Refusal};
-use board::Description;
-use capture::Capture;
+use super::{Captures, Function, Side, choosing};
+use answers::Refusal;
+use board::{Board, Description, Look};
 
-fn description_of(edition: u32, function: Function) -> Description
-    ensures { result ≡ described edition function }
-{
-    Description {
-        function: function.number,
-        a: function.a,
-        b: function.b,
-        edition,
+impl Function {
+    fn described(self, edition: u32) -> Description
+        ensures { result ≡ described edition self }
+    {
+        Description {
+            function: self.number,
+            a: self.a,
+            b: self.b,
+            edition,
+        }
     }
 }
 
-// Nothing is done, and both captures are handed back as they were.
-fn refuse(kept: Captures) -> Served
-    ensures { result ≡ refusing kept }
-{
-    Served {
-        answer: Answer::Refused(Refusal::BadDescription),
-        length: 0,
-        kept,
-    }
-}
-
-// What a function has answered, with what both have captured then.
-fn told(served: board::Served, primary: Capture, alternate: Capture) -> Served
-    ensures { result ≡ told_by served primary alternate }
-{
-    let answer = served.answer;
-    Served {
-        answer,
-        length: served.length,
-        kept: Captures { primary, alternate },
-    }
-}
-
-// One function serves the packet as a board of its own, unless the other, which is only looked at, is badly described.
-fn serve_beside(
-    description: Description,
-    kept: Capture,
-    ordinary: &mut [u8],
-    ordinary_rules: &[u8],
-    ordinary_marks: &[u8],
-    trusted: &mut [u8],
-    trusted_rules: &[u8],
-    trusted_marks: &[u8],
-    beside: Description,
-    beside_kept: Capture,
-    beside_ordinary: &[u8],
-    beside_ordinary_rules: &[u8],
-    beside_ordinary_marks: &[u8],
-    beside_trusted: &[u8],
-    beside_trusted_rules: &[u8],
-    beside_trusted_marks: &[u8],
-    packet: &[u8],
-    reply: &mut [u8],
-) -> board::Served
-    ensures { ServesBeside (lent description kept «ordinary».old ordinary_rules.now ordinary_marks.now «trusted».old trusted_rules.now trusted_marks.now) (lent beside beside_kept beside_ordinary.now beside_ordinary_rules.now beside_ordinary_marks.now beside_trusted.now beside_trusted_rules.now beside_trusted_marks.now) packet.now reply.old result ordinary.new trusted.new reply.new }
-{
-    if board::is_badly_described(
-        beside,
-        beside_kept,
-        beside_ordinary,
-        beside_ordinary_rules,
-        beside_ordinary_marks,
-        beside_trusted,
-        beside_trusted_rules,
-        beside_trusted_marks,
-    ) {
-        return board::Served {
-            answer: Answer::Refused(Refusal::BadDescription),
-            length: 0,
-            capture: kept,
+impl Side<'_> {
+    // Whether it is badly described as a board of its own.
+    fn is_badly_described(&self, edition: u32) -> bool
+        ensures { result ≡ badly_described (board_of edition (lent_side self.now)) }
+    {
+        let look = Look {
+            description: self.function.described(edition),
+            capture: self.capture,
+            ordinary: self.ordinary,
+            ordinary_rules: self.ordinary_rules,
+            ordinary_marks: self.ordinary_marks,
+            trusted: self.trusted,
+            trusted_rules: self.trusted_rules,
+            trusted_marks: self.trusted_marks,
         };
+        look.is_badly_described()
     }
-    board::serve(
-        description,
-        kept,
-        ordinary,
-        ordinary_rules,
-        ordinary_marks,
-        trusted,
-        trusted_rules,
-        trusted_marks,
-        packet,
-        reply,
-    )
+
+    // Serves a packet as a board of its own.
+    fn serve(&mut self, edition: u32, packet: &[u8], reply: &mut [u8]) -> Result<usize, Refusal>
+        ensures same_ordinary { self.new.ordinary.ghost_name ≡ self.old.ordinary.ghost_name }
+        ensures same_trusted { self.new.trusted.ghost_name ≡ self.old.trusted.ghost_name }
+        ensures serves { Serves (board_of edition (lent_side self.old)) packet.now reply.old (record { answer = result; capture = self.new.capture }) self.new.ordinary.now self.new.trusted.now reply.new }
+        ensures holds { lent_side self.new ≡ held_side (lent_side self.old) self.new.capture self.new.ordinary.now self.new.trusted.now }
+    {
+        let mut board = Board {
+            description: self.function.described(edition),
+            capture: self.capture,
+            ordinary: self.ordinary,
+            ordinary_rules: self.ordinary_rules,
+            ordinary_marks: self.ordinary_marks,
+            trusted: self.trusted,
+            trusted_rules: self.trusted_rules,
+            trusted_marks: self.trusted_marks,
+        };
+        let answer = board.serve(packet, reply);
+        self.capture = board.capture;
+        answer
+    }
+
+    // Serves a packet, unless the other function, which is only looked at, is badly described.
+    fn serve_beside(
+        &mut self,
+        other: &Side,
+        edition: u32,
+        packet: &[u8],
+        reply: &mut [u8],
+    ) -> Result<usize, Refusal>
+        ensures same_ordinary { self.new.ordinary.ghost_name ≡ self.old.ordinary.ghost_name }
+        ensures same_trusted { self.new.trusted.ghost_name ≡ self.old.trusted.ghost_name }
+        ensures serves { ServesBeside (board_of edition (lent_side self.old)) (board_of edition (lent_side other.now)) packet.now reply.old (record { answer = result; capture = self.new.capture }) self.new.ordinary.now self.new.trusted.now reply.new }
+        ensures holds { lent_side self.new ≡ held_side (lent_side self.old) self.new.capture self.new.ordinary.now self.new.trusted.now }
+    {
+        if other.is_badly_described(edition) {
+            return Err(Refusal::BadDescription);
+        }
+        self.serve(edition, packet, reply)
+    }
 }
 
-// Answers a packet of any length, on spaces and a reply of any length.
+// Answers a packet of any length, on spaces and a reply of any length, with how many bytes of the reply are written.
 pub fn serve(
     edition: u32,
-    primary: Function,
-    alternate: Function,
-    kept: Captures,
-    primary_ordinary: &mut [u8],
-    primary_ordinary_rules: &[u8],
-    primary_ordinary_marks: &[u8],
-    primary_trusted: &mut [u8],
-    primary_trusted_rules: &[u8],
-    primary_trusted_marks: &[u8],
-    alternate_ordinary: &mut [u8],
-    alternate_ordinary_rules: &[u8],
-    alternate_ordinary_marks: &[u8],
-    alternate_trusted: &mut [u8],
-    alternate_trusted_rules: &[u8],
-    alternate_trusted_marks: &[u8],
+    primary: &mut Side,
+    alternate: &mut Side,
     packet: &[u8],
     reply: &mut [u8],
-) -> Served
-    ensures { PairServes (lent_pair edition (lent_side primary kept.primary primary_ordinary.old primary_ordinary_rules.now primary_ordinary_marks.now primary_trusted.old primary_trusted_rules.now primary_trusted_marks.now) (lent_side alternate kept.alternate alternate_ordinary.old alternate_ordinary_rules.now alternate_ordinary_marks.now alternate_trusted.old alternate_trusted_rules.now alternate_trusted_marks.now)) packet.now reply.old result primary_ordinary.new primary_trusted.new alternate_ordinary.new alternate_trusted.new reply.new }
+) -> Result<usize, Refusal>
+    ensures same_primary_ordinary { primary.new.ordinary.ghost_name ≡ primary.old.ordinary.ghost_name }
+    ensures same_primary_trusted { primary.new.trusted.ghost_name ≡ primary.old.trusted.ghost_name }
+    ensures same_alternate_ordinary { alternate.new.ordinary.ghost_name ≡ alternate.old.ordinary.ghost_name }
+    ensures same_alternate_trusted { alternate.new.trusted.ghost_name ≡ alternate.old.trusted.ghost_name }
+    ensures serves { PairServes (lent_pair edition (lent_side primary.old) (lent_side alternate.old)) packet.now reply.old (record { answer = result; kept = record { primary = primary.new.capture; alternate = alternate.new.capture } }) primary.new.ordinary.now primary.new.trusted.now alternate.new.ordinary.now alternate.new.trusted.now reply.new }
+    ensures holds_primary { lent_side primary.new ≡ held_side (lent_side primary.old) primary.new.capture primary.new.ordinary.now primary.new.trusted.now }
+    ensures holds_alternate { lent_side alternate.new ≡ held_side (lent_side alternate.old) alternate.new.capture alternate.new.ordinary.now alternate.new.trusted.now }
 {
-    if primary.number == alternate.number {
-        return refuse(kept);
+    if primary.function.number == alternate.function.number {
+        return Err(Refusal::BadDescription);
     }
-    let primary_kept = kept.primary;
-    let alternate_kept = kept.alternate;
-    if choosing::is_for(edition, alternate.number, packet) {
-        let served = serve_beside(
-            description_of(edition, alternate),
-            alternate_kept,
-            alternate_ordinary,
-            alternate_ordinary_rules,
-            alternate_ordinary_marks,
-            alternate_trusted,
-            alternate_trusted_rules,
-            alternate_trusted_marks,
-            description_of(edition, primary),
-            primary_kept,
-            primary_ordinary,
-            primary_ordinary_rules,
-            primary_ordinary_marks,
-            primary_trusted,
-            primary_trusted_rules,
-            primary_trusted_marks,
-            packet,
-            reply,
-        );
-        let alternate_after = served.capture;
-        return told(served, primary_kept, alternate_after);
+    if choosing::is_for(edition, alternate.function.number, packet) {
+        alternate.serve_beside(primary, edition, packet, reply)
+    } else {
+        primary.serve_beside(alternate, edition, packet, reply)
     }
-    let served = serve_beside(
-        description_of(edition, primary),
-        primary_kept,
-        primary_ordinary,
-        primary_ordinary_rules,
-        primary_ordinary_marks,
-        primary_trusted,
-        primary_trusted_rules,
-        primary_trusted_marks,
-        description_of(edition, alternate),
-        alternate_kept,
-        alternate_ordinary,
-        alternate_ordinary_rules,
-        alternate_ordinary_marks,
-        alternate_trusted,
-        alternate_trusted_rules,
-        alternate_trusted_marks,
-        packet,
-        reply,
-    );
-    let primary_after = served.capture;
-    told(served, primary_after, alternate_kept)
 }
 
 // Reset forgets both captures. It is lent no space, so it changes no byte.
 pub fn reset(kept: Captures) -> Captures
     ensures { result ≡ forgotten_both kept }
 {
-    let primary = kept.primary;
-    let alternate = kept.alternate;
     Captures {
-        primary: board::reset(primary),
-        alternate: board::reset(alternate),
+        primary: board::reset(kept.primary),
+        alternate: board::reset(kept.alternate),
     }
 }

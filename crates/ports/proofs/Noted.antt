@@ -1,24 +1,26 @@
 -- THEOREM. `begin`, a `note` for each port and `conclude` give the choice of the list, whatever its length. So does the walk of `choose`, which stops at the
 -- port that is too many. Assumes nothing.
-use Prim.Native.Nat.{ℕ, zero, suc, ◌+◌, ◌-◌, ◌≤◌, ◌<◌, max}
+use Prim.Native.Nat.{ℕ, zero, suc, ◌+◌, ◌-◌, ◌≤◌, ◌<◌, max, min}
 use mathlib.Core.Bool.{Bool, true, false, cond, ◌||◌, true≢false}
 use mathlib.Core.List.{List, [], ◌∷◌}
 use mathlib.Core.Logic.{⊎_elim}
 use mathlib.Core.Path.{◌≡◌, refl, sym, ap, ◌∙◌, subst}
+use Rattle.std.proofs.lemmas.Bool.{cases_Bool, cases_lt, false_from_ne_true, or_parts}
+use Rattle.std.specs.Prelude.{Option, Some, None, Ok, Err}
 use native.Mathlib.Omega.{arith}
 use lib.Dec.{ltb}
-use lib.ListN.{length, get_or}
+use lib.ListN.{length, take, get_or}
 use borrow.Author.Tests.{lt-ltb, le-ltb, ltb-true, ltb-false}
+use Rattle.std.proofs.lemmas.List.{length-take, get_or-take, get_or_default}
 use Rattle.ports.specs.declared.Port.{Port}
+use Rattle.ports.specs.declared.Exit.{Exit}
 use Rattle.ports.specs.declared.Survey.{Survey}
-use Rattle.ports.specs.declared.Choice.TheVariants.{BadList, At, Nowhere}
 use Rattle.ports.specs.Ports.{has, exceeds, meet, bad_list}
-use Rattle.ports.specs.Choice.{port_from, choice}
+use Rattle.ports.specs.Choice.{Choice, exit_at, list_refused, port_from, choice}
 use Rattle.ports.specs.Buses.{buses_of, shared, together}
-use Rattle.ports.specs.Noting.{no_port, begun, placed, noted, concluded, up_to, after}
-use Rattle.ports.proofs.Laws.{below_or_not}
+use Rattle.ports.specs.Noting.{no_port, begun, placed, noted, concluded, up_to, after, Notes}
 use Rattle.ports.proofs.Members.{In, nothing_in, in_range, range_has, of_either, from_first, from_second, apart_in, shares_none}
-use Rattle.ports.proofs.Pairs.{port_at, Sound, Good, neither, is_or_not, not_true_false, has_is, is_has, in_both_meet, meet_in_both, good_of, of_good}
+use Rattle.ports.proofs.Pairs.{port_at, Sound, Good, has_is, is_has, in_both_meet, meet_in_both, good_of, of_good}
 
 -- the buses of the first n ports are bytes
 abbrev pub BytesUpTo : List Port → ℕ → Type 0
@@ -28,20 +30,18 @@ BytesUpTo ps n = (j : ℕ) → j < n → ((port_at ps j).secondary < 256) × ((p
 abbrev pub NotedIsChoice : Type 0
 NotedIsChoice = (ps : List Port) (bus : ℕ) → BytesUpTo ps (length ps) → concluded (after ps bus (length ps)) ≡ choice ps bus
 
-pub bytes_more : (ps : List Port) (i : ℕ) (p : Port) → BytesUpTo ps i → p ≡ get_or ps i no_port → (p.secondary < 256) × (p.subordinate < 256)
-    → BytesUpTo ps (i + 1)
+bytes_more : (ps : List Port) (i : ℕ) (p : Port) → BytesUpTo ps i → p ≡ get_or ps i no_port → (p.secondary < 256) × (p.subordinate < 256)
+    → BytesUpTo ps (suc i)
 bytes_more ps i p b e h j l =
-    ⊎_elim (b j) (λ k. subst (λ (q : Port). (q.secondary < 256) × (q.subordinate < 256)) (e ∙ ap (get_d' ps) (omega arith)) h) (below_or_not j i)
+    ⊎_elim (b j) (λ k. subst (λ (q : Port). (q.secondary < 256) × (q.subordinate < 256)) (e ∙ ap (get_d' ps) (omega arith)) h) (cases_lt j i)
   where
     get_d' : List Port → ℕ → Port
     get_d' ps k = get_or ps k no_port
 
-pub up_to_within : (n : ℕ) → up_to n ≤ n
-up_to_within n = go (ltb 32 n) refl
-  where
-    go : (b : Bool) → ltb 32 n ≡ b → cond b 33 n ≤ n
-    go true e = let h = ltb-true 32 n e in omega arith
-    go false e = omega arith
+-- of the first n ports none has the bus, or this one
+abbrev Found : List Port → ℕ → ℕ → Option Exit → Type 0
+Found ps bus n None = (i : ℕ) → i < n → has (port_at ps i) bus ≡ false
+Found ps bus n (Some e) = (e.place < n) × (e.port ≡ port_at ps e.place) × (has e.port bus ≡ true)
 
 -- what a survey of the first n ports says
 record Surveyed (ps : List Port) (bus n : ℕ) (s : Survey) : Type 0 where
@@ -51,8 +51,7 @@ record Surveyed (ps : List Port) (bus n : ℕ) (s : Survey) : Type 0 where
   unsound : s.bad ≡ true → Sound ps n → ⊥
   holds : Sound ps n → (x : ℕ) → x < 256 → In s.taken x → (i : ℕ) × (i < n) × (has (port_at ps i) x ≡ true)
   held : (i : ℕ) → i < n → (x : ℕ) → x < 256 → has (port_at ps i) x ≡ true → In s.taken x
-  missed : s.found ≡ false → (i : ℕ) → i < n → has (port_at ps i) bus ≡ false
-  hit : s.found ≡ true → (s.place < n) × (s.port ≡ port_at ps s.place) × (has s.port bus ≡ true)
+  found : Found ps bus n s.found
 
 surveyed_none : (ps : List Port) (bus : ℕ) → Surveyed ps bus 0 (begun bus)
 unfolding begun
@@ -64,8 +63,7 @@ surveyed_none ps bus =
       unsound = λ e. absurd (true≢false (sym e));
       holds = λ s x h i. absurd (nothing_in x i);
       held = λ i h. absurd (omega arith);
-      missed = λ e i h. absurd (omega arith);
-      hit = λ e. absurd (true≢false (sym e));
+      found = λ i h. absurd (omega arith);
     }
 
 module _ (ps : List Port) (bus n : ℕ) (s : Survey) (before : Surveyed ps bus n s) (few : n ≤ 32) (bytes : BytesUpTo ps (suc n)) where
@@ -80,9 +78,7 @@ module _ (ps : List Port) (bus n : ℕ) (s : Survey) (before : Surveyed ps bus n
         count = s.count + 1;
         taken = together s.taken (buses_of p);
         bad = s.bad || (exceeds p || shared s.taken (buses_of p));
-        found = (placed s p).found;
-        place = (placed s p).place;
-        port = (placed s p).port;
+        found = placed s p;
       }
 
   noted_next : noted s p ≡ next
@@ -91,7 +87,7 @@ module _ (ps : List Port) (bus n : ℕ) (s : Survey) (before : Surveyed ps bus n
 
   -- port n or one before it
   at_place : (P : ℕ → Type 0) (i : ℕ) → i < suc n → (i < n → P i) → P n → P i
-  at_place P i h old new = ⊎_elim old (λ l. subst P (omega arith) new) (below_or_not i n)
+  at_place P i h old new = ⊎_elim old (λ l. subst P (omega arith) new) (cases_lt i n)
 
   earlier : Sound ps (suc n) → Sound ps n
   earlier z = record { ordered = λ i h. z.ordered i (omega arith); apart = λ i j h l. z.apart i j h (omega arith) }
@@ -99,7 +95,7 @@ module _ (ps : List Port) (bus n : ℕ) (s : Survey) (before : Surveyed ps bus n
   -- a port before that meets port n has a bus of its set
   apart_now : Sound ps n → p.secondary ≤ p.subordinate → shared s.taken (buses_of p) ≡ false → (i : ℕ) → i < n → meet (port_at ps i) p ≡ false
   apart_now z o e i h =
-      not_true_false (meet (port_at ps i) p) (λ m.
+      false_from_ne_true (meet (port_at ps i) p) (λ m.
       let x = max (port_at ps i).secondary p.secondary in
       let b = meet_in_both (port_at ps i) p (z.ordered i h) o m in
       let u = has_is p x b.1 in
@@ -108,8 +104,8 @@ module _ (ps : List Port) (bus n : ℕ) (s : Survey) (before : Surveyed ps bus n
 
   sound_next : next.bad ≡ false → Sound ps (suc n)
   sound_next e =
-      let a = neither s.bad (exceeds p || shared s.taken (buses_of p)) e in
-      let b = neither (exceeds p) (shared s.taken (buses_of p)) a.1 in
+      let a = or_parts s.bad (exceeds p || shared s.taken (buses_of p)) e in
+      let b = or_parts (exceeds p) (shared s.taken (buses_of p)) a.1 in
       let z = before.sound a.0 in
       let o = ltb-false p.subordinate p.secondary b.0 in
       record {
@@ -135,7 +131,7 @@ module _ (ps : List Port) (bus n : ℕ) (s : Survey) (before : Surveyed ps bus n
   unsound_next : next.bad ≡ true → Sound ps (suc n) → ⊥
   unsound_next e z =
       let c : next.bad ≡ false = rw (
-        not_true_false s.bad (λ b. before.unsound b (earlier z)),
+        false_from_ne_true s.bad (λ b. before.unsound b (earlier z)),
         le-ltb p.subordinate p.secondary (z.ordered n (omega arith)),
         unshared z,
       ) in
@@ -148,31 +144,17 @@ module _ (ps : List Port) (bus n : ℕ) (s : Survey) (before : Surveyed ps bus n
       (λ e. let r = has_is p x e in from_second s.taken (buses_of p) x (in_range p x l r.0 r.1))
 
   -- the port that has the bus, by whether port n has it
-  placed_if : (b : Bool) → has p s.bus ≡ b
-      → placed s p ≡ cond b (record { bus = s.bus; count = s.count; taken = s.taken; bad = s.bad; found = true; place = s.count; port = p }) s
+  found_next : Found ps bus (suc n) next.found
   unfolding placed
-  placed_if b e = rw e
-
-  missed_next : next.found ≡ false → (i : ℕ) → i < suc n → has (port_at ps i) bus ≡ false
-  missed_next = go (has p s.bus) refl
+  found_next = go (has p s.bus) refl
     where
-      go : (b : Bool) → has p s.bus ≡ b → next.found ≡ false → (i : ℕ) → i < suc n → has (port_at ps i) bus ≡ false
-      go true e f i h = absurd (true≢false (sym (ap (λ (t : Survey). t.found) (placed_if true e)) ∙ f))
-      go false e f i h =
-          at_place (λ (k : ℕ). has (port_at ps k) bus ≡ false) i h (before.missed (sym (ap (λ (t : Survey). t.found) (placed_if false e)) ∙ f) i)
-          (subst (λ (x : ℕ). has p x ≡ false) before.same e)
+      kept : (o : Option Exit) → Found ps bus n o → has p bus ≡ false → Found ps bus (suc n) o
+      kept None f e = λ i h. at_place (λ (k : ℕ). has (port_at ps k) bus ≡ false) i h (f i) e
+      kept (Some x) f e = (omega (arith, f.0), f.1, f.2)
 
-  abbrev Told : Survey → Type 0
-  Told t = (t.place < suc n) × (t.port ≡ port_at ps t.place) × (has t.port bus ≡ true)
-
-  hit_next : next.found ≡ true → (next.place < suc n) × (next.port ≡ port_at ps next.place) × (has next.port bus ≡ true)
-  hit_next f = go (has p s.bus) refl
-    where
-      go : (b : Bool) → has p s.bus ≡ b → Told (placed s p)
-      go true e = subst Told (sym (placed_if true e)) (omega (arith, before.counted), ap (port_at ps) (sym before.counted), subst (λ (x : ℕ). has p x ≡ true) before.same e)
-      go false e =
-          let w = before.hit (sym (ap (λ (t : Survey). t.found) (placed_if false e)) ∙ f) in
-          subst Told (sym (placed_if false e)) (omega (arith, w.0), w.1, w.2)
+      go : (b : Bool) → has p s.bus ≡ b → Found ps bus (suc n) (cond b (Some (exit_at s.count p)) s.found)
+      go true e = (omega (arith, before.counted), ap (port_at ps) (sym before.counted), subst (λ (x : ℕ). has p x ≡ true) before.same e)
+      go false e = kept s.found before.found (subst (λ (x : ℕ). has p x ≡ false) before.same e)
 
   surveyed_more : Surveyed ps bus (suc n) (noted s p)
   surveyed_more =
@@ -184,8 +166,7 @@ module _ (ps : List Port) (bus n : ℕ) (s : Survey) (before : Surveyed ps bus n
         unsound = unsound_next;
         holds = holds_next;
         held = held_next;
-        missed = missed_next;
-        hit = hit_next;
+        found = found_next;
       })
 
 surveyed : (ps : List Port) (bus n : ℕ) → n ≤ 33 → BytesUpTo ps n → Surveyed ps bus n (after ps bus n)
@@ -194,25 +175,25 @@ surveyed ps bus (suc n) h b = surveyed_more ps bus n (after ps bus n) (surveyed 
 
 -- ---- the choice
 
-pub chosen_none : (ps : List Port) (k bus : ℕ) → ((i : ℕ) → i < length ps → has (port_at ps i) bus ≡ false) → port_from k ps bus ≡ Nowhere
+pub chosen_none : (ps : List Port) (k bus : ℕ) → ((i : ℕ) → i < length ps → has (port_at ps i) bus ≡ false) → port_from k ps bus ≡ None
 chosen_none [] k bus n = refl
 chosen_none (p ∷ ps) k bus n = rw (n 0 (omega arith)) (chosen_none ps (suc k) bus (λ i h. n (suc i) (omega arith)))
 
 pub chosen_at : (ps : List Port) (k bus m : ℕ) → m < length ps → has (port_at ps m) bus ≡ true → ((i : ℕ) → i < m → has (port_at ps i) bus ≡ false)
-    → port_from k ps bus ≡ At (k + m) (port_at ps m)
+    → port_from k ps bus ≡ Some (exit_at (k + m) (port_at ps m))
 chosen_at [] k bus m h e n = absurd (omega arith)
-chosen_at (p ∷ ps) k bus zero h e n = rw e (ap (λ (i : ℕ). At i p) (omega arith))
+chosen_at (p ∷ ps) k bus zero h e n = rw e (ap (λ (i : ℕ). Some (exit_at i p)) (omega arith))
 chosen_at (p ∷ ps) k bus (suc m) h e n =
     rw (n 0 (omega arith))
-    (chosen_at ps (suc k) bus m (omega arith) e (λ i l. n (suc i) (omega arith)) ∙ ap (λ (i : ℕ). At i (port_at ps m)) (omega arith))
+    (chosen_at ps (suc k) bus m (omega arith) e (λ i l. n (suc i) (omega arith)) ∙ ap (λ (i : ℕ). Some (exit_at i (port_at ps m))) (omega arith))
 
 -- of a good list, no port but the one that has the bus has it
 pub alone : (ps : List Port) → Good ps → (bus i j : ℕ) → i < length ps → j < length ps → has (port_at ps i) bus ≡ true → has (port_at ps j) bus ≡ true → i ≡ j
 alone ps g bus i j h l e f =
     ⊎_elim
     (λ o. absurd (clash i j o l e f))
-    (λ o. ⊎_elim (λ q. absurd (clash j i q h f e)) (λ q. omega arith) (below_or_not j i))
-    (below_or_not i j)
+    (λ o. ⊎_elim (λ q. absurd (clash j i q h f e)) (λ q. omega arith) (cases_lt j i))
+    (cases_lt i j)
   where
     clash : (i j : ℕ) → i < j → j < length ps → has (port_at ps i) bus ≡ true → has (port_at ps j) bus ≡ true → ⊥
     clash i j o l e f = true≢false (sym (in_both_meet (port_at ps i) (port_at ps j) bus e f) ∙ g.sound.apart i j o l)
@@ -221,22 +202,24 @@ module _ (ps : List Port) (bus : ℕ) (few : length ps ≤ 32) (s : Survey) (all
   bad_is : s.bad ≡ bad_list ps
   bad_is =
       ⊎_elim
-      (λ b. b ∙ sym (⊎_elim (λ t. t) (λ f. absurd (all.unsound b (good_of ps f).sound)) (is_or_not (bad_list ps))))
+      (λ b. b ∙ sym (⊎_elim (λ t. t) (λ f. absurd (all.unsound b (good_of ps f).sound)) (cases_Bool (bad_list ps))))
       (λ b. b ∙ sym (of_good ps (record { few = few; sound = all.sound b })))
-      (is_or_not s.bad)
+      (cases_Bool s.bad)
 
-  found_is : bad_list ps ≡ false → (b : Bool) → s.found ≡ b → cond b (At s.place s.port) Nowhere ≡ port_from 0 ps bus
-  found_is g true e =
-      let w = all.hit e in
-      let f = subst (λ (q : Port). has q bus ≡ true) w.1 w.2 in
-      ap (At s.place) w.1
-      ∙ sym (chosen_at ps 0 bus s.place w.0 f (λ i h. not_true_false (has (port_at ps i) bus) (λ t.
-      other s.place i h (alone ps (good_of ps g) bus i s.place (omega (arith, w.0)) w.0 t f)))
-      ∙ ap (λ (i : ℕ). At i (port_at ps s.place)) (omega arith))
+  found_is : bad_list ps ≡ false → s.found ≡ port_from 0 ps bus
+  found_is g = go s.found all.found
     where
       other : (m i : ℕ) → i < m → i ≡ m → ⊥
       other m i h e = omega arith
-  found_is g false e = sym (chosen_none ps 0 bus (all.missed e))
+
+      go : (o : Option Exit) → Found ps bus (length ps) o → o ≡ port_from 0 ps bus
+      go None n = sym (chosen_none ps 0 bus n)
+      go (Some x) w =
+          let f = subst (λ (q : Port). has q bus ≡ true) w.1 w.2 in
+          ap (λ (q : Port). Some (exit_at x.place q)) w.1
+          ∙ sym (chosen_at ps 0 bus x.place w.0 f (λ i h. false_from_ne_true (has (port_at ps i) bus) (λ t.
+          other x.place i h (alone ps (good_of ps g) bus i x.place (omega (arith, w.0)) w.0 t f)))
+          ∙ ap (λ (i : ℕ). Some (exit_at i (port_at ps x.place))) (omega arith))
 
   concluded_few : concluded s ≡ choice ps bus
   unfolding concluded choice
@@ -245,9 +228,9 @@ module _ (ps : List Port) (bus : ℕ) (few : length ps ≤ 32) (s : Survey) (all
       (by_list (bad_list ps) refl)
     where
       by_list : (b : Bool) → bad_list ps ≡ b
-          → cond b BadList (cond s.found (At s.place s.port) Nowhere) ≡ cond b BadList (port_from 0 ps bus)
+          → cond {A = Choice} b (Err list_refused) (Ok s.found) ≡ cond b (Err list_refused) (Ok (port_from 0 ps bus))
       by_list true e = refl
-      by_list false e = found_is e s.found refl
+      by_list false e = ap Ok (found_is e)
 
 concluded_many : (ps : List Port) (bus : ℕ) (s : Survey) → 32 < length ps → s.count ≡ 33 → concluded s ≡ choice ps bus
 unfolding concluded choice bad_list
@@ -259,6 +242,34 @@ concluded_is_choice ps bus b = go (ltb 32 (length ps)) refl b
     go : (t : Bool) → ltb 32 (length ps) ≡ t → BytesUpTo ps (cond t 33 (length ps)) → concluded (after ps bus (cond t 33 (length ps))) ≡ choice ps bus
     go true e b = concluded_many ps bus (after ps bus 33) (ltb-true 32 (length ps) e) (surveyed ps bus 33 (omega arith) b).counted
     go false e b = let h = ltb-false 32 (length ps) e in concluded_few ps bus h (after ps bus (length ps)) (surveyed ps bus (length ps) (omega arith) b)
+
+-- ---- the walk over a lent list, which goes no further than the port that is too many
+
+-- what is known when n ports have been noted
+pub record Walked (ps : List Port) (bus n : ℕ) (s : Survey) : Type 0 where
+  pub is : s ≡ after ps bus n
+  pub bytes : BytesUpTo ps n
+
+pub walked_more : (ps : List Port) (bus n m : ℕ) (q : Port) (s r : Survey) → Walked ps bus n s
+    → (n < length (take 33 ps)) × (q ≡ get_or (take 33 ps) n q) → Notes s q r → m ≡ n + 1 → Walked ps bus m r
+walked_more ps bus n m q s r w turn notes e =
+    let few : (n < 33) × (n < length ps) = (omega (arith, length-take 33 ps), omega (arith, length-take 33 ps)) in
+    let here : q ≡ get_or ps n no_port = turn.1 ∙ get_or-take 33 ps n q few.0 ∙ get_or_default ps n q no_port few.1 in
+    let next : suc n ≡ m = omega (arith, e) in
+    subst (λ (k : ℕ). Walked ps bus k r) next
+    (record {
+      is = notes.is ∙ ap (λ (t : Survey). noted t q) w.is ∙ ap (noted (after ps bus n)) here;
+      bytes = bytes_more ps n q w.bytes here notes.bytes;
+    })
+
+pub walked_all : (ps : List Port) (bus n : ℕ) (s : Survey) → Walked ps bus n s → n ≡ length (take 33 ps) → concluded s ≡ choice ps bus
+walked_all ps bus n s w e =
+    let all : n ≡ up_to (length ps) = e ∙ length-take 33 ps ∙ go (ltb 32 (length ps)) refl in
+    ap concluded (w.is ∙ ap (after ps bus) all) ∙ concluded_is_choice ps bus (subst (BytesUpTo ps) all w.bytes)
+  where
+    go : (b : Bool) → ltb 32 (length ps) ≡ b → min 33 (length ps) ≡ cond b 33 (length ps)
+    go true e = let h = ltb-true 32 (length ps) e in omega arith
+    go false e = let h = ltb-false 32 (length ps) e in omega arith
 
 -- ---- a list of any length
 

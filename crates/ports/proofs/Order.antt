@@ -4,14 +4,15 @@ use Prim.Native.Nat.{ℕ, suc}
 use mathlib.Core.Bool.{Bool, true, false, cond, ◌||◌, true≢false}
 use mathlib.Core.List.{List, [], ◌∷◌}
 use mathlib.Core.Path.{◌≡◌, refl, sym, ap, ap₂, ◌∙◌}
+use Rattle.std.proofs.lemmas.Bool.{or_parts}
+use Rattle.std.specs.Prelude.{Option, Some, None, Ok, Err}
 use lib.Dec.{ltb}
 use lib.ListN.{length}
 use Rattle.ports.specs.declared.Port.{Port}
-use Rattle.ports.specs.declared.Choice.{Choice}
-use Rattle.ports.specs.declared.Choice.TheVariants.{BadList, At, Nowhere}
+use Rattle.ports.specs.declared.Exit.{Exit}
 use Rattle.ports.specs.Ports.{has, exceeds, meet, one_exceeds, meets_one_of, two_meet, bad_list}
-use Rattle.ports.specs.Choice.{port_from, choice}
-use Rattle.ports.proofs.Pairs.{neither, meet_comm, in_both_meet}
+use Rattle.ports.specs.Choice.{Choice, exit_at, list_refused, port_from, choice}
+use Rattle.ports.proofs.Pairs.{meet_comm, in_both_meet}
 
 -- the same ports in another order
 pub data Reordered : List Port → List Port → Type 0 where
@@ -21,10 +22,13 @@ pub data Reordered : List Port → List Port → Type 0 where
   next : (ps qs rs : List Port) → Reordered ps qs → Reordered qs rs → Reordered ps rs
 
 -- a choice but for its place
+abbrev pub unplaced_exit : Option Exit → Option Exit
+unplaced_exit None = None
+unplaced_exit (Some e) = Some (exit_at 0 e.port)
+
 abbrev pub unplaced : Choice → Choice
-unplaced BadList = BadList
-unplaced (At i p) = At 0 p
-unplaced Nowhere = Nowhere
+unplaced (Ok o) = Ok (unplaced_exit o)
+unplaced (Err e) = Err e
 
 -- the statement
 abbrev pub OrderFree : Type 0
@@ -75,31 +79,31 @@ same_bad ps qs r = rw (same_length r, same_exceeds r, same_two r)
 
 -- ---- and of a good one the same port is chosen
 
-place_free : (ps : List Port) (k m bus : ℕ) → unplaced (port_from k ps bus) ≡ unplaced (port_from m ps bus)
+place_free : (ps : List Port) (k m bus : ℕ) → unplaced_exit (port_from k ps bus) ≡ unplaced_exit (port_from m ps bus)
 place_free [] k m bus = refl
 place_free (p ∷ ps) k m bus = go (has p bus) (place_free ps (suc k) (suc m) bus)
   where
-    go : (b : Bool) → unplaced (port_from (suc k) ps bus) ≡ unplaced (port_from (suc m) ps bus)
-        → unplaced (cond b (At k p) (port_from (suc k) ps bus)) ≡ unplaced (cond b (At m p) (port_from (suc m) ps bus))
+    go : (b : Bool) → unplaced_exit (port_from (suc k) ps bus) ≡ unplaced_exit (port_from (suc m) ps bus)
+        → unplaced_exit (cond b (Some (exit_at k p)) (port_from (suc k) ps bus)) ≡ unplaced_exit (cond b (Some (exit_at m p)) (port_from (suc m) ps bus))
     go true e = refl
     go false e = e
 
-same_port : {ps qs : List Port} → Reordered ps qs → two_meet ps ≡ false → (k bus : ℕ) → unplaced (port_from k ps bus) ≡ unplaced (port_from k qs bus)
+same_port : {ps qs : List Port} → Reordered ps qs → two_meet ps ≡ false → (k bus : ℕ) → unplaced_exit (port_from k ps bus) ≡ unplaced_exit (port_from k qs bus)
 same_port Reordered.none z k bus = refl
-same_port (Reordered.keep p ps qs r) z k bus = go (has p bus) (same_port r (neither (meets_one_of p ps) (two_meet ps) z).1 (suc k) bus)
+same_port (Reordered.keep p ps qs r) z k bus = go (has p bus) (same_port r (or_parts (meets_one_of p ps) (two_meet ps) z).1 (suc k) bus)
   where
-    go : (b : Bool) → unplaced (port_from (suc k) ps bus) ≡ unplaced (port_from (suc k) qs bus)
-        → unplaced (cond b (At k p) (port_from (suc k) ps bus)) ≡ unplaced (cond b (At k p) (port_from (suc k) qs bus))
+    go : (b : Bool) → unplaced_exit (port_from (suc k) ps bus) ≡ unplaced_exit (port_from (suc k) qs bus)
+        → unplaced_exit (cond b (Some (exit_at k p)) (port_from (suc k) ps bus)) ≡ unplaced_exit (cond b (Some (exit_at k p)) (port_from (suc k) qs bus))
     go true e = refl
     go false e = e
 same_port (Reordered.swap p q ps) z k bus = go (has p bus) (has q bus) refl refl
   where
     apart : meet p q ≡ false
-    apart = (neither (meet p q) (meets_one_of p ps) (neither (meet p q || meets_one_of p ps) (two_meet (q ∷ ps)) z).0).0
+    apart = (or_parts (meet p q) (meets_one_of p ps) (or_parts (meet p q || meets_one_of p ps) (two_meet (q ∷ ps)) z).0).0
 
     go : (a b : Bool) → has p bus ≡ a → has q bus ≡ b
-        → unplaced (cond a (At k p) (cond b (At (suc k) q) (port_from (suc (suc k)) ps bus)))
-        ≡ unplaced (cond b (At k q) (cond a (At (suc k) p) (port_from (suc (suc k)) ps bus)))
+        → unplaced_exit (cond a (Some (exit_at k p)) (cond b (Some (exit_at (suc k) q)) (port_from (suc (suc k)) ps bus)))
+        ≡ unplaced_exit (cond b (Some (exit_at k q)) (cond a (Some (exit_at (suc k) p)) (port_from (suc (suc k)) ps bus)))
     go true true e f = absurd (true≢false (sym (in_both_meet p q bus e f) ∙ apart))
     go true false e f = refl
     go false true e f = refl
@@ -111,8 +115,8 @@ unfolding choice bad_list
 order_free ps qs r bus = go (bad_list ps) (bad_list qs) refl (sym (same_bad ps qs r))
   where
     two : (l : List Port) → bad_list l ≡ false → two_meet l ≡ false
-    two l e = (neither (two_meet l) false (neither (one_exceeds l) (two_meet l || false) (neither (ltb 32 (length l)) (one_exceeds l || (two_meet l || false)) e).1).1).0
+    two l e = (or_parts (two_meet l) false (or_parts (one_exceeds l) (two_meet l || false) (or_parts (ltb 32 (length l)) (one_exceeds l || (two_meet l || false)) e).1).1).0
 
-    go : (a b : Bool) → bad_list ps ≡ a → bad_list qs ≡ bad_list ps → unplaced (cond (bad_list ps) BadList (port_from 0 ps bus)) ≡ unplaced (cond (bad_list qs) BadList (port_from 0 qs bus))
+    go : (a b : Bool) → bad_list ps ≡ a → bad_list qs ≡ bad_list ps → unplaced (cond (bad_list ps) (Err list_refused) (Ok (port_from 0 ps bus))) ≡ unplaced (cond (bad_list qs) (Err list_refused) (Ok (port_from 0 qs bus)))
     go true b e f = rw (f, e)
-    go false b e f = rw (f, e) (same_port r (two ps e) 0 bus)
+    go false b e f = rw (f, e) (ap Ok (same_port r (two ps e) 0 bus))

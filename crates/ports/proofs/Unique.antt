@@ -4,8 +4,7 @@ use mathlib.Core.List.{List}
 use mathlib.Core.Path.{◌≡◌, sym, ◌∙◌}
 use Rattle.ports.specs.declared.Port.{Port}
 use Rattle.ports.specs.declared.Survey.{Survey}
-use Rattle.ports.specs.declared.Choice.{Choice}
-use Rattle.ports.specs.Choice.{choice}
+use Rattle.ports.specs.Choice.{Choice, choice}
 use Rattle.ports.specs.Noting.{begun, Notes, concluded}
 
 pub begin_unique : (bus : ℕ) (r q : Survey) → r ≡ begun bus → q ≡ begun bus → r ≡ q

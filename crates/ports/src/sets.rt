@@ -28,44 +28,52 @@ fn range(from: usize, end: usize, word: usize) -> u64
     below(end, word) ^ below(from, word)
 }
 
-// The buses of a port whose secondary does not exceed its subordinate.
-pub(super) fn buses_of(port: Port) -> Buses
-    ensures { result ≡ buses_of port }
-{
-    let from = port.secondary as usize;
-    let last = port.subordinate as usize;
-    let end = last + 1;
-    Buses {
-        first: range(from, end, 0),
-        second: range(from, end, 1),
-        third: range(from, end, 2),
-        fourth: range(from, end, 3),
-    }
-}
+impl Buses {
+    // No bus at all.
+    pub(super) const NONE: Buses = Buses {
+        first: 0,
+        second: 0,
+        third: 0,
+        fourth: 0,
+    };
 
-// Whether two sets have a bus in common.
-pub(super) fn share(one: Buses, other: Buses) -> bool
-    ensures { result ≡ shared one other }
-{
-    if one.first & other.first != 0 {
-        return true;
+    // The buses of a port whose secondary does not exceed its subordinate.
+    #[tactic(auto, unfolding(crate::specs::Buses::buses_of))]
+    pub(super) fn of(port: Port) -> Buses
+        ensures { result ≡ buses_of port }
+    {
+        let from = port.secondary as usize;
+        let last = port.subordinate as usize;
+        let end = last + 1;
+        Buses {
+            first: range(from, end, 0),
+            second: range(from, end, 1),
+            third: range(from, end, 2),
+            fourth: range(from, end, 3),
+        }
     }
-    if one.second & other.second != 0 {
-        return true;
-    }
-    if one.third & other.third != 0 {
-        return true;
-    }
-    one.fourth & other.fourth != 0
-}
 
-pub(super) fn together(one: Buses, other: Buses) -> Buses
-    ensures { result ≡ together one other }
-{
-    Buses {
-        first: one.first | other.first,
-        second: one.second | other.second,
-        third: one.third | other.third,
-        fourth: one.fourth | other.fourth,
+    // Whether two sets have a bus in common.
+    #[tactic(auto, unfolding(crate::specs::Buses::shared))]
+    pub(super) fn shares(self, other: Buses) -> bool
+        ensures { result ≡ shared self other }
+    {
+        self.first & other.first != 0
+            || self.second & other.second != 0
+            || self.third & other.third != 0
+            || self.fourth & other.fourth != 0
+    }
+
+    // Both sets together.
+    #[tactic(auto, unfolding(crate::specs::Buses::together))]
+    pub(super) fn union(self, other: Buses) -> Buses
+        ensures { result ≡ together self other }
+    {
+        Buses {
+            first: self.first | other.first,
+            second: self.second | other.second,
+            third: self.third | other.third,
+            fourth: self.fourth | other.fourth,
+        }
     }
 }

@@ -6,21 +6,23 @@ use mathlib.Core.List.{List, [], ◌∷◌, Memᴰ}
 use mathlib.Core.Path.{◌≡◌}
 use native.Mathlib.Omega.{arith}
 use borrow.Author.Tests.{ne_eqb}
+use Rattle.std.specs.Prelude.{Result}
+use Rattle.records.specs.declared.DvsecHeader.{DvsecHeader}
+use Rattle.records.specs.declared.Alternate.{Alternate}
+use Rattle.answers.specs.declared.Refusal.{Refusal}
 use Rattle.answers.proofs.Checks.{First, Positive, gives_first, gives_one_of}
-use Rattle.records.specs.declared.DvsecRead.{DvsecRead}
-use Rattle.records.specs.declared.DualRead.{DualRead}
 use Rattle.records.specs.DvsecRule.{tells_dvsec, dvsec_checks, dvsec_number, dvsec_says, dvsec_body}
 use Rattle.records.specs.DualRule.{tells_dual, dual_checks, dual_number, dual_says}
 
 -- the statements, of any answer that meets its promise
 abbrev pub DvsecNumber : Type 0
 DvsecNumber =
-    (s : List ℕ) (at : ℕ) (r : DvsecRead) → tells_dvsec r ≡ dvsec_says s at
+    (s : List ℕ) (at : ℕ) (r : Result DvsecHeader Refusal) → tells_dvsec r ≡ dvsec_says s at
     → First (dvsec_checks s at) (tells_dvsec r).number × Memᴰ (tells_dvsec r).number (0 ∷ 1 ∷ 8 ∷ 9 ∷ [])
 
 abbrev pub DualNumber : Type 0
 DualNumber =
-    (s : List ℕ) (at : ℕ) (r : DualRead) → tells_dual r ≡ dual_says s at
+    (s : List ℕ) (at : ℕ) (r : Result Alternate Refusal) → tells_dual r ≡ dual_says s at
     → First (dual_checks s at) (tells_dual r).number × Memᴰ (tells_dual r).number (0 ∷ 1 ∷ 8 ∷ 9 ∷ 10 ∷ [])
 
 abbrev pub RefusalsTellNothing : Type 0

@@ -36,7 +36,7 @@ counted v = eqb (ones v) (length (set_places v))
 
 found : ℕ → Bool
 unfolding count_trailing_zeros set_places one_set set_place
-found v = cond (one_set v) (eqb (count_trailing_zeros 32 v) (set_place v)) true
+found v = cond (one_set v) (eqb (count_trailing_zeros 8 v) (set_place v)) true
 
 all_counted : T (every counted 256)
 unfolding counted
@@ -59,6 +59,6 @@ module _ (v : ℕ) (small : v < 256) where
   unfolding one_set
   not_one_set n = ne_eqb (length (set_places v)) 1 (λ e. n (ones_places ∙ e))
 
-  pub set_place_lem : one_set v ≡ true → count_trailing_zeros 32 v ≡ set_place v
+  pub set_place_lem : one_set v ≡ true → count_trailing_zeros 8 v ≡ set_place v
   unfolding found
   set_place_lem e = eqb→eq _ _ (rw e at (at_each found 256 all_found v small))

@@ -5,30 +5,26 @@ use mathlib.Core.Bool.{Bool, true, false, not, ◌&&◌, cond}
 use mathlib.Core.List.{List, [], ◌∷◌}
 use mathlib.Core.Path.{◌≡◌, refl, sym, ap, subst}
 use native.Mathlib.Omega.{arith}
-use borrow.Author.Tests.{eq-eqb, ne_eqb, eqb-true, leb-true}
+use borrow.Author.Tests.{ne_eqb, eqb-true, leb-true}
 use lib.Dec.{eqb, leb}
 use lib.ListN.{length, take, drop}
+use Rattle.std.specs.Prelude.{Result, Ok, Err}
 use Rattle.answers.proofs.Unique.{number_positive}
 use Rattle.answers.specs.declared.Refusal.{Refusal}
 use Rattle.answers.specs.Checks.{first_that_applies}
 use Rattle.answers.specs.Numbers.{number_of}
 use Rattle.words.specs.Bytes.{byte}
 use Rattle.words.specs.Fields.{word}
+use Rattle.records.specs.declared.Alternate.{Alternate}
 use Rattle.records.specs.declared.DvsecHeader.{DvsecHeader}
-use Rattle.records.specs.declared.DvsecRead.{DvsecRead}
-use Rattle.records.specs.declared.DvsecRead.TheVariants.{Found, Refused}
 use Rattle.words.specs.Places.{placed}
 use Rattle.records.specs.Required.{required, sized}
 use Rattle.records.specs.DvsecRule.{is_dvsec, extends, header_at, dvsec_number, dvsec_says, dvsec_body, body_from, BodyLies, tells_dvsec, DvsecTold}
-use Rattle.records.specs.DualRule.{fits_dual, is_dual, one_set, vector_at, alternate_at, dual_number, dual_says, DualTold}
+use Rattle.records.specs.DualRule.{fits_dual, is_dual, one_set, vector_at, alternate_at, dual_number, dual_says, tells_dual, DualTold}
 
-pub sized_true : (s : List ℕ) → length s ≡ 4096 → sized s ≡ true
+pub sized_is : (s : List ℕ) {said : Bool} → eqb (length s) 4096 ≡ said → sized s ≡ said
 unfolding sized
-sized_true s e = eq-eqb (length s) 4096 e
-
-pub sized_false : (s : List ℕ) → (length s ≡ 4096 → ⊥) → sized s ≡ false
-unfolding sized
-sized_false s n = ne_eqb (length s) 4096 n
+sized_is s e = e
 
 and_split : (a b : Bool) → a && b ≡ true → (a ≡ true) × (b ≡ true)
 and_split true b e = (refl, e)
@@ -52,10 +48,11 @@ pub record Stands (s : List ℕ) (at extent : ℕ) : Type 0 where
   pub inside : Inside (length s) at extent
 
 module _ (s : List ℕ) (at : ℕ) where
-  pub dvsec_refused : (n : ℕ) → eqb n 0 ≡ false → dvsec_number s at ≡ n
-      → ◌≡◌ {A = DvsecTold} (record { number = n; vendor = 0; revision = 0; id = 0; length = 0 }) (dvsec_says s at)
+  -- an answer that is a refusal, where the number is the refusal's
+  pub dvsec_refused : {r : Result DvsecHeader Refusal} {refusal otherwise : Refusal} → r ≡ Err refusal → refusal ≡ otherwise
+      → dvsec_number s at ≡ number_of otherwise → tells_dvsec r ≡ dvsec_says s at
   unfolding dvsec_says
-  dvsec_refused n f e = rw (e, f)
+  dvsec_refused {otherwise = otherwise} is same e = rw (is, same, e, ne_eqb (number_of otherwise) 0 (number_positive otherwise))
 
   pub dvsec_found : dvsec_number s at ≡ 0
       → ◌≡◌ {A = DvsecTold}
@@ -89,16 +86,16 @@ module _ (s : List ℕ) (at : ℕ) where
       }
 
   -- what a header that is found says of its length, and the body that it has
-  pub dvsec_length : (h : DvsecHeader) → tells_dvsec (Found h) ≡ dvsec_says s at → (dvsec_number s at ≡ 0) × (h.length ≡ (header_at s at).length)
+  pub dvsec_length : (h : DvsecHeader) → tells_dvsec (Ok h) ≡ dvsec_says s at → (dvsec_number s at ≡ 0) × (h.length ≡ (header_at s at).length)
   unfolding dvsec_says
   dvsec_length h e =
       let zero : dvsec_number s at ≡ 0 = sym (ap (λ (t : DvsecTold). t.number) e) in
       (zero, rw zero at (ap (λ (t : DvsecTold). t.length) e))
 
   -- so a header that is found stands there with its length, inside the space
-  pub found_stands : {r : DvsecRead} (h : DvsecHeader) → r ≡ Found h → tells_dvsec r ≡ dvsec_says s at → Stands s at h.length
+  pub found_stands : {r : Result DvsecHeader Refusal} (h : DvsecHeader) → r ≡ Ok h → tells_dvsec r ≡ dvsec_says s at → Stands s at h.length
   found_stands h e told =
-      let there = dvsec_length h (subst (λ (r : DvsecRead). tells_dvsec r ≡ dvsec_says s at) e told) in record {
+      let there = dvsec_length h (subst (λ (r : Result DvsecHeader Refusal). tells_dvsec r ≡ dvsec_says s at) e told) in record {
         number = there.0;
         stated = there.1;
         inside = subst (λ (n : ℕ). Inside (length s) at n) (sym there.1) (dvsec_inside there.0);
@@ -109,16 +106,16 @@ module _ (s : List ℕ) (at : ℕ) where
   unfolding dvsec_body body_from
   body_whole place e = record { same = rw e; block = refl; offset = rw e }
 
-  pub body_empty : (place : ℕ × ℕ) (refusal : Refusal) → tells_dvsec (Refused refusal) ≡ dvsec_says s at → BodyLies place s at place []
+  pub body_empty : (place : ℕ × ℕ) (refusal : Refusal) → tells_dvsec (Err refusal) ≡ dvsec_says s at → BodyLies place s at place []
   unfolding dvsec_says dvsec_body body_from
   body_empty place refusal e =
       let refused : eqb (dvsec_number s at) 0 ≡ false = rw (← ap (λ (t : DvsecTold). t.number) e) (ne_eqb (number_of refusal) 0 (number_positive refusal)) in
       record { same = rw refused; block = refl; offset = rw refused (omega arith) }
 
-  pub dual_refused : (n : ℕ) → eqb n 0 ≡ false → dual_number s at ≡ n
-      → ◌≡◌ {A = DualTold} (record { number = n; function = 0; device = 0 }) (dual_says s at)
+  pub dual_refused : {r : Result Alternate Refusal} {refusal otherwise : Refusal} → r ≡ Err refusal → refusal ≡ otherwise
+      → dual_number s at ≡ number_of otherwise → tells_dual r ≡ dual_says s at
   unfolding dual_says
-  dual_refused n f e = rw (e, f)
+  dual_refused {otherwise = otherwise} is same e = rw (is, same, e, ne_eqb (number_of otherwise) 0 (number_positive otherwise))
 
   pub dual_found : dual_number s at ≡ 0
       → ◌≡◌ {A = DualTold} (record { number = 0; function = (alternate_at s at).function; device = (alternate_at s at).device }) (dual_says s at)

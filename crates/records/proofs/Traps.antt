@@ -8,7 +8,7 @@ use mathlib.Core.Path.{◌≡◌, refl, ap, ◌∙◌}
 use native.Mathlib.Omega.{arith}
 use borrow.Author.Tests.{not-false}
 use lib.ListN.{length, take, drop, length-take, length-drop}
-use Rattle.records.specs.declared.DualRead.TheVariants.{Found}
+use Rattle.std.specs.Prelude.{Ok}
 use Rattle.records.specs.declared.Alternate.{Alternate}
 use Rattle.records.specs.DvsecRule.{header_at, dvsec_number, dvsec_body, body_from, BodyLies}
 use Rattle.records.specs.DualRule.{one_set, vector_at, tells_dual, dual_says}
@@ -29,7 +29,7 @@ BodyStart =
 
 -- "exactly one bit of the eight is set"
 abbrev pub OneBitRead : Type 0
-OneBitRead = (s : List ℕ) (at : ℕ) (a : Alternate) → tells_dual (Found a) ≡ dual_says s at → one_set (vector_at s at) ≡ true
+OneBitRead = (s : List ℕ) (at : ℕ) (a : Alternate) → tells_dual (Ok a) ≡ dual_says s at → one_set (vector_at s at) ≡ true
 
 pub body_length : BodyLength
 unfolding dvsec_body
@@ -44,5 +44,5 @@ body_start place s at found bytes b e = b.offset ∙ rw e
 
 pub one_bit_read : OneBitRead
 one_bit_read s at a e =
-    let none = (dual_number_lem s at (Found a) e).0.none.0 refl in
+    let none = (dual_number_lem s at (Ok a) e).0.none.0 refl in
     not-false _ (none _ (Memᴰ.tail (Memᴰ.tail (Memᴰ.tail (Memᴰ.tail (Memᴰ.tail (Memᴰ.head refl)))))))

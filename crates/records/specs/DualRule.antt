@@ -1,12 +1,11 @@
 -- Document 01, "Dual-BDF (000)": the number and the fields of the record asked for at an offset. Assumes nothing.
-use Rattle.std.specs.Prelude.{ℕ, ◌+◌, Bool, cond, ◌&&◌, ◌||◌, List, [], ◌∷◌, eqb, leb, length, get_or}
+use Rattle.std.specs.Prelude.{ℕ, ◌+◌, Bool, cond, ◌&&◌, ◌||◌, List, [], ◌∷◌, eqb, leb, length, get_or, Result, Ok, Err}
 use Rattle.answers.specs.Checks.{Check, first_that_applies}
+use Rattle.answers.specs.declared.Refusal.{Refusal}
 use Rattle.answers.specs.Numbers.{number_of}
 use Rattle.words.specs.Bytes.{byte}
 use Rattle.words.specs.Fields.{bit, bits, word}
 use Rattle.records.specs.declared.Alternate.{Alternate}
-use Rattle.records.specs.declared.DualRead.{DualRead}
-use Rattle.records.specs.declared.DualRead.TheVariants.{Found, Refused}
 use Rattle.words.specs.Places.{placed}
 use Rattle.records.specs.Required.{all, required, told_for, sized}
 
@@ -74,9 +73,9 @@ pub record DualTold : Type 0 where
   pub device : ℕ
 
 -- what an answer tells
-abbrev pub tells_dual : DualRead → DualTold
-tells_dual (Found alternate) = record { number = 0; function = alternate.function; device = alternate.device }
-tells_dual (Refused refusal) = record { number = number_of refusal; function = 0; device = 0 }
+abbrev pub tells_dual : Result Alternate Refusal → DualTold
+tells_dual (Ok alternate) = record { number = 0; function = alternate.function; device = alternate.device }
+tells_dual (Err refusal) = record { number = number_of refusal; function = 0; device = 0 }
 
 -- what document 01 says of the record asked for
 unfoldable pub dual_says : List ℕ → ℕ → DualTold

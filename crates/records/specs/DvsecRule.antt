@@ -1,11 +1,10 @@
 -- Document 01, "DVSEC (003)": the number, the fields and the register body of the record asked for at an offset. Assumes nothing.
-use Rattle.std.specs.Prelude.{ℕ, ◌+◌, ◌-◌, Bool, cond, List, [], ◌∷◌, ◌≡◌, eqb, leb, take, drop}
+use Rattle.std.specs.Prelude.{ℕ, ◌+◌, ◌-◌, Bool, cond, List, [], ◌∷◌, ◌≡◌, eqb, leb, take, drop, Result, Ok, Err}
 use Rattle.answers.specs.Checks.{Check, first_that_applies}
+use Rattle.answers.specs.declared.Refusal.{Refusal}
 use Rattle.answers.specs.Numbers.{number_of}
 use Rattle.words.specs.Fields.{bits, word}
 use Rattle.records.specs.declared.DvsecHeader.{DvsecHeader}
-use Rattle.records.specs.declared.DvsecRead.{DvsecRead}
-use Rattle.records.specs.declared.DvsecRead.TheVariants.{Found, Refused}
 use Rattle.words.specs.Places.{placed}
 use Rattle.records.specs.Required.{all, required, told_for, sized}
 
@@ -46,9 +45,9 @@ pub record DvsecTold : Type 0 where
   pub length : ℕ
 
 -- what an answer tells
-abbrev pub tells_dvsec : DvsecRead → DvsecTold
-tells_dvsec (Found h) = record { number = 0; vendor = h.vendor; revision = h.revision; id = h.id; length = h.length }
-tells_dvsec (Refused refusal) = record { number = number_of refusal; vendor = 0; revision = 0; id = 0; length = 0 }
+abbrev pub tells_dvsec : Result DvsecHeader Refusal → DvsecTold
+tells_dvsec (Ok h) = record { number = 0; vendor = h.vendor; revision = h.revision; id = h.id; length = h.length }
+tells_dvsec (Err refusal) = record { number = number_of refusal; vendor = 0; revision = 0; id = 0; length = 0 }
 
 -- what document 01 says of the record asked for
 unfoldable pub dvsec_says : List ℕ → ℕ → DvsecTold

@@ -1,7 +1,8 @@
 -- What the private functions of this crate tell each other; no promise of a public entry cites this file. Assumes nothing.
-use Rattle.std.specs.Prelude.{ℕ, ◌<◌, ◌≡◌, eqb}
-use Rattle.records.specs.DualRule.{known_pair}
+use Rattle.std.specs.Prelude.{◌≡◌, Bool, true, false, Result, Ok, Err}
+use Rattle.answers.specs.declared.Refusal.{Refusal}
 
--- of all IDs, a vendor is known with this one only
-abbrev pub Pairs : ℕ → ℕ → Type 0
-Pairs vendor wanted = (id : ℕ) → id < 0x10000 → known_pair vendor id ≡ eqb id wanted
+-- a fact is there, or the refusal that stands for its lack is given
+abbrev pub Requires : Bool → Refusal → Result (Unit {0}) Refusal → Type 0
+Requires fact otherwise (Ok done) = fact ≡ true
+Requires fact otherwise (Err refusal) = (fact ≡ false) × (refusal ≡ otherwise)

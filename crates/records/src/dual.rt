@@ -1,8 +1,7 @@
 // What a Dual-BDF record requires, and its fields, by shift and mask.
-ghost use Rattle.std.specs.Prelude.{◌≡◌, true, ◌≤◌, ◌<◌};
+ghost use Rattle.std.specs.Prelude.{◌≡◌, true, ◌≤◌};
 ghost use Rattle.words.specs.Fields.{bits};
-ghost use Rattle.records.specs.DualRule.{fits_dual, is_dual, one_set, alternate_of};
-ghost use Rattle.records.specs.Inner.{Pairs};
+ghost use Rattle.records.specs.DualRule.{fits_dual, is_dual, known_pair, one_set, alternate_of};
 
 use crate::Alternate;
 
@@ -13,52 +12,42 @@ const LENGTH: u8 = 0x0c;
 
 const END: usize = 0x100;
 
+#[tactic(auto, unfolding(crate::specs::DualRule::fits_dual))]
 pub(crate) fn fits_dual(at: usize, capability: u8, second: u32) -> bool
     requires { at ≤ 0x0fc }
     ensures { result ≡ fits_dual at capability second }
 {
-    if END < at + LENGTH as usize {
-        return false;
-    }
-    if capability != LENGTH {
-        return false;
-    }
-    second >> 20 == LENGTH as u32
+    at + LENGTH as usize <= END && capability == LENGTH && second >> 20 == LENGTH as u32
 }
 
+#[tactic(auto, unfolding(crate::specs::DualRule::is_dual))]
 pub(crate) fn is_dual(second: u32, third: u32) -> bool
     ensures { result ≡ is_dual second third }
 {
-    if (second >> 16) & 0xf != 0 {
-        return false;
-    }
-    third & 0xffff == id_of(second & 0xffff)
+    (second >> 16) & 0xf == 0 && known_pair(second & 0xffff, third & 0xffff)
 }
 
-// The ID with which a vendor writes such a record; for a vendor that writes none, a number that no ID is.
-fn id_of(vendor: u32) -> u32
-    ensures { Pairs vendor result }
+// A vendor, and the ID with which it writes such a record.
+#[tactic(auto, unfolding(crate::specs::DualRule::known_pair))]
+fn known_pair(vendor: u32, id: u32) -> bool
+    ensures { result ≡ known_pair vendor id }
 {
-    match vendor {
-        0x8086 => 0x0009,
-        0x1ec0 => 0x0002,
-        _ => 0x10000,
-    }
+    matches!((vendor, id), (0x8086, 0x0009) | (0x1ec0, 0x0002))
 }
 
 // A bit for each of eight functions.
-pub(crate) fn vector_of(third: u32) -> u32
+pub(crate) fn vector_of(third: u32) -> u8
     ensures { result ≡ bits 23 16 third }
 {
-    (third >> 16) & 0xff
+    third.to_le_bytes()[2]
 }
 
-pub(crate) fn alternate_of(third: u32, vector: u32) -> Alternate
-    requires { (vector < 256) × (one_set vector ≡ true) }
+pub(crate) fn alternate_of(third: u32, vector: u8) -> Alternate
+    requires { one_set vector ≡ true }
     ensures { result ≡ alternate_of third vector }
 {
     Alternate {
-        function: u32::trailing_zeros(vector) as u8,
-        device: ((third >> 24) & 0x1f) as u8,
+        function: vector.trailing_zeros() as u8,
+        device: third.to_le_bytes()[3] & 0x1f,
     }
 }

@@ -4,6 +4,7 @@
 ghost use Rattle.std.specs.Prelude.{◌≡◌};
 ghost use Rattle.records.specs.DvsecRule.{tells_dvsec, dvsec_says, BodyLies};
 ghost use Rattle.records.specs.DualRule.{tells_dual, dual_says};
+ghost use Rattle.records.specs.Inner.{Requires};
 
 use answers::Refusal;
 
@@ -18,23 +19,11 @@ pub struct DvsecHeader {
     pub length: u16,
 }
 
-#[derive(Clone, Copy)]
-pub enum DvsecRead {
-    Found(DvsecHeader),
-    Refused(Refusal),
-}
-
 // The alternate function of a Dual-BDF record, and its device number.
 #[derive(Clone, Copy)]
 pub struct Alternate {
     pub function: u8,
     pub device: u8,
-}
-
-#[derive(Clone, Copy)]
-pub enum DualRead {
-    Found(Alternate),
-    Refused(Refusal),
 }
 
 // Where a record may be asked for.
@@ -52,36 +41,35 @@ const DUAL_HIGHEST: usize = 0x0fc;
 // The register body of a DVSEC record begins there.
 pub const BODY: usize = 0x0a;
 
+// A fact that a record requires, or else a refusal.
+fn required(fact: bool, otherwise: Refusal) -> Result<(), Refusal>
+    ensures { Requires fact otherwise result }
+{
+    if fact { Ok(()) } else { Err(otherwise) }
+}
+
 // The header of the DVSEC record at an offset.
-pub fn dvsec(space: &[u8], at: usize) -> DvsecRead
+pub fn dvsec(space: &[u8], at: usize) -> Result<DvsecHeader, Refusal>
     ensures { tells_dvsec result ≡ dvsec_says space.now at }
 {
-    if space.len() != words::SPACE {
-        return DvsecRead::Refused(Refusal::BadDescription);
-    }
-    if !words::placed(at, DVSEC_LOWEST, DVSEC_HIGHEST) {
-        return DvsecRead::Refused(Refusal::BadDescription);
-    }
-    if !vendor::is_dvsec(words::word(space, at)) {
-        return DvsecRead::Refused(Refusal::OtherStructure);
-    }
+    required(space.len() == words::SPACE, Refusal::BadDescription)?;
+    let placed = words::placed(at, DVSEC_LOWEST, DVSEC_HIGHEST);
+    required(placed, Refusal::BadDescription)?;
+    let first = words::word(space, at);
+    required(vendor::is_dvsec(first), Refusal::OtherStructure)?;
     // Asked before the two words are read, which are then known to be there; `extends` has the rule.
-    if DVSEC_LAST < at {
-        return DvsecRead::Refused(Refusal::WrongExtent);
-    }
+    required(at <= DVSEC_LAST, Refusal::WrongExtent)?;
     let header = vendor::header_of(words::word(space, at + 4), words::word(space, at + 8));
     let length = header.length as usize;
-    if !vendor::extends(at, length) {
-        return DvsecRead::Refused(Refusal::WrongExtent);
-    }
-    DvsecRead::Found(header)
+    required(vendor::extends(at, length), Refusal::WrongExtent)?;
+    Ok(header)
 }
 
 // The register body of the DVSEC record at an offset, as it lies in the space, or an empty part of the space.
 pub fn dvsec_body(space: &[u8], at: usize) -> &[u8]
     ensures { BodyLies space.entry.ref_ptr space.now at result.ref_ptr result.now }
 {
-    let DvsecRead::Found(header) = dvsec(space, at) else {
+    let Ok(header) = dvsec(space, at) else {
         return &space[..0];
     };
     let start = at + BODY;
@@ -90,30 +78,19 @@ pub fn dvsec_body(space: &[u8], at: usize) -> &[u8]
 }
 
 // The alternate function and the device of the Dual-BDF record at an offset.
-#[tactic(auto, using(crate::proofs::NotOne::not_one_function))]
-pub fn dual_bdf(space: &[u8], at: usize) -> DualRead
+pub fn dual_bdf(space: &[u8], at: usize) -> Result<Alternate, Refusal>
     ensures { tells_dual result ≡ dual_says space.now at }
 {
-    if space.len() != words::SPACE {
-        return DualRead::Refused(Refusal::BadDescription);
-    }
-    if !words::placed(at, DUAL_LOWEST, DUAL_HIGHEST) {
-        return DualRead::Refused(Refusal::BadDescription);
-    }
-    if space[at] != dual::VENDOR_SPECIFIC {
-        return DualRead::Refused(Refusal::OtherStructure);
-    }
+    required(space.len() == words::SPACE, Refusal::BadDescription)?;
+    let placed = words::placed(at, DUAL_LOWEST, DUAL_HIGHEST);
+    required(placed, Refusal::BadDescription)?;
+    required(space[at] == dual::VENDOR_SPECIFIC, Refusal::OtherStructure)?;
+    let length = space[at + 2];
     let second = words::word(space, at + 4);
-    if !dual::fits_dual(at, space[at + 2], second) {
-        return DualRead::Refused(Refusal::WrongExtent);
-    }
+    required(dual::fits_dual(at, length, second), Refusal::WrongExtent)?;
     let third = words::word(space, at + 8);
-    if !dual::is_dual(second, third) {
-        return DualRead::Refused(Refusal::OtherStructure);
-    }
+    required(dual::is_dual(second, third), Refusal::OtherStructure)?;
     let vector = dual::vector_of(third);
-    if u32::count_ones(vector) != 1 {
-        return DualRead::Refused(Refusal::NotOneFunction);
-    }
-    DualRead::Found(dual::alternate_of(third, vector))
+    required(vector.count_ones() == 1, Refusal::NotOneFunction)?;
+    Ok(dual::alternate_of(third, vector))
 }

@@ -5,7 +5,7 @@ use mathlib.Core.Path.{◌≡◌, refl, sym, ap, subst, ◌∙◌}
 use native.Mathlib.Omega.{arith}
 use lib.Dec.{lit≤}
 use lib.ListN.{length, take, drop, length-append}
-use lib.Seq.{take_at, length-take-le}
+use lib.Seq.{take_at}
 use Rattle.std.specs.Prelude.{Ok, Err}
 use Rattle.answers.specs.Numbers.{number_of}
 use Rattle.answers.proofs.Unique.{number_positive}
@@ -17,11 +17,13 @@ use Rattle.lists.specs.Breaks.{Breaks}
 use Rattle.lists.specs.Walks.{WholeSpace, Roomy, Walked, number_given, count_given, place_given, Walks, Walks.misdescribed, Walks.roomless, Walks.broken, Walks.listed}
 use Rattle.lists.proofs.Pointers.{Bytes, Within, first_within, follows_within}
 use Rattle.lists.proofs.Breaking.{span_most}
+use Rattle.lists.proofs.Maxima.{chain_maximum}
 use Rattle.lists.proofs.Decides.{broken_number}
 use Rattle.report.specs.declared.section.Section.{Section}
 use Rattle.report.specs.declared.section.Section.TheVariants.{Compatible, Extended}
+use Rattle.report.specs.declared.text.Text.{Text}
 use Rattle.report.specs.Listing.{Part, Part.listed, Part.broken, heading, refused_at, entries}
-use Rattle.report.specs.Inner.{kind_of, style, most, Added, Told, Inside, Chained, Roomed}
+use Rattle.report.specs.Inner.{kind_of, style, most, Added, Told, Fits, Inside, Chained}
 use Rattle.report.proofs.Writing.{section_length, refused_length}
 
 -- ---- the offsets of a chain
@@ -66,28 +68,33 @@ pub style_list : (section : Section) → describe (kind_of section) ≡ (style s
 style_list Compatible = refl
 style_list Extended = refl
 
-module _ {section : Section} {s room text : List ℕ} {place : ℕ} (ready : Roomed section s room text place) {kind : Kind} {r : Walked} {after : List ℕ}
-    (is : kind ≡ kind_of section) (walks : Walks kind s room r after) (kept : length after ≡ length room) where
+-- the longer list's maximum is room for either
+pub room_enough : (section : Section) → (describe (kind_of section)).maximum ≤ 960
+room_enough Compatible = lit≤ tt
+room_enough Extended = lit≤ tt
+
+module _ (section : Section) {s room : List ℕ} (text : Text) (space : WholeSpace s) (bytes : Bytes s) (fits : Fits (most section) text)
+    (whole : length room ≡ 960) {kind : Kind} {r : Walked} {after : List ℕ} (is : kind ≡ kind_of section) (walks : Walks kind s room r after)
+    (kept : length after ≡ length room) where
   walks_shown : Walks (kind_of section) s room r after
   walks_shown = subst (λ (k : Kind). Walks k s room r after) is walks
 
+  roomy : Roomy (kind_of section) room
+  roomy = omega (arith, whole, room_enough section)
+
   module _ {count : ℕ} (done : r ≡ Ok count) where
     chain : (count ≤ length after) × HasChain (describe (kind_of section)) s (take count after)
-    chain = found ready.space (omega (arith, ready.whole)) kept walks_shown done
-
-    pub walked_fits : count ≤ length after
-    walked_fits = chain.0
+    chain = found space roomy kept walks_shown done
 
     few : length (take count after) ≤ (describe (kind_of section)).maximum
-    few = omega (arith, chain.0, length-take-le count after chain.0, kept, ready.whole)
+    few = chain_maximum (kind_of section) s bytes (take count after) chain.1
 
-    pub walked_chained : Bytes s → Chained section s (take count after) text place
-    walked_chained bytes =
-        record { space = ready.space; inside = chain_inside (kind_of section) s bytes chain.1; few = few; fits = ready.fits }
+    pub walked_chained : Chained section s (take count after) text
+    walked_chained = record { space = space; inside = chain_inside (kind_of section) s bytes chain.1; few = few; fits = fits }
 
-    pub walked_listed : {q : ℕ} {next : List ℕ}
-        → Added (heading (style section).name (length (take count after)) ++ entries (style section) s (take count after)) text place q next
-        → Told (Part (style section) s) (most section) text place q next
+    pub walked_listed : {next : Text}
+        → Added (heading (style section).name (length (take count after)) ++ entries (style section) s (take count after)) text next
+        → Told (Part (style section) s) (most section) text next
     walked_listed added = record {
       bytes = heading (style section).name (length (take count after)) ++ entries (style section) s (take count after);
       known = listed (take count after) (rw (← style_list section) chain.1) refl;
@@ -95,11 +102,11 @@ module _ {section : Section} {s room text : List ℕ} {place : ℕ} (ready : Roo
       added = added;
     }
 
-  pub walked_broken : {x : Refused} → r ≡ Err x → {q : ℕ} {next : List ℕ}
-      → Added (refused_at (style section).name (number_of x.refusal) x.place) text place q next
-      → Told (Part (style section) s) (most section) text place q next
+  pub walked_broken : {x : Refused} → r ≡ Err x → {next : Text}
+      → Added (refused_at (style section).name (number_of x.refusal) x.place) text next
+      → Told (Part (style section) s) (most section) text next
   walked_broken {x} e added =
-      let b = unfound ready.space (omega (arith, ready.whole)) kept walks_shown e in
+      let b = unfound space roomy kept walks_shown e in
       record {
         bytes = refused_at (style section).name (number_of x.refusal) x.place;
         known = broken (number_of x.refusal) x.place (rw (← style_list section) b) refl;

@@ -9,6 +9,7 @@ use lib.ListN.{length, length-append, take, get_or}
 use lib.Seq.{length-take-le, take-length}
 use Rattle.lists.specs.Table.{describe}
 use Rattle.report.specs.declared.section.Section.{Section}
+use Rattle.report.specs.declared.text.Text.{Text}
 use Rattle.report.specs.declared.section.Section.TheVariants.{Compatible, Extended}
 use Rattle.report.specs.Text.{ascii, line, hex, decimal}
 use Rattle.report.specs.Listing.{heading, refused, refused_at, entries}
@@ -25,46 +26,41 @@ one_more : (section : Section) (from done count size : ℕ) → from + width sec
 one_more Compatible from done count size h k = omega arith
 one_more Extended from done count size h k = omega arith
 
--- so many lines were written from a place of a text on
-abbrev pub Passed : Section → List ℕ → List ℕ → List ℕ → ℕ → ℕ → ℕ → List ℕ → Type 0
-Passed section s offsets text from done place after = Added (entries (style section) s (take done offsets)) text from place after
+-- so many lines were written behind a text
+abbrev pub Passed : Section → List ℕ → List ℕ → Text → ℕ → Text → Type 0
+Passed section s offsets text done after = Added (entries (style section) s (take done offsets)) text after
 
-module _ {section : Section} {s offsets text : List ℕ} {from : ℕ} (ready : Ready section s offsets text from) where
-  module _ (done place : ℕ) (after : List ℕ) (more : done < length offsets) (passed : Passed section s offsets text from done place after)
-    where
+module _ {section : Section} {s offsets : List ℕ} {text : Text} (ready : Ready section s offsets text) where
+  module _ (done : ℕ) (after : Text) (more : done < length offsets) (passed : Passed section s offsets text done after) where
       passed_length : length (entries (style section) s (take done offsets)) ≡ width section * done
       passed_length =
           entries_length section s (take done offsets) ∙ ap (λ (n : ℕ). width section * n) (length-take-le done offsets (le_of_lt more))
 
-      pub line_fits : Fits (width section) after place
+      pub line_fits : Fits (width section) after
       line_fits =
           omega (
             arith,
-            one_more section from done (length offsets) (length text) ready.fits more,
+            one_more section text.place done (length offsets) (length text.bytes.now) ready.fits more,
             passed_length,
             passed.next,
-            added_length passed (omega (arith, one_more section from done (length offsets) (length text) ready.fits more, passed_length)),
+            added_length passed (omega (arith, one_more section text.place done (length offsets) (length text.bytes.now) ready.fits more, passed_length)),
           )
 
-      pub line_more : {r : ℕ} {next : List ℕ} → Added (line ((style section).entry s (get_or offsets done 0))) after place r next
-          → Passed section s offsets text from (done + 1) r next
+      pub line_more : {next : Text} → Added (line ((style section).entry s (get_or offsets done 0))) after next
+          → Passed section s offsets text (done + 1) next
       line_more written =
           added_as (entries_more (style section) s offsets done more)
           (added_then passed written
           (omega (
             arith,
-            one_more section from done (length offsets) (length text) ready.fits more,
+            one_more section text.place done (length offsets) (length text.bytes.now) ready.fits more,
             passed_length,
             line_length section s (get_or offsets done 0),
           )))
 
-  pub all_written : (done : ℕ) {place : ℕ} {after : List ℕ} → done ≡ length offsets → Passed section s offsets text from done place after
-      → Added (entries (style section) s offsets) text from place after
+  pub all_written : (done : ℕ) {after : Text} → done ≡ length offsets → Passed section s offsets text done after
+      → Added (entries (style section) s offsets) text after
   all_written done e passed = added_as (ap (entries (style section) s) (ap (λ (n : ℕ). take n offsets) e ∙ take-length offsets)) passed
-
-  pub lines_length : {place : ℕ} {after : List ℕ} → Added (entries (style section) s offsets) text from place after
-      → length after ≡ length text
-  lines_length written = added_length written (omega (arith, ready.fits, entries_length section s offsets))
 
 -- ---- a heading and its lines
 
@@ -88,30 +84,30 @@ section_length section s offsets few =
       lines_room section (length offsets) few,
     )
 
-module _ {section : Section} {s offsets text : List ℕ} {place : ℕ} (ready : Chained section s offsets text place) where
-  heading_fits : Fits (length (heading (style section).name (length offsets)) + width section * length offsets) text place
+module _ {section : Section} {s offsets : List ℕ} {text : Text} (ready : Chained section s offsets text) where
+  heading_fits : Fits (length (heading (style section).name (length offsets)) + width section * length offsets) text
   heading_fits =
       omega (arith, ready.fits, lines_room section (length offsets) ready.few, heading_length section (length offsets) ready.few)
 
-  pub headed : {named at : ℕ} {middle after : List ℕ} → Added (style section).name text place named middle
-      → Added (ascii " " ++ decimal (length offsets) ++ 0x0a ∷ []) middle named at after
-      → Added (heading (style section).name (length offsets)) text place at after
+  pub headed : {middle after : Text} → Added (style section).name text middle
+      → Added (ascii " " ++ decimal (length offsets) ++ 0x0a ∷ []) middle after
+      → Added (heading (style section).name (length offsets)) text after
   headed first second =
       let whole = length-append (style section).name (ascii " " ++ decimal (length offsets) ++ 0x0a ∷ []) in
       added_as (heading_line (style section).name (length offsets))
       (added_then first second
       (omega (arith, heading_fits, whole, ap length (heading_line (style section).name (length offsets)))))
 
-  module _ {at : ℕ} {middle : List ℕ} (first : Added (heading (style section).name (length offsets)) text place at middle) where
-    pub lines_ready : Ready section s offsets middle at
+  module _ {middle : Text} (first : Added (heading (style section).name (length offsets)) text middle) where
+    pub lines_ready : Ready section s offsets middle
     lines_ready = record {
       space = ready.space;
       inside = ready.inside;
       fits = omega (arith, heading_fits, first.next, added_length first (omega (arith, heading_fits)));
     }
 
-    pub section_listed : {r : ℕ} {after : List ℕ} → Added (entries (style section) s offsets) middle at r after
-        → Added (heading (style section).name (length offsets) ++ entries (style section) s offsets) text place r after
+    pub section_listed : {after : Text} → Added (entries (style section) s offsets) middle after
+        → Added (heading (style section).name (length offsets) ++ entries (style section) s offsets) text after
     section_listed second = added_then first second (omega (arith, heading_fits, entries_length section s offsets))
 
 -- ---- a name, a number and how the line ends
@@ -120,10 +116,9 @@ pub number_length : (n : ℕ) (end : List ℕ) → length (ascii " " ++ decimal 
 number_length n end = omega (arith, length-append (decimal n) end, decimal_length n, figures_most n)
 
 -- the piece behind a name that tells a place, of its three pieces
-pub numbered_at : (n fault : ℕ) {text digits middle behind after : List ℕ} {place q t r : ℕ} → Fits 17 text place
-    → Added (ascii " " ++ decimal n ++ ascii " ") text place q middle → Added digits middle q t behind
-    → Added (line (ascii " refused")) behind t r after → digits ≡ hex 3 fault
-    → Added (ascii " " ++ decimal n ++ (ascii " " ++ hex 3 fault ++ line (ascii " refused"))) text place r after
+pub numbered_at : (n fault : ℕ) {digits : List ℕ} {text middle behind after : Text} → Fits 17 text
+    → Added (ascii " " ++ decimal n ++ ascii " ") text middle → Added digits middle behind → Added (line (ascii " refused")) behind after
+    → digits ≡ hex 3 fault → Added (ascii " " ++ decimal n ++ (ascii " " ++ hex 3 fault ++ line (ascii " refused"))) text after
 numbered_at n fault fits first second third same =
     let front = number_length n (ascii " ") in
     let both = length-append (ascii " " ++ decimal n ++ ascii " ") (hex 3 fault) in
@@ -135,19 +130,18 @@ module _ (name : List ℕ) (n : ℕ) (h : length name ≤ 10) where
   tail_length end =
       omega (arith, length-append name (ascii " " ++ decimal n ++ end), number_length n end)
 
-  named_numbered : (end : List ℕ) {text middle after : List ℕ} {place named r : ℕ} → Fits (14 + length end) text place
-      → Added name text place named middle → Added (ascii " " ++ decimal n ++ end) middle named r after
-      → Added (name ++ (ascii " " ++ decimal n ++ end)) text place r after
+  named_numbered : (end : List ℕ) {text middle after : Text} → Fits (14 + length end) text → Added name text middle
+      → Added (ascii " " ++ decimal n ++ end) middle after → Added (name ++ (ascii " " ++ decimal n ++ end)) text after
   named_numbered end fits first second =
       added_then first second (omega (arith, fits, tail_length end, length-append name (ascii " " ++ decimal n ++ end)))
 
-  pub named_refused : {text middle after : List ℕ} {place named r : ℕ} → Fits 23 text place → Added name text place named middle
-      → Added (ascii " " ++ decimal n ++ line (ascii " refused")) middle named r after → Added (refused name n) text place r after
+  pub named_refused : {text middle after : Text} → Fits 23 text → Added name text middle
+      → Added (ascii " " ++ decimal n ++ line (ascii " refused")) middle after → Added (refused name n) text after
   named_refused fits first second = added_as (refused_line name n) (named_numbered (line (ascii " refused")) fits first second)
 
-  pub named_refused_at : (fault : ℕ) {text middle after : List ℕ} {place named r : ℕ} → Fits 27 text place → Added name text place named middle
-      → Added (ascii " " ++ decimal n ++ (ascii " " ++ hex 3 fault ++ line (ascii " refused"))) middle named r after
-      → Added (refused_at name n fault) text place r after
+  pub named_refused_at : (fault : ℕ) {text middle after : Text} → Fits 27 text → Added name text middle
+      → Added (ascii " " ++ decimal n ++ (ascii " " ++ hex 3 fault ++ line (ascii " refused"))) middle after
+      → Added (refused_at name n fault) text after
   named_refused_at fault fits first second =
       added_as (refused_at_line name n fault) (named_numbered (ascii " " ++ hex 3 fault ++ line (ascii " refused")) fits first second)
 

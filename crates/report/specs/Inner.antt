@@ -6,6 +6,7 @@ use Rattle.lists.specs.declared.Kind.TheVariants as kind
 use Rattle.lists.specs.Table.{describe}
 use Rattle.lists.specs.Walks.{WholeSpace}
 use Rattle.report.specs.declared.section.Section.{Section}
+use Rattle.report.specs.declared.text.Text.{Text}
 use Rattle.report.specs.declared.section.Section.TheVariants.{Compatible, Extended}
 use Rattle.report.specs.Listing.{Style, compatible, extended}
 
@@ -33,41 +34,35 @@ most section = title section + (describe (kind_of section)).maximum * width sect
 abbrev pub longest : ℕ
 longest = most Compatible + most Extended + 4
 
--- bytes were put at a place of a text, and the place after them is answered
-pub record Added (bytes text : List ℕ) (place r : ℕ) (after : List ℕ) : Type 0 where
-  pub next : r ≡ place + length bytes
-  pub left : after ≡ put text place bytes
+-- bytes were put at the place of a text, and the place is behind them
+pub record Added (bytes : List ℕ) (text after : Text) : Type 0 where
+  pub next : after.place ≡ text.place + length bytes
+  pub left : after.bytes.now ≡ put text.bytes.now text.place bytes
 
 -- the same, of at most so many bytes, of which something is known
-pub record Told (of : List ℕ → Type 0) (count : ℕ) (text : List ℕ) (place r : ℕ) (after : List ℕ) : Type 0 where
+pub record Told (of : List ℕ → Type 0) (count : ℕ) (text after : Text) : Type 0 where
   pub bytes : List ℕ
   pub known : of bytes
   pub short : length bytes ≤ count
-  pub added : Added bytes text place r after
+  pub added : Added bytes text after
 
--- so many bytes fit at a place of a text
-abbrev pub Fits : ℕ → List ℕ → ℕ → Type 0
-Fits count text place = place + count ≤ length text
+-- so many bytes fit at the place of a text
+abbrev pub Fits : ℕ → Text → Type 0
+Fits count text = text.place + count ≤ length text.bytes.now
 
 -- every number of a list is the offset of a whole word of a space
 abbrev pub Inside : List ℕ → Type 0
 Inside offsets = (index : ℕ) → get_or offsets index 0 ≤ 0xffc
 
 -- what the lines of a section need: a space, offsets of its words, and a text with room for them
-pub record Ready (section : Section) (s offsets text : List ℕ) (place : ℕ) : Type 0 where
+pub record Ready (section : Section) (s offsets : List ℕ) (text : Text) : Type 0 where
   pub space : WholeSpace s
   pub inside : Inside offsets
-  pub fits : Fits (width section * length offsets) text place
+  pub fits : Fits (width section * length offsets) text
 
 -- what a legal chain needs besides: no more offsets than its list can have, and a text with room for the longest section
-pub record Chained (section : Section) (s offsets text : List ℕ) (place : ℕ) : Type 0 where
+pub record Chained (section : Section) (s offsets : List ℕ) (text : Text) : Type 0 where
   pub space : WholeSpace s
   pub inside : Inside offsets
   pub few : length offsets ≤ (describe (kind_of section)).maximum
-  pub fits : Fits (most section) text place
-
--- what a section needs: a space, a room of its list's maximum, and a text with room for the longest section
-pub record Roomed (section : Section) (s room text : List ℕ) (place : ℕ) : Type 0 where
-  pub space : WholeSpace s
-  pub whole : length room ≡ (describe (kind_of section)).maximum
-  pub fits : Fits (most section) text place
+  pub fits : Fits (most section) text

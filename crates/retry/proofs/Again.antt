@@ -16,13 +16,13 @@ use Rattle.pair.proofs.Laws.{own_answers}
 use Rattle.pair.proofs.Keeps.{own_board, neither_keeps, pair_serve_keeps_well}
 use Rattle.runs.specs.Run.{Event, packet, reset, next}
 use Rattle.isolation.proofs.Alone.{same_kinds, kinds_kept, for_same}
+use Rattle.std.specs.Prelude.{Ok, Err}
 use Rattle.ports.specs.declared.Port.{Port}
-use Rattle.router.specs.declared.Verdict.{Verdict}
-use Rattle.router.specs.declared.Verdict.TheVariants.{Leaves, Unsupported, Refused}
+use Rattle.router.specs.declared.Verdict.TheVariants.{Leaves, Unsupported}
 use Rattle.router.specs.Routing as routing
 use Rattle.router.specs.Routing.{route}
 use Rattle.router.specs.Promise as routes
-use Rattle.router.specs.Promise.{told, over}
+use Rattle.router.specs.Promise.{Routed, told, over}
 use Rattle.router.proofs.Unique.{route_unique}
 use Rattle.retry.specs.Rows.{answered}
 use Rattle.retry.specs.Switch.{Boards, Happening, sent, beside, changed_at, verdict, arrival, switch_next, switch_answer}
@@ -99,22 +99,22 @@ pair_twice pair p size = pair_by pair p size _ refl
 -- ---- a switch
 
 -- what is told, with another buffer
-retold : (r : Verdict) (after buffer again : List ℕ) (o : routing.Outcome) → told r after ≡ routes.shows o buffer → told r (over o.written again) ≡ routes.shows o again
+retold : (r : Routed) (after buffer again : List ℕ) (o : routing.Outcome) → told r after ≡ routes.shows o buffer → told r (over o.written again) ≡ routes.shows o again
 unfolding routes.shows
-retold (Leaves place count) after buffer again o e =
+retold (Ok (Leaves place count)) after buffer again o e =
     λ i. record { number = (e i).number; leaves = (e i).leaves; port = (e i).port; count = (e i).count; buffer = over o.written again }
-retold Unsupported after buffer again o e =
+retold (Ok Unsupported) after buffer again o e =
     λ i. record { number = (e i).number; leaves = (e i).leaves; port = (e i).port; count = (e i).count; buffer = over o.written again }
-retold (Refused refusal) after buffer again o e =
+retold (Err refusal) after buffer again o e =
     λ i. record { number = (e i).number; leaves = (e i).leaves; port = (e i).port; count = (e i).count; buffer = over o.written again }
 
-buffer_told : (r : Verdict) (a : List ℕ) → (told r a).buffer ≡ a
-buffer_told (Leaves place count) a = refl
-buffer_told Unsupported a = refl
-buffer_told (Refused refusal) a = refl
+buffer_told : (r : Routed) (a : List ℕ) → (told r a).buffer ≡ a
+buffer_told (Ok (Leaves place count)) a = refl
+buffer_told (Ok Unsupported) a = refl
+buffer_told (Err refusal) a = refl
 
 -- the bytes that leave
-pub left_bytes : (r : Verdict) (after buffer : List ℕ) (o : routing.Outcome) → told r after ≡ routes.shows o buffer → take (told r after).count after ≡ o.written
+pub left_bytes : (r : Routed) (after buffer : List ℕ) (o : routing.Outcome) → told r after ≡ routes.shows o buffer → take (told r after).count after ≡ o.written
 unfolding routes.shows
 left_bytes r after buffer o e =
     ap (take (told r after).count) (sym (buffer_told r after))

@@ -17,13 +17,12 @@ use Rattle.packet.specs.Request.{number_under, request_of, packet_number}
 use Rattle.packet.proofs.Laws.{number_under_lem, accepted}
 use Rattle.board.specs.Serving.{Outcome, serve}
 use Rattle.runs.specs.Run.{packet}
+use Rattle.std.specs.Prelude.{Some, None, Ok, Err}
 use Rattle.ports.specs.declared.Port.{Port}
 use Rattle.ports.proofs.Pairs.{port_at}
 use Rattle.router.specs.Routing as routing
 use Rattle.router.specs.Routing.{bus_of, target_in, turns, leaves_by, by_number, decide, route}
-use Rattle.ports.specs.declared.Choice.{Choice}
-use Rattle.ports.specs.declared.Choice.TheVariants.{BadList, At, Nowhere}
-use Rattle.ports.specs.Choice.{choice}
+use Rattle.ports.specs.Choice.{Choice, choice}
 use Rattle.router.specs.Row.{Router, Passes}
 use Rattle.router.proofs.Verdicts.{MayLeave, leaves_iff}
 use Rattle.router.proofs.Ways.{at_type0, turns_at_secondary, same_outcome}
@@ -35,9 +34,9 @@ use Rattle.retry.specs.Writes.{SameWrite, Successful}
 
 -- what leaves has the number 0
 leaving_number : (n : ℕ) (c : Choice) (p : List ℕ) → (by_number n c p).leaves ≡ true → (by_number n c p).number ≡ 0
-leaving_number zero BadList p l = refl
-leaving_number zero (At place port) p l = refl
-leaving_number zero Nowhere p l = refl
+leaving_number zero (Ok (Some exit)) p l = refl
+leaving_number zero (Ok None) p l = refl
+leaving_number zero (Err list) p l = refl
 leaving_number (suc n) c p l = absurd (true≢false (sym l))
 
 left_number : (c : Choice) (p : List ℕ) (size : ℕ) → (decide c p size).leaves ≡ true → (decide c p size).number ≡ 0

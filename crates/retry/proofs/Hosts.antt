@@ -6,13 +6,13 @@ use mathlib.Core.List.{List}
 use mathlib.Core.Path.{◌≡◌, sym, ap, ap₂, ◌∙◌, subst}
 use lib.ListN.{length, take}
 use lib.Seq.{take-append_seam}
+use Rattle.std.specs.Prelude.{Ok}
 use Rattle.board.specs.Description.{Board, WellDescribed}
 use Rattle.board.specs.Serving.{Outcome, completer_of, serve}
-use Rattle.board.specs.Promise.{Seen, shows, Serves}
+use Rattle.board.specs.Promise.{count_of, Seen, shows, Serves}
 use Rattle.board.proofs.Keeps.{call_holds}
 use Rattle.asking.specs.declared.Parts.{Parts}
 use Rattle.asking.specs.declared.Completion.{Completion}
-use Rattle.asking.specs.declared.Heard.TheVariants.{Says}
 use Rattle.asking.specs.Writing.{packet_of, told_written}
 use Rattle.asking.specs.Reading.{Reads}
 use Rattle.asking.proofs.Numbers.{served_packet}
@@ -35,7 +35,7 @@ AskedAgain =
 abbrev pub SecondMeansLanded : Type 0
 SecondMeansLanded =
     (a : Parts) (new : List ℕ) (d : Board) → WellDescribed d → (first : Asked a new d) (second : Asked a new (held first)) → length second.reply ≡ length first.reply
-    → (c : Completion) → second.heard ≡ Says c
+    → (c : Completion) → second.heard ≡ Ok c
     → (c.requester ≡ a.requester) × (c.tag ≡ a.tag) × (c.completer ≡ completer_of (held second)) × Means d (held second) a new c.said
 
 -- ---- one request, served
@@ -50,7 +50,7 @@ module _ (a : Parts) (new : List ℕ) (d : Board) (s : Asked a new d) where
   held_is : held s ≡ (serve d (packet_of a new) (length s.reply)).after
   held_is = call_holds d (packet_of a new) s.reply s.served s.ordinary s.trusted s.replied serves_it
 
-  replied_is : take s.served.length s.replied ≡ (serve d (packet_of a new) (length s.reply)).written
+  replied_is : take (count_of s.served.answer) s.replied ≡ (serve d (packet_of a new) (length s.reply)).written
   unfolding shows
   replied_is =
       ap (λ (x : Seen). take x.count x.reply) serves_it ∙ take-append_seam (serve d (packet_of a new) (length s.reply)).written _
@@ -66,11 +66,11 @@ same_again : (a : Parts) (new : List ℕ) (d : Board) (first : Asked a new d) (s
     → SameAgain a new d first second
 same_again a new d first second size =
     let e = again a new d first second size in
-    let same : take second.served.length second.replied ≡ take first.served.length first.replied =
+    let same : take (count_of second.served.answer) second.replied ≡ take (count_of first.served.answer) first.replied =
     replied_is a new (held first) second ∙ ap (λ (o : Outcome). o.written) e ∙ sym (replied_is a new d first) in
     record {
       heard =
-          read_completion_unique (take first.served.length first.replied) second.heard first.heard
+          read_completion_unique (take (count_of first.served.answer) first.replied) second.heard first.heard
           (subst (λ (c : List ℕ). Reads c second.heard) same second.reads) first.reads;
       left = held_is a new (held first) second ∙ ap (λ (o : Outcome). o.after) e ∙ sym (held_is a new d first);
     }

@@ -8,21 +8,20 @@ use lib.Dec.{eqb}
 use lib.ListN.{length, take}
 use borrow.Author.Tests.{eqb-true}
 use Rattle.answers.specs.Numbers.{number_of}
-use Rattle.board.specs.declared.Served.{Served}
 use Rattle.board.specs.Description.{Board}
 use Rattle.board.specs.Serving.{serve}
-use Rattle.board.specs.Promise.{Seen, shows}
+use Rattle.board.specs.Promise.{Served, Seen, shows}
 use Rattle.runs.specs.Run as run
 use Rattle.runs.specs.Run.{packet}
 use Rattle.runs.specs.Calls as calling
 use Rattle.runs.specs.Calls.{Call, called}
+use Rattle.std.specs.Prelude.{Ok, Err}
 use Rattle.ports.specs.declared.Port.{Port}
-use Rattle.router.specs.declared.Verdict.{Verdict}
-use Rattle.router.specs.declared.Verdict.TheVariants.{Leaves, Unsupported, Refused}
+use Rattle.router.specs.declared.Verdict.TheVariants.{Leaves, Unsupported}
 use Rattle.router.specs.Routing as routing
 use Rattle.router.specs.Routing.{route}
 use Rattle.router.specs.Promise as routes
-use Rattle.router.specs.Promise.{told}
+use Rattle.router.specs.Promise.{Routed, told}
 use Rattle.retry.specs.Rows.{Answer, answered, call_answered}
 use Rattle.retry.specs.Switch.{Boards, changed_at, switch_next, switch_answer, switch_runs, SwitchCall, routed, besides, switch_event, held_at, holds_by, answered_by, MeetsBy, switch_holds, switch_call_answered, SwitchMeets, switch_calls}
 use Rattle.retry.specs.Repeats.{RepeatOf}
@@ -59,13 +58,13 @@ module _ (ports : List Port) (boards : Boards) (bytes buffer left reply : List �
   at = route ports bytes (length buffer)
 
   -- a packet that leaves
-  module _ (place count : ℕ) (e : told (Leaves place count) left ≡ routes.shows at buffer) (m : MeetsBy (Leaves place count) boards left reply result ordinary trusted replied) where
+  module _ (place count : ℕ) (e : told (Ok (Leaves place count)) left ≡ routes.shows at buffer) (m : MeetsBy (Ok (Leaves place count)) boards left reply result ordinary trusted replied) where
     leaves_is : (at.leaves ≡ true) × (at.port ≡ place)
     unfolding routes.shows
     leaves_is = (sym (ap (λ (x : routes.Seen). x.leaves) e), sym (ap (λ (x : routes.Seen). x.port) e))
 
     written_is : take count left ≡ at.written
-    written_is = left_bytes (Leaves place count) left buffer at e
+    written_is = left_bytes (Ok (Leaves place count)) left buffer at e
 
     leaving_next : held_at boards place (called (take count left) reply result ordinary trusted replied) ≡ changed_at boards at.leaves at.port (packet at.written (length reply))
     leaving_next =
@@ -90,20 +89,20 @@ module _ (ports : List Port) (boards : Boards) (bytes buffer left reply : List �
         (λ i. record { number = n i; written = [] })
         ∙ ap (λ (b : Bool). cond b (answered (serve (boards at.port) at.written (length reply))) (record { number = at.number; written = [] })) (sym stays)
 
-  routed_next : (verdict : Verdict) → told verdict left ≡ routes.shows at buffer → MeetsBy verdict boards left reply result ordinary trusted replied
+  routed_next : (verdict : Routed) → told verdict left ≡ routes.shows at buffer → MeetsBy verdict boards left reply result ordinary trusted replied
       → holds_by verdict boards left reply result ordinary trusted replied ≡ changed_at boards at.leaves at.port (packet at.written (length reply))
   unfolding routes.shows
-  routed_next (Leaves place count) e m = leaving_next place count e m
-  routed_next Unsupported e m = staying_next (sym (ap (λ (x : routes.Seen). x.leaves) e))
-  routed_next (Refused refusal) e m = staying_next (sym (ap (λ (x : routes.Seen). x.leaves) e))
+  routed_next (Ok (Leaves place count)) e m = leaving_next place count e m
+  routed_next (Ok Unsupported) e m = staying_next (sym (ap (λ (x : routes.Seen). x.leaves) e))
+  routed_next (Err refusal) e m = staying_next (sym (ap (λ (x : routes.Seen). x.leaves) e))
 
-  routed_answer : (verdict : Verdict) → told verdict left ≡ routes.shows at buffer → MeetsBy verdict boards left reply result ordinary trusted replied
+  routed_answer : (verdict : Routed) → told verdict left ≡ routes.shows at buffer → MeetsBy verdict boards left reply result ordinary trusted replied
       → answered_by verdict left reply result ordinary trusted replied
       ≡ cond at.leaves (answered (serve (boards at.port) at.written (length reply))) (record { number = at.number; written = [] })
   unfolding routes.shows
-  routed_answer (Leaves place count) e m = leaving_answer place count e m
-  routed_answer Unsupported e m = staying_answer (sym (ap (λ (x : routes.Seen). x.leaves) e)) 0 (ap (λ (x : routes.Seen). x.number) e)
-  routed_answer (Refused refusal) e m = staying_answer (sym (ap (λ (x : routes.Seen). x.leaves) e)) (number_of refusal) (ap (λ (x : routes.Seen). x.number) e)
+  routed_answer (Ok (Leaves place count)) e m = leaving_answer place count e m
+  routed_answer (Ok Unsupported) e m = staying_answer (sym (ap (λ (x : routes.Seen). x.leaves) e)) 0 (ap (λ (x : routes.Seen). x.number) e)
+  routed_answer (Err refusal) e m = staying_answer (sym (ap (λ (x : routes.Seen). x.leaves) e)) (number_of refusal) (ap (λ (x : routes.Seen). x.number) e)
 
 module _ (ports : List Port) where
   switch_call_next : (boards : Boards) (c : SwitchCall) → SwitchMeets ports boards c → switch_holds ports boards c ≡ switch_next ports boards (switch_event c)

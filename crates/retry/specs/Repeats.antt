@@ -10,8 +10,7 @@ use Rattle.runs.specs.Run.{Event, packet, reset}
 use Rattle.pair.specs.Pair.{Pair}
 use Rattle.pair.specs.Serving.{serve_pair}
 use Rattle.ports.specs.declared.Port.{Port}
-use Rattle.router.specs.declared.Verdict.{Verdict}
-use Rattle.router.specs.Promise.{told, Routes}
+use Rattle.router.specs.Promise.{Routed, told, Routes}
 use Rattle.retry.specs.Rows.{Answer, Row, events_in, end, answers_in, AllMeet}
 
 -- "from the same state, with equal reply sizes and nothing between, […] a packet served twice gives the same reply twice and leaves what one leaves": the number,
@@ -27,7 +26,7 @@ PairTwice = (pair : Pair) (p : List ℕ) (size : ℕ) → serve_pair (serve_pair
 -- the same bytes leave
 abbrev pub RouteTwice : Type 0
 RouteTwice =
-    (ports : List Port) (p buffer again : List ℕ) (r q : Verdict) (after after' : List ℕ) → length buffer ≡ length again
+    (ports : List Port) (p buffer again : List ℕ) (r q : Routed) (after after' : List ℕ) → length buffer ≡ length again
     → Routes ports p buffer r after → Routes ports p again q after'
     → (r ≡ q) × (take (told r after).count after ≡ take (told q after').count after')
 

@@ -1,9 +1,10 @@
 -- What happens one thing after the other, and what is answered: to a board, and to a board of two functions, in a run of packets and resets and in calls of the
 -- entries. Assumes nothing.
 use Rattle.std.specs.Prelude.{ℕ, List, [], ◌∷◌, take}
-use Rattle.answers.specs.Numbers.{answer_of}
+use Rattle.answers.specs.Numbers as numbers
 use Rattle.board.specs.Description.{Board}
 use Rattle.board.specs.Serving.{Outcome, serve}
+use Rattle.board.specs.Promise.{count_of}
 use Rattle.runs.specs.Run as run
 use Rattle.runs.specs.Run.{Event, packet, reset}
 use Rattle.runs.specs.Calls as calling
@@ -60,9 +61,9 @@ answer_to d reset = none
 abbrev pub board_runs : Row Board Event Event
 board_runs = record { event = λ e. e; next = run.next; answer = answer_to; Meets = λ d e. Unit {0} }
 
--- calls of `board::serve` and `board::reset` that meet their promises: the number, and the part of the reply that was written
+-- calls of `Board::serve` and `board::reset` that meet their promises: the number, and the part of the reply that was written
 abbrev pub call_answered : Call → Answer
-call_answered (called bytes reply result ordinary trusted replied) = record { number = answer_of result.answer; written = take result.length replied }
+call_answered (called bytes reply result ordinary trusted replied) = record { number = numbers.answered result.answer; written = take (count_of result.answer) replied }
 call_answered (was_reset kept) = none
 
 abbrev pub board_calls : Row Board Event Call

@@ -1,16 +1,14 @@
 -- Through the router: a switch with a board behind each of its ports. A packet for the switch goes to the board behind the port by which it leaves, with the bytes with
 -- which it leaves (document 02, 1/13); what does not leave comes to no board. Of the way back 1/13 says nothing: here that board's reply is what the host is answered. A
 -- Type 1 packet that leaves as it is is answered UR by the board, as any is. Assumes nothing.
-use Rattle.std.specs.Prelude.{ℕ, Bool, true, ◌&&◌, cond, List, [], eqb, length, take}
+use Rattle.std.specs.Prelude.{ℕ, Bool, true, ◌&&◌, cond, List, [], Ok, Err, eqb, length, take}
 use Rattle.answers.specs.Numbers.{number_of}
 use Rattle.board.specs.Description.{Board}
-use Rattle.board.specs.declared.Served.{Served}
 use Rattle.board.specs.Serving.{serve}
-use Rattle.board.specs.Promise.{Serves}
+use Rattle.board.specs.Promise.{Served, Serves}
 use Rattle.ports.specs.declared.Port.{Port}
-use Rattle.router.specs.declared.Verdict.{Verdict}
-use Rattle.router.specs.declared.Verdict.TheVariants.{Leaves, Unsupported, Refused}
-use Rattle.router.specs.Promise.{Routes}
+use Rattle.router.specs.declared.Verdict.TheVariants.{Leaves, Unsupported}
+use Rattle.router.specs.Promise.{Routed, Routes}
 use Rattle.router.specs.Routing as routing
 use Rattle.router.specs.Routing.{route}
 use Rattle.runs.specs.Run.{Event, packet, next}
@@ -64,7 +62,7 @@ module _ (ports : List Port) where
 
 -- a call of `router::route`, its result and the buffer at its end, and, where the packet leaves, a call of `board::serve` with what left; or a call at one board by itself
 pub data SwitchCall : Type 0 where
-  routed : (bytes buffer : List ℕ) (verdict : Verdict) (left reply : List ℕ) (result : Served) (ordinary trusted replied : List ℕ) → SwitchCall
+  routed : (bytes buffer : List ℕ) (verdict : Routed) (left reply : List ℕ) (result : Served) (ordinary trusted replied : List ℕ) → SwitchCall
   besides : (place : ℕ) (call : Call) → SwitchCall
 
 abbrev pub switch_event : SwitchCall → Happening
@@ -76,22 +74,22 @@ abbrev pub held_at : Boards → ℕ → Call → Boards
 held_at boards place call k = cond (eqb k place) (calling.holds (boards k) call) (boards k)
 
 -- by the verdict: what the host then holds, what it is answered, and what is asked of the board's call
-abbrev pub holds_by : Verdict → Boards → List ℕ → List ℕ → Served → List ℕ → List ℕ → List ℕ → Boards
-holds_by (Leaves place count) boards left reply result ordinary trusted replied =
+abbrev pub holds_by : Routed → Boards → List ℕ → List ℕ → Served → List ℕ → List ℕ → List ℕ → Boards
+holds_by (Ok (Leaves place count)) boards left reply result ordinary trusted replied =
     held_at boards place (called (take count left) reply result ordinary trusted replied)
-holds_by Unsupported boards left reply result ordinary trusted replied = boards
-holds_by (Refused refusal) boards left reply result ordinary trusted replied = boards
+holds_by (Ok Unsupported) boards left reply result ordinary trusted replied = boards
+holds_by (Err refusal) boards left reply result ordinary trusted replied = boards
 
-abbrev pub answered_by : Verdict → List ℕ → List ℕ → Served → List ℕ → List ℕ → List ℕ → Answer
-answered_by (Leaves place count) left reply result ordinary trusted replied =
+abbrev pub answered_by : Routed → List ℕ → List ℕ → Served → List ℕ → List ℕ → List ℕ → Answer
+answered_by (Ok (Leaves place count)) left reply result ordinary trusted replied =
     call_answered (called (take count left) reply result ordinary trusted replied)
-answered_by Unsupported left reply result ordinary trusted replied = none
-answered_by (Refused refusal) left reply result ordinary trusted replied = record { number = number_of refusal; written = [] }
+answered_by (Ok Unsupported) left reply result ordinary trusted replied = none
+answered_by (Err refusal) left reply result ordinary trusted replied = record { number = number_of refusal; written = [] }
 
-abbrev pub MeetsBy : Verdict → Boards → List ℕ → List ℕ → Served → List ℕ → List ℕ → List ℕ → Type 0
-MeetsBy (Leaves place count) boards left reply result ordinary trusted replied = Serves (boards place) (take count left) reply result ordinary trusted replied
-MeetsBy Unsupported boards left reply result ordinary trusted replied = Unit {0}
-MeetsBy (Refused refusal) boards left reply result ordinary trusted replied = Unit {0}
+abbrev pub MeetsBy : Routed → Boards → List ℕ → List ℕ → Served → List ℕ → List ℕ → List ℕ → Type 0
+MeetsBy (Ok (Leaves place count)) boards left reply result ordinary trusted replied = Serves (boards place) (take count left) reply result ordinary trusted replied
+MeetsBy (Ok Unsupported) boards left reply result ordinary trusted replied = Unit {0}
+MeetsBy (Err refusal) boards left reply result ordinary trusted replied = Unit {0}
 
 module _ (ports : List Port) where
   abbrev pub switch_holds : Boards → SwitchCall → Boards

@@ -5,14 +5,13 @@ use mathlib.Core.Bool.{Bool, true, false, cond}
 use mathlib.Core.List.{List, [], ◌∷◌}
 use mathlib.Core.Path.{◌≡◌, refl, sym, ap, ◌∙◌}
 use native.Mathlib.Omega.{arith}
+use Rattle.std.specs.Prelude.{Some, None, Ok, Err}
 use Rattle.words.specs.Bytes.{byte}
 use Rattle.words.specs.Fields.{bit}
 use Rattle.packet.specs.Fields.{type_code}
 use Rattle.packet.proofs.Bit7Aside.{Bit7Aside}
 use Rattle.ports.specs.declared.Port.{Port}
-use Rattle.ports.specs.declared.Choice.{Choice}
-use Rattle.ports.specs.declared.Choice.TheVariants.{BadList, At, Nowhere}
-use Rattle.ports.specs.Choice.{choice}
+use Rattle.ports.specs.Choice.{Choice, choice}
 use Rattle.router.specs.Routing.{Outcome, target_in, bus_of, type0_code, as_type0, turns, leaving_by, route_number, by_number, decide, route}
 
 -- the statement: whatever the list, the packets and the buffer's size are
@@ -72,9 +71,9 @@ module _ (p q : List ℕ) (aside : Bit7Aside p q) where
       by_turn false = aside
 
   by_number_lem : (n : ℕ) (c : Choice) → SameVerdict (by_number n c p) (by_number n c q)
-  by_number_lem zero BadList = record { numbers = refl; leaves = refl; ports = refl; written = nothing_aside }
-  by_number_lem zero (At place port) = record { numbers = refl; leaves = refl; ports = refl; written = leaving_aside port }
-  by_number_lem zero Nowhere = record { numbers = refl; leaves = refl; ports = refl; written = nothing_aside }
+  by_number_lem zero (Err list) = record { numbers = refl; leaves = refl; ports = refl; written = nothing_aside }
+  by_number_lem zero (Ok (Some exit)) = record { numbers = refl; leaves = refl; ports = refl; written = leaving_aside exit.port }
+  by_number_lem zero (Ok None) = record { numbers = refl; leaves = refl; ports = refl; written = nothing_aside }
   by_number_lem (suc n) c = record { numbers = refl; leaves = refl; ports = refl; written = nothing_aside }
 
   decided : (c : Choice) (size : ℕ) → SameVerdict (decide c p size) (decide c q size)

@@ -1,12 +1,11 @@
 -- Laws of routing, for the proofs of this crate: what leaves and what is written of it, and the number by the first check that applies. Assumes
 -- nothing.
 use Prim.Native.Nat.{ℕ, zero, suc, ◌+◌, ◌*◌, ◌≤◌, ◌<◌}
-use mathlib.Core.Bool.{Bool, true, false, not, cond, ◌&&◌, true≢false}
+use mathlib.Core.Bool.{Bool, true, false, cond, ◌&&◌, true≢false}
 use mathlib.Core.List.Memᴰ
 use mathlib.Core.List.{List, [], ◌∷◌, ◌++◌}
 use mathlib.Core.Logic.{◌⊎◌, ⊎_elim}
 use mathlib.Core.Path.{◌≡◌, refl, sym, ap, ap₂, ◌∙◌, subst}
-use native.Mathlib.Nat.{zero-add}
 use native.Mathlib.Omega.{arith}
 use lib.Bits.{bit_and}
 use lib.Dec.{eqb}
@@ -15,34 +14,21 @@ use borrow.Author.Tests.{eqb-true, lt-ltb, le-ltb, ltb-false}
 use Rattle.answers.specs.declared.Refusal.TheVariants.{UnknownType}
 use Rattle.answers.specs.Checks.{Check, first_that_applies}
 use Rattle.answers.proofs.Checks.{Positive, none_applies}
-use Rattle.words.specs.Bytes.{byte, Puts}
+use Rattle.words.specs.Bytes.{byte}
 use Rattle.words.specs.Fields.{bit}
-use Rattle.words.proofs.Laws.{puts_is}
 use Rattle.packet.specs.declared.Target.{Target}
 use Rattle.packet.specs.declared.Target.TheVariants.{Type0, Type1, Trusted}
-use Rattle.std.specs.Prelude.{None}
+use Rattle.std.specs.Prelude.{Some, None, Ok, Err}
 use Rattle.packet.specs.declared.Request.{Request}
 use Rattle.packet.specs.Fields.{known, type_code, type_of, digest}
 use Rattle.packet.specs.Request.{typed, unknown, writes_of, target_of, packet_checks, packet_number, request_of}
 use Rattle.packet.proofs.Laws.{positive, whole_is}
-use Rattle.ports.specs.declared.Port.{Port}
-use Rattle.ports.specs.declared.Choice.{Choice}
-use Rattle.ports.specs.declared.Choice.TheVariants.{BadList, At, Nowhere}
-use Rattle.router.specs.declared.Verdict.TheVariants.{Leaves, Unsupported, Refused}
-use Rattle.router.specs.Routing.{bus_of, target_in, is_type0, is_type1, is_bad, barred_at, router_checks, route_number, type0_code, as_type0, turns, leaving_by, Outcome, leaves_by, refused, by_number, decide}
-use Rattle.router.specs.Promise.{Seen, told, over, shows}
+use Rattle.ports.specs.declared.Exit.{Exit}
+use Rattle.ports.specs.Choice.{Choice}
+use Rattle.router.specs.declared.Verdict.TheVariants.{Leaves, Unsupported}
+use Rattle.router.specs.Routing.{bus_of, target_in, is_type0, is_type1, is_bad, barred_at, router_checks, route_number, type0_code, as_type0, turns, leaving_by, leaves_by, refused, by_number, decide}
+use Rattle.router.specs.Promise.{told, over, shows}
 use Rattle.router.specs.Inner.{Ready, left, Faultless, passes_by, passes}
-
--- ---- small ones
-
-pub byte_past : (p : List ℕ) (i : ℕ) → length p ≤ i → byte p i ≡ 0
-byte_past [] i h = refl
-byte_past (x ∷ p) zero h = absurd (omega arith)
-byte_past (x ∷ p) (suc i) h = byte_past p i (omega arith)
-
-pub not_twice : (b : Bool) → b ≡ not (not b)
-not_twice true = refl
-not_twice false = refl
 
 -- ---- a packet without a fault
 
@@ -108,9 +94,6 @@ turned_first p e t h = turned_byte (byte p 0) h (type1_codes (type_code (byte p 
 
 -- ---- what is written
 
-pub put_over : (buffer bytes : List ℕ) (said : Bool) (after : List ℕ) → Puts buffer 0 bytes said after → length bytes ≤ length buffer → after ≡ over bytes buffer
-put_over buffer bytes said after p h = puts_is buffer 0 bytes p (rw (zero-add (length bytes)) h) ∙ rw (zero-add (length bytes))
-
 pub turned_over : (p buffer : List ℕ) → packet_number p ≡ 0 → target_in p ≡ Type1 → byte p 0 < 256 → set (over p buffer) 0 (bit_and (byte p 0) 254) ≡ over (as_type0 p) buffer
 turned_over [] buffer e t h = absurd (omega (arith, whole_header [] e))
 turned_over (first ∷ rest) buffer e t h = ap (λ (x : ℕ). x ∷ (rest ++ drop (suc (length rest)) buffer)) (turned_first (first ∷ rest) e t h)
@@ -134,59 +117,48 @@ is_type1_lem Type0 b e = absurd (true≢false (sym e))
 is_type1_lem Type1 b e = refl
 is_type1_lem Trusted b e = absurd (true≢false (sym e))
 
-module _ (place : ℕ) (port : Port) (p : List ℕ) (q : Request) (buffer : List ℕ) (faultless : Faultless p q buffer) where
-  pub ready : (turned : Bool) → turned ≡ turns q.target q.bus port → Ready p turned buffer
+module _ (exit : Exit) (p : List ℕ) (q : Request) (buffer : List ℕ) (faultless : Faultless p q buffer) where
+  pub ready : (turned : Bool) → turned ≡ turns q.target q.bus exit.port → Ready p turned buffer
   ready turned t =
       record {
         long = whole_header p faultless.number;
         fits = omega (arith, at_most_20 p faultless.number, faultless.room);
-        type1 = λ e. sym (target_is p q faultless.request) ∙ is_type1_lem q.target (eqb q.bus port.secondary) (sym t ∙ e);
+        type1 = λ e. sym (target_is p q faultless.request) ∙ is_type1_lem q.target (eqb q.bus exit.port.secondary) (sym t ∙ e);
         faultless = faultless.number;
       }
 
-  pub barred_shows : barred_at port q.target ≡ true → told (Refused UnknownType) buffer ≡ shows (passes_by place port p) buffer
+  pub barred_shows : barred_at exit.port q.target ≡ true → told (Err UnknownType) buffer ≡ shows (passes_by exit p) buffer
   unfolding shows
-  barred_shows e = rw (ap (barred_at port) (sym (target_is p q faultless.request)) ∙ e)
+  barred_shows e = rw (ap (barred_at exit.port) (sym (target_is p q faultless.request)) ∙ e)
 
   leaving_length : (turned : Bool) → length (cond turned (as_type0 p) p) ≡ length p
   leaving_length true = length_as_type0 p
   leaving_length false = refl
 
-  pub leaves_shows : (turned : Bool) (after : List ℕ) → barred_at port q.target ≡ false → turned ≡ turns q.target q.bus port → after ≡ left turned p buffer
-      → told (Leaves place (length p)) after ≡ shows (passes_by place port p) buffer
+  pub leaves_shows : (turned : Bool) (after : List ℕ) → barred_at exit.port q.target ≡ false → turned ≡ turns q.target q.bus exit.port → after ≡ left turned p buffer
+      → told (Ok (Leaves exit.place (length p))) after ≡ shows (passes_by exit p) buffer
   unfolding shows leaving_by
   leaves_shows turned after e t a =
-      let f = ap (barred_at port) (sym (target_is p q faultless.request)) ∙ e in
-      let u : turned ≡ turns (target_in p) (bus_of p) port = t ∙ ap₂ (λ (x : Target) (y : ℕ). turns x y port) (target_is p q faultless.request) (bus_is p q faultless.request) in
+      let f = ap (barred_at exit.port) (sym (target_is p q faultless.request)) ∙ e in
+      let u : turned ≡ turns (target_in p) (bus_of p) exit.port = t ∙ ap₂ (λ (x : Target) (y : ℕ). turns x y exit.port) (target_is p q faultless.request) (bus_is p q faultless.request) in
       rw (f, sym u, a, leaving_length turned)
 
--- the three ways past Type 0, and Type 0 itself
+-- the ways past Type 0, and Type 0 itself
 module _ (p : List ℕ) (q : Request) (buffer : List ℕ) (faultless : Faultless p q buffer) where
-  abbrev Shown : Choice → Type 0
-  Shown c = told Unsupported buffer ≡ shows (passes c p) buffer
-
-  pub type0_shows : (c : Choice) → is_type0 q.target ≡ true → told (Refused UnknownType) buffer ≡ shows (passes c p) buffer
+  pub type0_shows : (c : Choice) → is_type0 q.target ≡ true → told (Err UnknownType) buffer ≡ shows (passes c p) buffer
   unfolding shows
   type0_shows c e = rw (ap is_type0 (sym (target_is p q faultless.request)) ∙ e)
 
-  pub nowhere_shows : (c : Choice) → is_type0 q.target ≡ false → (c ≡ BadList) ⊎ (c ≡ Nowhere) → told Unsupported buffer ≡ shows (passes c p) buffer
+  pub nowhere_shows : is_type0 q.target ≡ false → told (Ok Unsupported) buffer ≡ shows (passes (Ok None) p) buffer
   unfolding shows
-  nowhere_shows c e = ⊎_elim (λ h. subst Shown (sym h) (rw f)) (λ h. subst Shown (sym h) (rw f))
-    where
-      f : is_type0 (target_in p) ≡ false
-      f = ap is_type0 (sym (target_is p q faultless.request)) ∙ e
+  nowhere_shows e = rw (ap is_type0 (sym (target_is p q faultless.request)) ∙ e)
 
-  by_barred : (b : Bool) (place : ℕ) (port : Port) → by_number (cond b 4 0) (At place port) p ≡ cond b (refused 4) (leaves_by place (leaving_by port p))
-  by_barred true place port = refl
-  by_barred false place port = refl
+  by_barred : (b : Bool) (exit : Exit) → by_number (cond b 4 0) (Ok (Some exit)) p ≡ cond b (refused 4) (leaves_by exit.place (leaving_by exit.port p))
+  by_barred true exit = refl
+  by_barred false exit = refl
 
-  at_passes : (place : ℕ) (port : Port) → is_type0 q.target ≡ false → passes (At place port) p ≡ passes_by place port p
-  at_passes place port e = rw (ap is_type0 (sym (target_is p q faultless.request)) ∙ e) (by_barred (barred_at port (target_in p)) place port)
-
-  pub at_shows : (c : Choice) (place : ℕ) (port : Port) (x : Seen) → c ≡ At place port → is_type0 q.target ≡ false
-      → x ≡ shows (passes_by place port p) buffer → x ≡ shows (passes c p) buffer
-  at_shows c place port x h e f =
-      f ∙ ap (λ (o : Outcome). shows o buffer) (sym (ap (λ (k : Choice). passes k p) h ∙ at_passes place port e))
+  pub at_passes : (exit : Exit) → is_type0 q.target ≡ false → passes (Ok (Some exit)) p ≡ passes_by exit p
+  at_passes exit e = rw (ap is_type0 (sym (target_is p q faultless.request)) ∙ e) (by_barred (barred_at exit.port (target_in p)) exit)
 
 -- ---- the checks 1 to 6
 

@@ -9,6 +9,8 @@ use mathlib.Core.List.{List, [], ◌∷◌, ◌++◌, Memᴰ}
 use mathlib.Core.Logic.{◌↔◌, ◌⊎◌, ⊎_elim}
 use mathlib.Core.Path.{◌≡◌, refl, sym, ap, ◌∙◌, subst}
 use native.Mathlib.Omega.{arith}
+use Rattle.std.proofs.lemmas.Bool.{cases_Bool, cases_lt, false_from_ne_true}
+use Rattle.std.specs.Prelude.{Some, None, Ok, Err}
 use lib.ListN.{length}
 use Rattle.answers.specs.Checks.{check, first_that_applies}
 use Rattle.answers.proofs.Checks.{First, Positive, gives_first, gives_one_of}
@@ -16,17 +18,13 @@ use Rattle.packet.specs.declared.Target.{Target}
 use Rattle.packet.specs.declared.Target.TheVariants.{Type0, Trusted}
 use Rattle.packet.specs.Request.{packet_number, is_trusted}
 use Rattle.ports.specs.declared.Port.{Port}
-use Rattle.ports.specs.declared.Choice.{Choice}
-use Rattle.ports.specs.declared.Choice.TheVariants.{BadList, At, Nowhere}
 use Rattle.ports.specs.Ports.{supports, bad_list}
-use Rattle.ports.specs.Choice.{choice}
-use Rattle.ports.proofs.Laws.{below_or_not}
-use Rattle.ports.proofs.Pairs.{port_at, Good, is_or_not, not_true_false, good_of}
+use Rattle.ports.specs.Choice.{Choice, exit_at, choice}
+use Rattle.ports.proofs.Pairs.{port_at, Good, good_of}
 use Rattle.ports.proofs.Only.{HasAt, chooses}
-use Rattle.router.specs.declared.Verdict.{Verdict}
-use Rattle.router.specs.declared.Verdict.TheVariants.{Leaves, Unsupported, Refused}
+use Rattle.router.specs.declared.Verdict.TheVariants.{Leaves, Unsupported}
 use Rattle.router.specs.Routing.{bus_of, target_in, is_type0, is_bad, barred_at, barred, route_checks, route_number, leaving_by, Outcome, leaves_by, unsupported, by_port, by_number, decide, route}
-use Rattle.router.specs.Promise.{Seen, told, over, shows, Routes}
+use Rattle.router.specs.Promise.{Routed, Seen, told, over, shows, Routes}
 use Rattle.router.proofs.Laws.{bad_number, room_number, packet_number_lem, router_number}
 
 -- what every packet that is not refused has
@@ -77,21 +75,21 @@ pub record NumberSays (ports : List Port) (p : List ℕ) (size n : ℕ) : Type 0
 
 abbrev pub NumberIsFirst : Type 0
 NumberIsFirst =
-    (ports : List Port) (p buffer : List ℕ) (r : Verdict) (after : List ℕ) → Routes ports p buffer r after
+    (ports : List Port) (p buffer : List ℕ) (r : Routed) (after : List ℕ) → Routes ports p buffer r after
     → NumberSays ports p (length buffer) (told r after).number
 
 -- what does not leave is not written
 abbrev pub StaysUnwritten : Type 0
 StaysUnwritten =
-    (ports : List Port) (p buffer : List ℕ) (r : Verdict) (after : List ℕ) → Routes ports p buffer r after
-    → ((place count : ℕ) → r ≡ Leaves place count → ⊥) → (after ≡ buffer) × ((told r after).port ≡ 0) × ((told r after).count ≡ 0)
+    (ports : List Port) (p buffer : List ℕ) (r : Routed) (after : List ℕ) → Routes ports p buffer r after
+    → ((place count : ℕ) → r ≡ Ok (Leaves place count) → ⊥) → (after ≡ buffer) × ((told r after).port ≡ 0) × ((told r after).count ≡ 0)
 
 -- ---- the number
 
 port_number : (c : Choice) (p : List ℕ) → (by_port c p).number ≡ 0
-port_number BadList p = refl
-port_number (At place port) p = refl
-port_number Nowhere p = refl
+port_number (Ok (Some exit)) p = refl
+port_number (Ok None) p = refl
+port_number (Err list) p = refl
 
 by_number_lem : (n : ℕ) (c : Choice) (p : List ℕ) → (by_number n c p).number ≡ n
 by_number_lem zero c p = port_number c p
@@ -135,9 +133,9 @@ number_is_first ports p buffer r after e =
 -- ---- what is not written
 
 silent_port : (c : Choice) (p : List ℕ) → (by_port c p).leaves ≡ false → ((by_port c p).written ≡ []) × ((by_port c p).port ≡ 0)
-silent_port BadList p e = (refl, refl)
-silent_port (At place port) p e = absurd (true≢false e)
-silent_port Nowhere p e = (refl, refl)
+silent_port (Ok (Some exit)) p e = absurd (true≢false e)
+silent_port (Ok None) p e = (refl, refl)
+silent_port (Err list) p e = (refl, refl)
 
 silent : (n : ℕ) (c : Choice) (p : List ℕ) → (by_number n c p).leaves ≡ false → ((by_number n c p).written ≡ []) × ((by_number n c p).port ≡ 0)
 silent zero c p e = silent_port c p e
@@ -161,7 +159,7 @@ pub silent_buffer : (ports : List Port) (p buffer : List ℕ) → (route ports p
 unfolding shows
 silent_buffer ports p buffer e = ap (λ (l : List ℕ). over l buffer) (silent_outcome ports p (length buffer) e).0
 
-unwritten : (o : Outcome) (buffer : List ℕ) (r : Verdict) (after : List ℕ) → told r after ≡ shows o buffer → (told r after).buffer ≡ after
+unwritten : (o : Outcome) (buffer : List ℕ) (r : Routed) (after : List ℕ) → told r after ≡ shows o buffer → (told r after).buffer ≡ after
     → (o.written ≡ []) × (o.port ≡ 0) → (after ≡ buffer) × ((told r after).port ≡ 0) × ((told r after).count ≡ 0)
 unfolding shows
 unwritten o buffer r after e b w = (
@@ -172,11 +170,11 @@ unwritten o buffer r after e b w = (
 
 pub stays_unwritten : StaysUnwritten
 unfolding shows
-stays_unwritten ports p buffer (Leaves place count) after e n = absurd (n place count refl)
-stays_unwritten ports p buffer Unsupported after e n =
-    unwritten (route ports p (length buffer)) buffer Unsupported after e refl (silent_outcome ports p (length buffer) (sym (ap (λ (x : Seen). x.leaves) e)))
-stays_unwritten ports p buffer (Refused refusal) after e n =
-    unwritten (route ports p (length buffer)) buffer (Refused refusal) after e refl (silent_outcome ports p (length buffer) (sym (ap (λ (x : Seen). x.leaves) e)))
+stays_unwritten ports p buffer (Ok (Leaves place count)) after e n = absurd (n place count refl)
+stays_unwritten ports p buffer (Ok Unsupported) after e n =
+    unwritten (route ports p (length buffer)) buffer (Ok Unsupported) after e refl (silent_outcome ports p (length buffer) (sym (ap (λ (x : Seen). x.leaves) e)))
+stays_unwritten ports p buffer (Err refusal) after e n =
+    unwritten (route ports p (length buffer)) buffer (Err refusal) after e refl (silent_outcome ports p (length buffer) (sym (ap (λ (x : Seen). x.leaves) e)))
 
 -- ---- when no check applies
 
@@ -195,8 +193,8 @@ both_clear false false e = (refl, refl)
 module _ (c : Choice) (p : List ℕ) (size : ℕ) where
   clear : route_number c p size ≡ 0 → Clear c p size
   clear e =
-      let s = not_true_false (is_bad c) (λ b. not_zero 1 (omega arith) (bad_number c p size b)) in
-      let r = ⊎_elim (λ h. absurd (not_zero 2 (omega arith) (room_number c p size s h))) (λ h. h) (below_or_not size 20) in
+      let s = false_from_ne_true (is_bad c) (λ b. not_zero 1 (omega arith) (bad_number c p size b)) in
+      let r = ⊎_elim (λ h. absurd (not_zero 2 (omega arith) (room_number c p size s h))) (λ h. h) (cases_lt size 20) in
       let f = faultless_of s r (packet_number p) refl in
       let b = both_clear (is_type0 (target_in p)) (barred c (target_in p)) (sym (router_number c p size s r f) ∙ e) in
       record { sound = s; room = r; faultless = f; not_type0 = b.0; unbarred = b.1 }
@@ -223,7 +221,7 @@ module _ (c : Choice) (p : List ℕ) (size : ℕ) where
 -- ---- leaves
 
 unbarred_port : (port : Port) (t : Target) → barred_at port t ≡ false → is_trusted t ≡ true → supports port ≡ true
-unbarred_port port t b e = ⊎_elim (λ s. s) (λ s. absurd (true≢false (sym (both e s) ∙ b))) (is_or_not (supports port))
+unbarred_port port t b e = ⊎_elim (λ s. s) (λ s. absurd (true≢false (sym (both e s) ∙ b))) (cases_Bool (supports port))
   where
     both : is_trusted t ≡ true → supports port ≡ false → is_trusted t && not (supports port) ≡ true
     both f s = rw (f, s)
@@ -241,17 +239,17 @@ to_leave ports p size place bytes c w e = go c w e (zero_number c p size (leaves
   where
     go : (c : Choice) → choice ports (bus_of p) ≡ c → decide c p size ≡ leaves_by place bytes → Clear c p size
         → MayLeave ports p size place × (bytes ≡ leaving_by (port_at ports place) p)
-    go BadList w e k = absurd (true≢false k.sound)
-    go Nowhere w e k = absurd (true≢false (sym (ap (λ (x : Outcome). x.leaves) (sym (decided Nowhere p size k) ∙ e))))
-    go (At i port) w e k =
-        let same = sym (decided (At i port) p size k) ∙ e in
-        let at : i ≡ place = ap (λ (x : Outcome). x.port) same in
-        let h = ((chooses ports (bus_of p)).at i port).0 w in
-        let q : port ≡ port_at ports place = h.2 ∙ ap (port_at ports) at in (
+    go (Err list) w e k = absurd (true≢false k.sound)
+    go (Ok None) w e k = absurd (true≢false (sym (ap (λ (x : Outcome). x.leaves) (sym (decided (Ok None) p size k) ∙ e))))
+    go (Ok (Some exit)) w e k =
+        let same = sym (decided (Ok (Some exit)) p size k) ∙ e in
+        let at : exit.place ≡ place = ap (λ (x : Outcome). x.port) same in
+        let h = ((chooses ports (bus_of p)).at exit.place exit.port).0 w in
+        let q : exit.port ≡ port_at ports place = h.2 ∙ ap (port_at ports) at in (
           record {
             routable = record { good = h.0; room = k.room; faultless = k.faultless; not_type0 = k.not_type0 };
             held = subst (HasAt ports (bus_of p)) at h.1;
-            supported = λ t. subst (λ (x : Port). supports x ≡ true) q (unbarred_port port (target_in p) k.unbarred t);
+            supported = λ t. subst (λ (x : Port). supports x ≡ true) q (unbarred_port exit.port (target_in p) k.unbarred t);
           },
           sym (ap (λ (x : Outcome). x.written) same) ∙ ap (λ (x : Port). leaving_by x p) q,
         )
@@ -261,7 +259,7 @@ from_leave : (ports : List Port) (p : List ℕ) (size place : ℕ) (bytes : List
 from_leave ports p size place bytes h =
     let m = h.0 in
     let r = m.routable in
-    let c = At place (port_at ports place) in
+    let c = Ok (Some (exit_at place (port_at ports place))) in
     ap (λ (x : Choice). decide x p size) (((chooses ports (bus_of p)).at place (port_at ports place)).1 (r.good, m.held, refl))
     ∙ decided c p size (record { sound = refl; room = r.room; faultless = r.faultless; not_type0 = r.not_type0; unbarred = port_unbarred (port_at ports place) (target_in p) m.supported })
     ∙ ap (leaves_by place) (sym h.1)
@@ -277,9 +275,9 @@ to_unsupported ports p size c w e = go c w e (zero_number c p size unsupported r
   where
     go : (c : Choice) → choice ports (bus_of p) ≡ c → decide c p size ≡ unsupported → Clear c p size
         → Routable ports p size × ((place : ℕ) → HasAt ports (bus_of p) place → ⊥)
-    go BadList w e k = absurd (true≢false k.sound)
-    go (At i port) w e k = absurd (true≢false (ap (λ (x : Outcome). x.leaves) (sym (decided (At i port) p size k) ∙ e)))
-    go Nowhere w e k =
+    go (Err list) w e k = absurd (true≢false k.sound)
+    go (Ok (Some exit)) w e k = absurd (true≢false (ap (λ (x : Outcome). x.leaves) (sym (decided (Ok (Some exit)) p size k) ∙ e)))
+    go (Ok None) w e k =
         let h = (chooses ports (bus_of p)).nowhere.0 w in
         (record { good = h.0; room = k.room; faultless = k.faultless; not_type0 = k.not_type0 }, h.1)
 
@@ -288,7 +286,7 @@ from_unsupported : (ports : List Port) (p : List ℕ) (size : ℕ) → Routable 
 from_unsupported ports p size h =
     let r = h.0 in
     ap (λ (x : Choice). decide x p size) ((chooses ports (bus_of p)).nowhere.1 (r.good, h.1))
-    ∙ decided Nowhere p size (record { sound = refl; room = r.room; faultless = r.faultless; not_type0 = r.not_type0; unbarred = refl })
+    ∙ decided (Ok None) p size (record { sound = refl; room = r.room; faultless = r.faultless; not_type0 = r.not_type0; unbarred = refl })
 
 pub unsupported_iff : UnsupportedIff
 unsupported_iff ports p size = (to_unsupported ports p size (choice ports (bus_of p)) refl, from_unsupported ports p size)
@@ -310,9 +308,8 @@ good_choice : (ports : List Port) (bus : ℕ) → Good ports → is_bad (choice 
 good_choice ports bus g = go (choice ports bus) refl
   where
     go : (c : Choice) → choice ports bus ≡ c → is_bad c ≡ false
-    go BadList e = absurd ((chooses ports bus).bad.0 e g)
-    go (At place port) e = refl
-    go Nowhere e = refl
+    go (Err list) e = absurd ((chooses ports bus).bad.0 e g)
+    go (Ok exit) e = refl
 
 pub checks_in_order : ChecksInOrder
 checks_in_order ports p size =

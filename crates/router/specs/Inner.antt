@@ -4,8 +4,8 @@ use Rattle.answers.specs.Checks.{first_that_applies}
 use Rattle.packet.specs.declared.Request.{Request}
 use Rattle.packet.specs.declared.Target.TheVariants.{Type1}
 use Rattle.packet.specs.Request.{packet_number, request_of}
-use Rattle.ports.specs.declared.Port.{Port}
-use Rattle.ports.specs.declared.Choice.{Choice}
+use Rattle.ports.specs.declared.Exit.{Exit}
+use Rattle.ports.specs.Choice.{Choice}
 use Rattle.router.specs.Routing.{target_in, barred_at, router_checks, as_type0, leaving_by, Outcome, leaves_by, refused, by_number}
 use Rattle.router.specs.Promise.{over}
 
@@ -27,8 +27,8 @@ pub record Faultless (p : List ℕ) (q : Request) (buffer : List ℕ) : Type 0 w
   pub room : 20 ≤ length buffer
 
 -- past the check for Type 0 too, at a port
-abbrev pub passes_by : ℕ → Port → List ℕ → Outcome
-passes_by place port p = cond (barred_at port (target_in p)) (refused 4) (leaves_by place (leaving_by port p))
+abbrev pub passes_by : Exit → List ℕ → Outcome
+passes_by exit p = cond (barred_at exit.port (target_in p)) (refused 4) (leaves_by exit.place (leaving_by exit.port p))
 
 -- past the checks 1 to 6, the router's own decide
 abbrev pub passes : Choice → List ℕ → Outcome

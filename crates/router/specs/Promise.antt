@@ -1,11 +1,16 @@
 -- What the entries of this crate promise: all that a caller sees afterwards. Assumes nothing.
-use Rattle.std.specs.Prelude.{ℕ, Bool, true, false, List, ◌++◌, ◌≡◌, length, drop}
+use Rattle.std.specs.Prelude.{ℕ, Bool, true, false, List, ◌++◌, Result, Ok, Err, ◌≡◌, length, drop}
+use Rattle.answers.specs.declared.Refusal.{Refusal}
 use Rattle.answers.specs.Numbers.{number_of}
 use Rattle.ports.specs.declared.Port.{Port}
-use Rattle.ports.specs.declared.Choice.{Choice}
+use Rattle.ports.specs.Choice.{Choice}
 use Rattle.router.specs.declared.Verdict.{Verdict}
-use Rattle.router.specs.declared.Verdict.TheVariants.{Leaves, Unsupported, Refused}
+use Rattle.router.specs.declared.Verdict.TheVariants.{Leaves, Unsupported}
 use Rattle.router.specs.Routing.{Outcome, decide, route}
+
+-- what an entry answers
+abbrev pub Routed : Type 0
+Routed = Result Verdict Refusal
 
 -- as answered: the number, whether the packet leaves, by which port and with how many bytes; and the lent buffer
 pub record Seen : Type 0 where
@@ -16,10 +21,10 @@ pub record Seen : Type 0 where
   pub buffer : List ℕ
 
 -- what a call has shown: its result, and the buffer at its end
-abbrev pub told : Verdict → List ℕ → Seen
-told (Leaves port count) after = record { number = 0; leaves = true; port = port; count = count; buffer = after }
-told Unsupported after = record { number = 0; leaves = false; port = 0; count = 0; buffer = after }
-told (Refused refusal) after = record { number = number_of refusal; leaves = false; port = 0; count = 0; buffer = after }
+abbrev pub told : Routed → List ℕ → Seen
+told (Ok (Leaves port count)) after = record { number = 0; leaves = true; port = port; count = count; buffer = after }
+told (Ok Unsupported) after = record { number = 0; leaves = false; port = 0; count = 0; buffer = after }
+told (Err refusal) after = record { number = number_of refusal; leaves = false; port = 0; count = 0; buffer = after }
 
 -- "What leaves is written into a lent buffer": its bytes past the written ones stay
 abbrev pub over : List ℕ → List ℕ → List ℕ
@@ -37,9 +42,9 @@ shows o buffer =
     }
 
 -- the promise of `router::decide`: the choice, the packet and the buffer as lent, the result, and the buffer at its end
-abbrev pub Decides : Choice → List ℕ → List ℕ → Verdict → List ℕ → Type 0
+abbrev pub Decides : Choice → List ℕ → List ℕ → Routed → List ℕ → Type 0
 Decides c p buffer r after = told r after ≡ shows (decide c p (length buffer)) buffer
 
 -- the promise of `router::route`: the ports, the packet and the buffer as lent, the result, and the buffer at its end
-abbrev pub Routes : List Port → List ℕ → List ℕ → Verdict → List ℕ → Type 0
+abbrev pub Routes : List Port → List ℕ → List ℕ → Routed → List ℕ → Type 0
 Routes ports p buffer r after = told r after ≡ shows (route ports p (length buffer)) buffer

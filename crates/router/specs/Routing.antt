@@ -1,6 +1,6 @@
 -- Document 02, 1/13, "Route for the backplane": routing, as one function from the ports, the packet and the buffer's size to the number, and the port and
 -- the bytes by which it leaves. Assumes nothing.
-use Rattle.std.specs.Prelude.{ℕ, zero, suc, ◌+◌, ◌*◌, Bool, true, false, not, ◌&&◌, cond, List, [], ◌∷◌, ◌++◌, eqb, ltb}
+use Rattle.std.specs.Prelude.{ℕ, zero, suc, ◌+◌, ◌*◌, Bool, true, false, not, ◌&&◌, cond, List, [], ◌∷◌, ◌++◌, Some, None, Ok, Err, eqb, ltb}
 use Rattle.answers.specs.Checks.{Check, check, first_that_applies}
 use Rattle.words.specs.Bytes.{byte}
 use Rattle.words.specs.Fields.{bit}
@@ -9,10 +9,8 @@ use Rattle.packet.specs.declared.Target.TheVariants.{Type0, Type1, Trusted}
 use Rattle.packet.specs.Fields.{type_code}
 use Rattle.packet.specs.Request.{typed, target_of, packet_checks, is_trusted}
 use Rattle.ports.specs.declared.Port.{Port}
-use Rattle.ports.specs.declared.Choice.{Choice}
-use Rattle.ports.specs.declared.Choice.TheVariants.{BadList, At, Nowhere}
 use Rattle.ports.specs.Ports.{supports}
-use Rattle.ports.specs.Choice.{choice}
+use Rattle.ports.specs.Choice.{Choice, choice}
 
 -- what a packet is for: "8 bus", and the target of its type
 abbrev pub bus_of : List ℕ → ℕ
@@ -35,18 +33,17 @@ is_type1 Trusted = false
 
 -- "The list is refused with 1"
 abbrev pub is_bad : Choice → Bool
-is_bad BadList = true
-is_bad (At place port) = false
-is_bad Nowhere = false
+is_bad (Ok exit) = false
+is_bad (Err list) = true
 
 -- "A trusted request for a bus in a range leaves there unchanged if that port supports it, else 4."
 abbrev pub barred_at : Port → Target → Bool
 barred_at port target = is_trusted target && not (supports port)
 
 abbrev pub barred : Choice → Target → Bool
-barred BadList target = false
-barred (At place port) target = barred_at port target
-barred Nowhere target = false
+barred (Ok (Some exit)) target = barred_at exit.port target
+barred (Ok None) target = false
+barred (Err list) target = false
 
 -- "Type 0 at the router: 4.", and the trusted request's 4
 abbrev pub router_checks : Choice → List ℕ → List Check
@@ -101,9 +98,9 @@ refused n = record { number = n; leaves = false; port = 0; written = [] }
 
 -- a packet with no number but 0 (a bad list has one)
 abbrev pub by_port : Choice → List ℕ → Outcome
-by_port BadList p = unsupported
-by_port (At place port) p = leaves_by place (leaving_by port p)
-by_port Nowhere p = unsupported
+by_port (Ok (Some exit)) p = leaves_by exit.place (leaving_by exit.port p)
+by_port (Ok None) p = unsupported
+by_port (Err list) p = unsupported
 
 abbrev pub by_number : ℕ → Choice → List ℕ → Outcome
 by_number zero c p = by_port c p

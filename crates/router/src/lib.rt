@@ -6,17 +6,15 @@
 mod passing; // passing.rt: a request without a fault
 mod routing; // routing.rt: the checks, and the entry
 
-use answers::Refusal;
 pub use routing::{bus_of, decide, route};
 
 // The bytes that the buffer for what leaves must have.
 pub const LEAVING: usize = 20;
 
-// What becomes of a packet: it leaves by a port of the list, with so many bytes; it is an Unsupported Request (UR), for no port has its bus;
-// or it is refused.
-#[derive(Clone, Copy)]
+// What becomes of a packet that is not refused: it leaves by a port of the list, with so many bytes; or it is an Unsupported Request (UR), for no
+// port has its bus.
+#[derive(Clone, Copy, PartialEq, Eq)]
 pub enum Verdict {
     Leaves { port: u8, length: usize },
     Unsupported,
-    Refused(Refusal),
 }

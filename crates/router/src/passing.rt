@@ -7,40 +7,26 @@ ghost use Rattle.router.specs.Inner.{Ready, left, Faultless, passes_by, passes};
 use super::Verdict;
 use answers::Refusal;
 use packet::{Request, Target};
-use ports::{Choice, Port};
+use ports::{Exit, Port};
 
 fn is_type_0(request: Request) -> bool
     ensures { result ≡ is_type0 request.target }
 {
-    let target = request.target;
-    match target {
-        Target::Type0 => true,
-        Target::Type1 => false,
-        Target::Trusted => false,
-    }
+    request.target == Target::Type0
 }
 
 // A trusted request, at a port that does not support TCS routing.
 fn is_barred(request: Request, port: Port) -> bool
     ensures { result ≡ barred_at port request.target }
 {
-    let target = request.target;
-    if target.is_trusted() {
-        return port.tcs == 0;
-    }
-    false
+    request.target.is_trusted() && port.tcs == 0
 }
 
-// A Type 1 request leaves as Type 0 where its bus is the port's secondary.
+// A Type 1 request leaves as Type 0 where its bus is the port's secondary. (The bytes of a trusted one never alter.)
 fn turns(request: Request, port: Port) -> bool
     ensures { result ≡ turns request.target request.bus port }
 {
-    let target = request.target;
-    match target {
-        Target::Type0 => false,
-        Target::Type1 => request.bus == port.secondary,
-        Target::Trusted => false, // its bytes never alter
-    }
+    request.target == Target::Type1 && request.bus == port.secondary
 }
 
 // Writes what leaves: the packet, with the type code of Type 0 where it turns into that. The code's lowest bit tells the types apart.
@@ -48,38 +34,47 @@ fn leave(turned: bool, packet: &[u8], leaving: &mut [u8])
     requires { Ready packet.now turned leaving.old }
     ensures { leaving.new ≡ left turned packet.now leaving.old }
 {
-    words::put(leaving, 0, packet);
+    leaving[..packet.len()].copy_from_slice(packet);
     if turned {
         leaving[0] = packet[0] & 0xfe;
     }
 }
 
 // Routes a request that is not of Type 0 by the port that has its bus: refused if it is barred there, else it leaves.
-fn pass_by(place: u8, port: Port, request: Request, packet: &[u8], leaving: &mut [u8]) -> Verdict
+fn pass_by(
+    exit: Exit,
+    request: Request,
+    packet: &[u8],
+    leaving: &mut [u8],
+) -> Result<Verdict, Refusal>
     requires { Faultless packet.now request leaving.old }
-    ensures { told result leaving.new ≡ shows (passes_by place port packet.now) leaving.old }
+    ensures { told result leaving.new ≡ shows (passes_by exit packet.now) leaving.old }
 {
-    if is_barred(request, port) {
-        return Verdict::Refused(Refusal::UnknownType);
+    if is_barred(request, exit.port) {
+        return Err(Refusal::UnknownType);
     }
-    leave(turns(request, port), packet, leaving);
-    Verdict::Leaves {
-        port: place,
+    leave(turns(request, exit.port), packet, leaving);
+    Ok(Verdict::Leaves {
+        port: exit.place,
         length: packet.len(),
-    }
+    })
 }
 
 // Routes a request without a fault: Type 0 is for no port, and what has no port is unsupported.
-pub(super) fn pass(choice: Choice, request: Request, packet: &[u8], leaving: &mut [u8]) -> Verdict
+pub(super) fn pass(
+    exit: Option<Exit>,
+    request: Request,
+    packet: &[u8],
+    leaving: &mut [u8],
+) -> Result<Verdict, Refusal>
     requires { Faultless packet.now request leaving.old }
-    ensures { told result leaving.new ≡ shows (passes choice packet.now) leaving.old }
+    ensures { told result leaving.new ≡ shows (passes (Ok exit) packet.now) leaving.old }
 {
     if is_type_0(request) {
-        return Verdict::Refused(Refusal::UnknownType);
+        return Err(Refusal::UnknownType);
     }
-    match choice {
-        Choice::BadList => Verdict::Unsupported, // not reached: such a list is refused before
-        Choice::At(place, port) => pass_by(place, port, request, packet, leaving),
-        Choice::Nowhere => Verdict::Unsupported,
+    match exit {
+        Some(exit) => pass_by(exit, request, packet, leaving),
+        None => Ok(Verdict::Unsupported),
     }
 }

@@ -1,6 +1,6 @@
 // Routing a packet: the checks in their order, and then the request that it is.
 ghost use Rattle.std.specs.Prelude.{◌≡◌};
-ghost use Rattle.router.specs.Routing.{bus_of, is_bad};
+ghost use Rattle.router.specs.Routing.{bus_of};
 ghost use Rattle.router.specs.Promise.{Decides, Routes};
 
 use super::{LEAVING, Verdict, passing};
@@ -11,40 +11,23 @@ use ports::{Choice, Port};
 pub fn bus_of(packet: &[u8]) -> u8
     ensures { result ≡ bus_of packet.now }
 {
-    if packet.len() < 9 {
-        return 0;
-    }
-    packet[8]
-}
-
-fn is_bad(choice: Choice) -> bool
-    ensures { result ≡ is_bad choice }
-{
-    match choice {
-        Choice::BadList => true,
-        Choice::At(_, _) => false,
-        Choice::Nowhere => false,
-    }
+    packet.get(8).copied().unwrap_or(0)
 }
 
 // Routes a packet of any length by the choice that was made for its bus.
-pub fn decide(choice: Choice, packet: &[u8], leaving: &mut [u8]) -> Verdict
+pub fn decide(choice: Choice, packet: &[u8], leaving: &mut [u8]) -> Result<Verdict, Refusal>
     ensures { Decides choice packet.now leaving.old result leaving.new }
 {
-    if is_bad(choice) {
-        return Verdict::Refused(Refusal::BadDescription);
-    }
+    let exit = choice?;
     if leaving.len() < LEAVING {
-        return Verdict::Refused(Refusal::NoRoom);
+        return Err(Refusal::NoRoom);
     }
-    match packet::decode(packet) {
-        Err(refusal) => Verdict::Refused(refusal),
-        Ok(request) => passing::pass(choice, request, packet, leaving),
-    }
+    let request = packet::decode(packet)?;
+    passing::pass(exit, request, packet, leaving)
 }
 
 // Routes a packet of any length by a list of ports of any length, into a buffer of any length.
-pub fn route(ports: &[Port], packet: &[u8], leaving: &mut [u8]) -> Verdict
+pub fn route(ports: &[Port], packet: &[u8], leaving: &mut [u8]) -> Result<Verdict, Refusal>
     ensures { Routes ports.now packet.now leaving.old result leaving.new }
 {
     decide(ports::choose(ports, bus_of(packet)), packet, leaving)

@@ -2,38 +2,23 @@
 ghost use Rattle.std.specs.Prelude.{◌≡◌};
 ghost use Rattle.board.specs.Promise.{space_of};
 ghost use Rattle.pair.specs.Pair.{forgotten_both};
-ghost use Rattle.tandem.specs.Pairs.{function_of, kept_both, told_both, HostPairServes};
-ghost use Rattle.tandem.specs.Inner.{told_pair};
+ghost use Rattle.tandem.specs.Pairs.{kept_both, told_both, HostPairServes};
 
-use super::{HostCaptures, HostFunction, HostPairServed, captures};
-use pair::{Function, Served};
+use super::{HostCaptures, HostFunction, HostPairServed};
+use pair::{Captures, Function, Side};
 
-fn function_of(function: HostFunction) -> Function
-    ensures { result ≡ function_of function }
-{
-    Function {
-        number: function.function,
-        a: function.a as usize,
-        b: function.b as usize,
-    }
-}
+impl From<HostFunction> for Function {
+    ghost use Rattle.std.specs.Prelude.{◌≡◌};
+    ghost use Rattle.tandem.specs.Pairs.{function_of};
 
-// A refusal hands both captures back as they were given.
-fn told_pair(kept: HostCaptures, served: Served) -> HostPairServed
-    ensures { result ≡ told_pair kept served }
-{
-    let answer = served.answer;
-    let number = answer.number();
-    let after = served.kept;
-    let captures = if number == 0 {
-        captures::told_captures(after)
-    } else {
-        kept
-    };
-    HostPairServed {
-        length: served.length,
-        number,
-        kept: captures,
+    ghost from_gives = { λ given f. f ≡ function_of given };
+
+    fn from(given: HostFunction) -> Function {
+        Function {
+            number: given.function,
+            a: given.a as usize,
+            b: given.b as usize,
+        }
     }
 }
 
@@ -60,32 +45,50 @@ pub extern "C" fn thawribbon_serve_pair(
 ) -> HostPairServed
     ensures { HostPairServes edition primary alternate kept (space_of primary_ordinary.old primary_ordinary_rules.now primary_ordinary_marks.now) (space_of primary_trusted.old primary_trusted_rules.now primary_trusted_marks.now) (space_of alternate_ordinary.old alternate_ordinary_rules.now alternate_ordinary_marks.now) (space_of alternate_trusted.old alternate_trusted_rules.now alternate_trusted_marks.now) packet.now reply.old result primary_ordinary.new primary_trusted.new alternate_ordinary.new alternate_trusted.new reply.new }
 {
-    let served = pair::serve(
-        edition,
-        function_of(primary),
-        function_of(alternate),
-        captures::captures_of(kept),
-        primary_ordinary,
-        primary_ordinary_rules,
-        primary_ordinary_marks,
-        primary_trusted,
-        primary_trusted_rules,
-        primary_trusted_marks,
-        alternate_ordinary,
-        alternate_ordinary_rules,
-        alternate_ordinary_marks,
-        alternate_trusted,
-        alternate_trusted_rules,
-        alternate_trusted_marks,
-        packet,
-        reply,
-    );
-    told_pair(kept, served)
+    let captures = Captures::from(kept);
+    let mut first = Side {
+        function: Function::from(primary),
+        capture: captures.primary,
+        ordinary: primary_ordinary,
+        ordinary_rules: primary_ordinary_rules,
+        ordinary_marks: primary_ordinary_marks,
+        trusted: primary_trusted,
+        trusted_rules: primary_trusted_rules,
+        trusted_marks: primary_trusted_marks,
+    };
+    let mut second = Side {
+        function: Function::from(alternate),
+        capture: captures.alternate,
+        ordinary: alternate_ordinary,
+        ordinary_rules: alternate_ordinary_rules,
+        ordinary_marks: alternate_ordinary_marks,
+        trusted: alternate_trusted,
+        trusted_rules: alternate_trusted_rules,
+        trusted_marks: alternate_trusted_marks,
+    };
+    let answer = pair::serve(edition, &mut first, &mut second, packet, reply);
+    let after = Captures {
+        primary: first.capture,
+        alternate: second.capture,
+    };
+    match answer {
+        Ok(length) => HostPairServed {
+            length,
+            number: 0,
+            kept: HostCaptures::from(after),
+        },
+        // A refusal hands both captures back as they were given.
+        Err(refusal) => HostPairServed {
+            length: 0,
+            number: refusal.number(),
+            kept,
+        },
+    }
 }
 
 #[unsafe(no_mangle)]
 pub extern "C" fn thawribbon_reset_pair(kept: HostCaptures) -> HostCaptures
     ensures { result ≡ told_both (forgotten_both (kept_both kept)) }
 {
-    captures::told_captures(pair::reset(captures::captures_of(kept)))
+    HostCaptures::from(pair::reset(Captures::from(kept)))
 }

@@ -62,7 +62,7 @@ host_write_number p buffer r after e = says p buffer r after e
 
 said_number : (c : Completion) (said : Said) → (told_by_said c said).number ≡ 0
 unfolding told_fields
-said_number c (Shown first second third fourth) = refl
+said_number c (Shown four) = refl
 said_number c Done = refl
 said_number c Unsupported = refl
 

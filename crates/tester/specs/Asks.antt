@@ -1,14 +1,11 @@
 -- What the functions that are exported for a test host promise: the promises of `asking`, with a host's numbers in the place of enums. Assumes nothing.
-use Rattle.std.specs.Prelude.{ℕ, zero, suc, List, [], ◌∷◌, ◌≡◌}
+use Rattle.std.specs.Prelude.{ℕ, zero, suc, List, [], ◌∷◌, ◌≡◌, Result, Ok, Err}
+use Rattle.answers.specs.declared.Refusal.{Refusal}
 use Rattle.answers.specs.Numbers.{number_of}
 use Rattle.asking.specs.declared.Parts.{Parts}
-use Rattle.asking.specs.declared.Written.{Written}
-use Rattle.asking.specs.declared.Written.TheVariants as written
 use Rattle.asking.specs.declared.Said.{Said}
 use Rattle.asking.specs.declared.Said.TheVariants.{Shown, Done, Unsupported}
 use Rattle.asking.specs.declared.Completion.{Completion}
-use Rattle.asking.specs.declared.Heard.{Heard}
-use Rattle.asking.specs.declared.Heard.TheVariants as heard
 use Rattle.asking.specs.Writing.{SeenWritten, shows_written}
 use Rattle.asking.specs.Reading.{read_number, completion_of}
 use Rattle.tester.specs.declared.HostParts.{HostParts}
@@ -20,7 +17,7 @@ abbrev pub parts_by : HostParts → Parts
 parts_by p =
     record {
       kind = p.kind;
-      requester = record { high = p.requester_high; low = p.requester_low };
+      requester = p.requester;
       tag = p.tag;
       bus = p.bus;
       device = p.device;
@@ -30,12 +27,12 @@ parts_by p =
     }
 
 abbrev pub data_by : HostParts → List ℕ
-data_by p = p.first ∷ p.second ∷ p.third ∷ p.fourth ∷ []
+data_by p = p.«data»
 
 -- what was written, as a host is told it
-abbrev pub told_written : Written → HostWritten
-told_written (written.Bytes count) = record { length = count; number = 0 }
-told_written (written.Refused refusal) = record { length = 0; number = number_of refusal }
+abbrev pub told_written : Result ℕ Refusal → HostWritten
+told_written (Ok count) = record { length = count; number = 0 }
+told_written (Err refusal) = record { length = 0; number = number_of refusal }
 
 -- what a host sees after a call: the result, and the lent buffer
 pub record HostSees : Type 0 where
@@ -54,27 +51,22 @@ abbrev pub HostWrites : HostParts → List ℕ → HostWritten → List ℕ → 
 HostWrites p buffer r after = host_sees r after ≡ host_shown (shows_written (parts_by p) (data_by p) buffer)
 
 -- a completion, as a host is told it: its fields, what it says as a number, and its data
-unfoldable pub told_fields : Completion → ℕ → ℕ → ℕ → ℕ → ℕ → HostHeard
-told_fields c said first second third fourth =
+unfoldable pub told_fields : Completion → ℕ → List ℕ → HostHeard
+told_fields c said four =
     record {
       number = 0;
       said = said;
-      completer_high = c.completer.high;
-      completer_low = c.completer.low;
-      requester_high = c.requester.high;
-      requester_low = c.requester.low;
+      completer = c.completer;
+      requester = c.requester;
       tag = c.tag;
-      first = first;
-      second = second;
-      third = third;
-      fourth = fourth;
+      «data» = four;
     }
 
 -- 1 success with data, 2 success without, 3 UR
 abbrev pub told_by_said : Completion → Said → HostHeard
-told_by_said c (Shown first second third fourth) = told_fields c 1 first second third fourth
-told_by_said c Done = told_fields c 2 0 0 0 0
-told_by_said c Unsupported = told_fields c 3 0 0 0 0
+told_by_said c (Shown four) = told_fields c 1 four
+told_by_said c Done = told_fields c 2 (0 ∷ 0 ∷ 0 ∷ 0 ∷ [])
+told_by_said c Unsupported = told_fields c 3 (0 ∷ 0 ∷ 0 ∷ 0 ∷ [])
 
 abbrev pub told_completion : Completion → HostHeard
 told_completion c = told_by_said c c.said
@@ -85,20 +77,15 @@ nothing_heard n =
     record {
       number = n;
       said = 0;
-      completer_high = 0;
-      completer_low = 0;
-      requester_high = 0;
-      requester_low = 0;
+      completer = record { high = 0; low = 0 };
+      requester = record { high = 0; low = 0 };
       tag = 0;
-      first = 0;
-      second = 0;
-      third = 0;
-      fourth = 0;
+      «data» = 0 ∷ 0 ∷ 0 ∷ 0 ∷ [];
     }
 
-abbrev pub told_heard : Heard → HostHeard
-told_heard (heard.Says completion) = told_completion completion
-told_heard (heard.Refused refusal) = nothing_heard (number_of refusal)
+abbrev pub told_heard : Result Completion Refusal → HostHeard
+told_heard (Ok completion) = told_completion completion
+told_heard (Err refusal) = nothing_heard (number_of refusal)
 
 -- by its number: the completion, or the refusal
 abbrev pub heard_by : ℕ → List ℕ → HostHeard

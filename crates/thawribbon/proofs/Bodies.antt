@@ -12,7 +12,7 @@ use lib.Seq.{length-take-le, take-append_seam}
 use Rattle.answers.proofs.Unique.{number_positive}
 use Rattle.answers.specs.declared.Refusal.{Refusal}
 use Rattle.answers.specs.Numbers.{number_of}
-use Rattle.records.specs.declared.DvsecRead.TheVariants.{Refused}
+use Rattle.std.specs.Prelude.{Err}
 use Rattle.records.specs.DvsecRule.{DvsecTold, tells_dvsec, dvsec_says, dvsec_number, dvsec_body, body_from, header_at}
 use Rattle.records.proofs.Told.{dvsec_inside}
 use Rattle.thawribbon.specs.declared.HostPart.{HostPart}
@@ -33,7 +33,7 @@ part_found s at e =
     rw (e, extent, length-take-le ((header_at s at).length - 0x0a) (drop (at + 0x0a) s) fits)
 
 -- where it is refused
-pub part_refused : (s : List ℕ) (at : ℕ) (refusal : Refusal) → tells_dvsec (Refused refusal) ≡ dvsec_says s at
+pub part_refused : (s : List ℕ) (at : ℕ) (refusal : Refusal) → tells_dvsec (Err refusal) ≡ dvsec_says s at
     → ◌≡◌ {A = HostPart} (record { start = 0; length = 0 }) (body_part s at)
 unfolding body_part dvsec_says dvsec_body body_from
 part_refused s at refusal e =

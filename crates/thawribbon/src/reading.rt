@@ -5,21 +5,20 @@ ghost use Rattle.records.specs.DualRule.{dual_says};
 ghost use Rattle.thawribbon.specs.Records.{told_dvsec, told_dual, body_part};
 
 use super::{HostAlternate, HostDvsec, HostPart};
-use records::{DualRead, DvsecRead};
 
 #[unsafe(no_mangle)]
 pub extern "C" fn thawribbon_dvsec(space: &[u8], at: usize) -> HostDvsec
     ensures { result ≡ told_dvsec (dvsec_says space.now at) }
 {
     match records::dvsec(space, at) {
-        DvsecRead::Found(header) => HostDvsec {
+        Ok(header) => HostDvsec {
             number: 0,
             revision: header.revision,
             vendor: header.vendor,
             id: header.id,
             length: header.length,
         },
-        DvsecRead::Refused(refusal) => HostDvsec {
+        Err(refusal) => HostDvsec {
             number: refusal.number(),
             revision: 0,
             vendor: 0,
@@ -33,7 +32,7 @@ pub extern "C" fn thawribbon_dvsec(space: &[u8], at: usize) -> HostDvsec
 pub extern "C" fn thawribbon_dvsec_body(space: &[u8], at: usize) -> HostPart
     ensures { result ≡ body_part space.now at }
 {
-    let DvsecRead::Found(header) = records::dvsec(space, at) else {
+    let Ok(header) = records::dvsec(space, at) else {
         return HostPart {
             start: 0,
             length: 0,
@@ -51,12 +50,12 @@ pub extern "C" fn thawribbon_dual_bdf(space: &[u8], at: usize) -> HostAlternate
     ensures { result ≡ told_dual (dual_says space.now at) }
 {
     match records::dual_bdf(space, at) {
-        DualRead::Found(alternate) => HostAlternate {
+        Ok(alternate) => HostAlternate {
             number: 0,
             function: alternate.function,
             device: alternate.device,
         },
-        DualRead::Refused(refusal) => HostAlternate {
+        Err(refusal) => HostAlternate {
             number: refusal.number(),
             function: 0,
             device: 0,

@@ -9,8 +9,10 @@ use mathlib.Core.Logic.{◌↔◌}
 use mathlib.Core.Path.{◌≡◌, sym, ◌∙◌}
 use native.Mathlib.Omega.{arith}
 use lib.ListN.{length}
-use Rattle.answers.specs.Numbers.{answer_of}
-use Rattle.answers.specs.declared.Answer.{Answer}
+use Rattle.std.specs.Prelude.{Result, ⊤}
+use Rattle.answers.specs.Numbers.{answered}
+use Rattle.answers.specs.declared.Refusal.{Refusal}
+use Rattle.layout.specs.declared.Structure.{Structure}
 use Rattle.layout.specs.Structures.{are_bad}
 use Rattle.layout.specs.Accepting.{Acceptable, Checks, Checks.misdescribed, Checks.unaccepted, Checks.accepted}
 use Rattle.layout.specs.Proposing.{NoneAcceptable, Plans, Plans.misdescribed, Plans.roomless, Plans.unplaced, Plans.proposed}
@@ -18,35 +20,35 @@ use Rattle.layout.specs.Laying.{Written, Writes, Writes.misdescribed, Writes.una
 use Rattle.workshop.specs.Lays.{HostPlans, HostChecks, HostWrites}
 
 -- what a number says of structures that were to be planned
-pub record PlanTold (structures : List (List ℕ)) (room : List ℕ) (r : ℕ) (after : List ℕ) : Type 0 where
+pub record PlanTold (structures : List Structure) (room : List ℕ) (r : ℕ) (after : List ℕ) : Type 0 where
   pub number : Memᴰ r (0 ∷ 1 ∷ 2 ∷ 14 ∷ [])
   pub kept : (r ≡ 0 → ⊥) → after ≡ room
   pub none : are_bad structures ≡ false → length structures ≤ length room → (r ≡ 14) ↔ NoneAcceptable structures
 
 -- of a layout that was to be checked
-pub record CheckTold (structures : List (List ℕ)) (offsets : List ℕ) (r : ℕ) : Type 0 where
+pub record CheckTold (structures : List Structure) (offsets : List ℕ) (r : ℕ) : Type 0 where
   pub number : Memᴰ r (0 ∷ 1 ∷ 18 ∷ [])
   pub accepted : (r ≡ 0) ↔ (are_bad structures ≡ false) × Acceptable structures offsets
 
 -- of a layout that was to be written
-pub record WriteTold (structures : List (List ℕ)) (offsets s : List ℕ) (r : ℕ) (after : List ℕ) : Type 0 where
+pub record WriteTold (structures : List Structure) (offsets s : List ℕ) (r : ℕ) (after : List ℕ) : Type 0 where
   pub number : Memᴰ r (0 ∷ 1 ∷ 18 ∷ [])
   pub kept : (r ≡ 0 → ⊥) → after ≡ s
   pub done : r ≡ 0 → (are_bad structures ≡ false) × Acceptable structures offsets × Written structures offsets s after
 
 -- the statements
 abbrev pub HostPlanTold : Type 0
-HostPlanTold = (structures : List (List ℕ)) (room : List ℕ) (r : ℕ) (after : List ℕ) → HostPlans structures room r after → PlanTold structures room r after
+HostPlanTold = (structures : List Structure) (room : List ℕ) (r : ℕ) (after : List ℕ) → HostPlans structures room r after → PlanTold structures room r after
 
 abbrev pub HostCheckTold : Type 0
-HostCheckTold = (structures : List (List ℕ)) (offsets : List ℕ) (r : ℕ) → HostChecks structures offsets r → CheckTold structures offsets r
+HostCheckTold = (structures : List Structure) (offsets : List ℕ) (r : ℕ) → HostChecks structures offsets r → CheckTold structures offsets r
 
 abbrev pub HostWriteTold : Type 0
 HostWriteTold =
-    (structures : List (List ℕ)) (offsets s : List ℕ) (r : ℕ) (after : List ℕ) → HostWrites structures offsets s r after
+    (structures : List Structure) (offsets s : List ℕ) (r : ℕ) (after : List ℕ) → HostWrites structures offsets s r after
     → WriteTold structures offsets s r after
 
-module _ (structures : List (List ℕ)) (room : List ℕ) (r : ℕ) (after : List ℕ) (a : Answer) (told : r ≡ answer_of a) where
+module _ (structures : List Structure) (room : List ℕ) (r : ℕ) (after : List ℕ) (a : Result ⊤ Refusal) (told : r ≡ answered a) where
   plan_told : Plans structures room a after → PlanTold structures room r after
   plan_told (misdescribed bad refused) =
       record {
@@ -73,7 +75,7 @@ module _ (structures : List (List ℕ)) (room : List ℕ) (r : ℕ) (after : Lis
         none = λ good fits. (λ e. absurd (omega (arith, e, told, done)), λ n. absurd (n offsets lowest.acceptable));
       }
 
-module _ (structures : List (List ℕ)) (offsets : List ℕ) (r : ℕ) (a : Answer) (told : r ≡ answer_of a) where
+module _ (structures : List Structure) (offsets : List ℕ) (r : ℕ) (a : Result ⊤ Refusal) (told : r ≡ answered a) where
   check_told : Checks structures offsets a → CheckTold structures offsets r
   check_told (misdescribed bad given) =
       record {
@@ -88,7 +90,7 @@ module _ (structures : List (List ℕ)) (offsets : List ℕ) (r : ℕ) (a : Answ
   check_told (accepted good acceptable given) =
       record { number = Memᴰ.head (told ∙ given); accepted = (λ e. (good, acceptable), λ h. told ∙ given) }
 
-module _ (structures : List (List ℕ)) (offsets s : List ℕ) (r : ℕ) (after : List ℕ) (a : Answer) (told : r ≡ answer_of a) where
+module _ (structures : List Structure) (offsets s : List ℕ) (r : ℕ) (after : List ℕ) (a : Result ⊤ Refusal) (told : r ≡ answered a) where
   write_told : Writes structures offsets s a after → WriteTold structures offsets s r after
   write_told (misdescribed bad refused) =
       record {

@@ -8,8 +8,10 @@ use mathlib.Core.Path.{◌≡◌, sym, ap, subst, ◌∙◌}
 use native.Mathlib.Omega.{arith}
 use lib.ListN.{length, take, drop}
 use lib.Seq.{take-append_seam}
-use Rattle.answers.specs.Numbers.{answer_of}
-use Rattle.answers.specs.declared.Answer.{Answer}
+use Rattle.std.specs.Prelude.{Result, ⊤}
+use Rattle.answers.specs.Numbers.{answered}
+use Rattle.answers.specs.declared.Refusal.{Refusal}
+use Rattle.layout.specs.declared.Structure.{Structure}
 use Rattle.layout.specs.Structures.{are_bad}
 use Rattle.layout.specs.Accepting.{Acceptable}
 use Rattle.layout.specs.Proposing.{Plans, Plans.misdescribed, Plans.roomless, Plans.unplaced, Plans.proposed}
@@ -18,29 +20,29 @@ use Rattle.workshop.specs.Lays.{HostPlans, HostChecks, HostWrites}
 use Rattle.workshop.proofs.Numbers.{host_check_told}
 
 -- the offsets at the front of a room, one a structure
-abbrev pub front_of : List (List ℕ) → List ℕ → List ℕ
+abbrev pub front_of : List Structure → List ℕ → List ℕ
 front_of structures room = take (length structures) room
 
 -- the statements
 abbrev pub HostPlannedAccepted : Type 0
 HostPlannedAccepted =
-    (structures : List (List ℕ)) (room after : List ℕ) (r : ℕ) → HostPlans structures room 0 after
+    (structures : List Structure) (room after : List ℕ) (r : ℕ) → HostPlans structures room 0 after
     → HostChecks structures (front_of structures after) r → r ≡ 0
 
 abbrev pub HostPlannedWritten : Type 0
 HostPlannedWritten =
-    (structures : List (List ℕ)) (room after s : List ℕ) (r : ℕ) (later : List ℕ) → HostPlans structures room 0 after → length s ≡ 4096
+    (structures : List Structure) (room after s : List ℕ) (r : ℕ) (later : List ℕ) → HostPlans structures room 0 after → length s ≡ 4096
     → HostWrites structures (front_of structures after) s r later → r ≡ 0
 
 -- structures that may be laid out, and offsets that are acceptable for them
-abbrev Good : List (List ℕ) → List ℕ → Type 0
+abbrev Good : List Structure → List ℕ → Type 0
 Good structures offsets = (are_bad structures ≡ false) × Acceptable structures offsets
 
 seam_at : (offsets rest : List ℕ) (n : ℕ) → length offsets ≡ n → take n (offsets ++ rest) ≡ offsets
 seam_at offsets rest n e = subst (λ (k : ℕ). take k (offsets ++ rest) ≡ offsets) e (take-append_seam offsets rest)
 
-module _ (structures : List (List ℕ)) (room after : List ℕ) where
-  at_front : (a : Answer) → 0 ≡ answer_of a → Plans structures room a after → Good structures (front_of structures after)
+module _ (structures : List Structure) (room after : List ℕ) where
+  at_front : (a : Result ⊤ Refusal) → 0 ≡ answered a → Plans structures room a after → Good structures (front_of structures after)
   at_front a told (misdescribed bad refused) = absurd (omega (arith, told, refused.given))
   at_front a told (roomless good small refused) = absurd (omega (arith, told, refused.given))
   at_front a told (unplaced good fits none refused) = absurd (omega (arith, told, refused.given))
@@ -51,8 +53,8 @@ module _ (structures : List (List ℕ)) (room after : List ℕ) where
   planned_good : HostPlans structures room 0 after → Good structures (front_of structures after)
   planned_good h = at_front h.answer h.told h.plans
 
-good_written : (structures : List (List ℕ)) (offsets s : List ℕ) (a : Answer) (later : List ℕ) → Good structures offsets → length s ≡ 4096
-    → Writes structures offsets s a later → answer_of a ≡ 0
+good_written : (structures : List Structure) (offsets s : List ℕ) (a : Result ⊤ Refusal) (later : List ℕ) → Good structures offsets → length s ≡ 4096
+    → Writes structures offsets s a later → answered a ≡ 0
 good_written structures offsets s a later g whole (misdescribed bad refused) = absurd (⊎_elim (λ n. n whole) (λ b. true≢false (sym b ∙ g.0)) bad)
 good_written structures offsets s a later g whole (unaccepted w good n refused) = absurd (n g.1)
 good_written structures offsets s a later g whole (written w good acceptable given headers) = given

@@ -11,14 +11,14 @@ use layout::Structure;
 pub extern "C" fn thawribbon_plan_layout(structures: &[Structure], room: &mut [u16]) -> u8
     ensures { HostPlans structures.now room.old result room.new }
 {
-    layout::plan(structures, room).number()
+    answers::number(&layout::plan(structures, room))
 }
 
 #[unsafe(no_mangle)]
 pub extern "C" fn thawribbon_check_layout(structures: &[Structure], offsets: &[u16]) -> u8
     ensures { HostChecks structures.now offsets.now result }
 {
-    layout::check(structures, offsets).number()
+    answers::number(&layout::check(structures, offsets))
 }
 
 // The headers are put into the space, where the layout is accepted; the number comes back.
@@ -30,5 +30,5 @@ pub extern "C" fn thawribbon_write_layout(
 ) -> u8
     ensures { HostWrites structures.now offsets.now space.old result space.new }
 {
-    layout::write(structures, offsets, space).number()
+    answers::number(&layout::write(structures, offsets, space))
 }

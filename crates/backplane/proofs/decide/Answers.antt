@@ -5,4 +5,4 @@ use Rattle.backplane.proofs.decide.Goals as goal
 pub returns : goal.returns
 returns c =
     let a = c.args in
-    decides_told a.choice a.packet.now a.leaving.now c.decide.result _ _ c.decide.ensures c.told_verdict.ensures
+    decides_told a.choice a.packet.now a.leaving.now c.decide.result _ _ c.decide.ensures c.into.ensures

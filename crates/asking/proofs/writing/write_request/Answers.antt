@@ -1,6 +1,6 @@
 -- `asking::write_request` meets its contract: what the kind and the ranges leave is put down. Assumes nothing.
 use mathlib.Core.Path.{sym, ◌∙◌}
-use Rattle.asking.proofs.Laws.{inside, write_unknown, write_out_of_range, write_put, bytes_of_write, bytes_of_read}
+use Rattle.asking.proofs.Laws.{write_unknown, write_out_of_range, write_put, bytes_of_write, bytes_of_read}
 use Rattle.asking.proofs.writing.write_request.Goals as goal
 
 pub returns-in_default : goal.returns-in_default
@@ -11,21 +11,18 @@ returns-in_default c =
 pub returns-then-is_out_of_range : goal.returns-then-is_out_of_range
 returns-then-is_out_of_range c =
     let a = c.args in
-    write_out_of_range a.parts a.new a.buffer.now _ _ (sym c.type_of.ensures ∙ c.in-Known.is) (sym c.is_out_of_range.ensures ∙ c.if-is_out_of_range.true)
+    write_out_of_range a.parts a.new a.buffer.now _ (sym c.type_of.ensures ∙ c.in-Some.is) (sym c.is_out_of_range.ensures ∙ c.if-is_out_of_range.true)
 
-pub header_of-header-requires : goal.header_of-header-requires
-header_of-header-requires c = inside c.args.parts (sym c.is_out_of_range.ensures ∙ c.if-is_out_of_range.false)
-
-pub returns-then-writes : goal.returns-then-writes
-returns-then-writes c =
+pub returns-then-access : goal.returns-then-access
+returns-then-access c =
     let a = c.args in
     c.put_down.ensures
-    ∙ write_put a.parts a.new a.buffer.now _ _ (sym c.type_of.ensures ∙ c.in-Known.is) _ (sym c.is_out_of_range.ensures ∙ c.if-is_out_of_range.false)
-    (bytes_of_write a.parts a.new _ _ _ c.header_of-header.ensures c.with_data.ensures c.if-writes.true)
+    ∙ write_put a.parts a.new a.buffer.now _ (sym c.type_of.ensures ∙ c.in-Some.is) _ (sym c.is_out_of_range.ensures ∙ c.if-is_out_of_range.false)
+    (bytes_of_write a.parts a.new _ _ _ c.header_of-header.ensures c.with_data.ensures c.if-access.true)
 
-pub returns : goal.returns
-returns c =
+pub returns-else-access : goal.returns-else-access
+returns-else-access c =
     let a = c.args in
-    c.put_down-2.ensures
-    ∙ write_put a.parts a.new a.buffer.now _ _ (sym c.type_of.ensures ∙ c.in-Known.is) _ (sym c.is_out_of_range.ensures ∙ c.if-is_out_of_range.false)
-    (bytes_of_read a.parts a.new _ _ c.header_of-header.ensures c.if-writes.false)
+    c.put_down-else-access.ensures
+    ∙ write_put a.parts a.new a.buffer.now _ (sym c.type_of.ensures ∙ c.in-Some.is) _ (sym c.is_out_of_range.ensures ∙ c.if-is_out_of_range.false)
+    (bytes_of_read a.parts a.new _ _ c.header_of-header.ensures c.if-access.false)

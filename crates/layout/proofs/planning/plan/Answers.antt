@@ -1,26 +1,17 @@
 -- `layout::planning::plan` meets its contract: what is packed is the lowest proposal, and where it does not fit, there is none. Assumes nothing.
 use mathlib.Core.Path.{refl, sym, ◌∙◌}
-use Rattle.layout.specs.Proposing.{Plans.misdescribed, Plans.roomless, Plans.unplaced, Plans.proposed}
+use Rattle.layout.specs.Proposing.{Plans.unplaced, Plans.proposed}
 use Rattle.layout.specs.Inner.{packed_from}
 use Rattle.layout.proofs.Sound.{given}
 use Rattle.layout.proofs.Steps.{packed_length}
 use Rattle.layout.proofs.Packing.{packed_is_lowest, none_fits}
 use Rattle.layout.proofs.planning.plan.Goals as goal
 
-pub returns-then-are_bad : goal.returns-then-are_bad
-returns-then-are_bad c = misdescribed (sym c.are_bad.ensures ∙ c.if-are_bad.true) (record { given = refl; kept = refl })
-
-pub returns-then-room-structures : goal.returns-then-room-structures
-returns-then-room-structures c = roomless (sym c.are_bad.ensures ∙ c.if-are_bad.false) c.if-room-structures.true (record { given = refl; kept = refl })
-
 pub returns-then-not-fit : goal.returns-then-not-fit
 returns-then-not-fit c =
     let good = sym c.are_bad.ensures ∙ c.if-are_bad.false in
     unplaced good c.if-room-structures.false (none_fits (given _ good) (sym c.fit.ensures ∙ c.if-not-fit.true))
     (record { given = refl; kept = refl })
-
-pub propose-requires : goal.propose-requires
-propose-requires c = (c.if-room-structures.false, sym c.fit.ensures ∙ c.if-not-fit.false)
 
 pub returns : goal.returns
 returns c =

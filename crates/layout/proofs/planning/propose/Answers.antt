@@ -1,17 +1,14 @@
 -- `layout::planning::propose` meets its contract. The loop's invariant: so many offsets are in place, those that are left are packed from where it is, and they fit. Assumes nothing.
-use mathlib.Core.Path.{refl, ◌∙◌}
+use mathlib.Core.Path.{◌∙◌}
 use native.Mathlib.Omega.{arith}
-use lib.ListN.{length-set}
-use lib.Seq.{paste-zero}
-use Rattle.layout.specs.Inner.{packed_from}
 use Rattle.layout.proofs.Steps.{fits_on, fitting, packed_here, packed_on, packed_length, proposed_next, proposed_all}
 use Rattle.layout.proofs.planning.propose.Goals as goal
 
-pub loop-place-init : goal.loop-place-init
-loop-place-init c = (omega arith, c.requires.0, omega arith, c.requires.1, refl, paste-zero c.args.room.now 0 (packed_from 0x100 c.args.structures.now), refl)
+pub overflow_cast-room : goal.overflow_cast-room
+overflow_cast-room c = let l = c.loop-place in omega (arith, fitting _ l.at l.place c.loop-place-test.true l.invariant.1)
 
 pub overflow_add-at : goal.overflow_add-at
-overflow_add-at c = let l = c.loop-place in omega (arith, c.rounded_up-at.ensures, fitting _ l.at l.place c.loop-place-test.true l.invariant.3)
+overflow_add-at c = let l = c.loop-place in omega (arith, c.rounded_up-at.ensures, fitting _ l.at l.place c.loop-place-test.true l.invariant.1)
 
 pub loop-place-preserved : goal.loop-place-preserved
 loop-place-preserved c =
@@ -19,16 +16,13 @@ loop-place-preserved c =
     let l = c.loop-place in
     let here = c.loop-place-test.true in
     let same = packed_length 0x100 a.structures.now in
-    let h = fitting a.structures.now l.at l.place here l.invariant.3 in
+    let h = fitting a.structures.now l.at l.place here l.invariant.1 in
     let top = c.rounded_up-at.ensures in (
-      omega arith,
-      l.invariant.1,
-      omega arith,
-      rw top (fits_on _ l.at l.place here h ∙ l.invariant.3),
-      rw top (packed_on _ l.at l.place _ same here l.invariant.4),
-      proposed_next a.room.now l.room _ l.place l.invariant.5 (packed_here _ l.at l.place _ same here l.invariant.4) (omega arith) (omega arith),
-      simp length-set l.invariant.6,
+      l.invariant.0,
+      rw top (fits_on _ l.at l.place here h ∙ l.invariant.1),
+      rw top (packed_on _ l.at l.place _ same here l.invariant.2),
+      proposed_next a.room.now l.room _ l.place l.invariant.3 (packed_here _ l.at l.place _ same here l.invariant.2) (omega arith) (omega arith),
     )
 
 pub returns : goal.returns
-returns c = let l = c.loop-place in proposed_all c.args.room.now l.room _ l.place l.invariant.5 (omega (arith, l.invariant.0)) (packed_length 0x100 _)
+returns c = let l = c.loop-place in proposed_all c.args.room.now l.room _ l.place l.invariant.3 (omega arith) (packed_length 0x100 _)

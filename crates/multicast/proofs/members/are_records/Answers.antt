@@ -1,21 +1,14 @@
--- `multicast::members::are_records` meets its contract. The loop's invariant: the records that are left are records exactly if all are. Assumes nothing.
-use mathlib.Core.Path.{refl, sym, ◌∙◌}
-use native.Mathlib.Omega.{arith}
-use Rattle.multicast.proofs.Walks.{passed_record, failed_record, all_passed}
+-- `multicast::members::are_records` meets its contract: all are records exactly if no test of one fails. Assumes nothing.
+use mathlib.Core.Bool.{true, false}
+use mathlib.Core.Path.{◌≡◌}
+use borrow.Author.Tests.{tests}
+use Rattle.std.proofs.Common.{rules}
+use Rattle.std.proofs.lemmas.Iterator.{cases_from_all, YieldsList-from_slice}
+use Rattle.multicast.specs.Records.{is_record}
+use Rattle.multicast.proofs.Walks.{all_or_one_not}
 use Rattle.multicast.proofs.members.are_records.Goals as goal
 
-pub loop-place-init : goal.loop-place-init
-loop-place-init c = (omega arith, refl)
-
-pub returns-then-not-is_record : goal.returns-then-not-is_record
-returns-then-not-is_record c =
-    let l = c.loop-place in
-    failed_record _ l.place c.loop-place-test.true l.invariant.1 (sym c.is_record.ensures ∙ c.if-not-is_record.true)
-
-pub loop-place-preserved : goal.loop-place-preserved
-loop-place-preserved c =
-    let l = c.loop-place in
-    (omega arith, passed_record _ l.place c.loop-place-test.true l.invariant.1 (sym c.is_record.ensures ∙ c.if-not-is_record.false))
-
 pub returns : goal.returns
-returns c = let l = c.loop-place in all_passed _ l.place (omega (arith, l.invariant.0)) l.invariant.1
+returns c =
+    all_or_one_not c.args.ports.now c.all.result
+    (cases_from_all _ _ _ (λ r. is_record r ≡ true) (λ r. is_record r ≡ false) c.all.ensures.ran (YieldsList-from_slice c.args.ports.now cc) (λ x q k. search (rules, tests)) (λ x q k. search (rules, tests)))

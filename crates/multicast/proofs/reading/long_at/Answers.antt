@@ -1,11 +1,10 @@
--- `multicast::reading::long_at` meets its contract: two words that lie in the space are joined. Assumes nothing.
-use mathlib.Core.Path.{ap₂, ◌∙◌}
+-- `multicast::reading::long_at` meets its contract: eight bytes that lie in the space are joined. Assumes nothing.
+use mathlib.Core.Path.{◌∙◌}
 use native.Mathlib.Omega.{arith}
-use Rattle.words.proofs.Laws.{word_inside}
-use Rattle.multicast.specs.Capability.{long_of}
+use Rattle.words.proofs.Laws.{four_inside}
+use Rattle.multicast.proofs.Stands.{long_stands}
 use Rattle.multicast.proofs.reading.long_at.Goals as goal
 
 pub returns : goal.returns
 returns c =
-    c.long.ensures
-    ∙ ap₂ long_of (c.word.ensures ∙ word_inside _ _ (omega arith)) (c.word-2.ensures ∙ word_inside _ _ (omega arith))
+    long_stands c.args.space.now c.args.at (c.four.ensures ∙ four_inside _ _ (omega arith)) (c.four-2.ensures ∙ four_inside _ _ (omega arith)) c.from_le_bytes.ensures

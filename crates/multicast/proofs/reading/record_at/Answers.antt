@@ -7,11 +7,6 @@ use Rattle.multicast.proofs.reading.record_at.Goals as goal
 
 pub returns : goal.returns
 returns c =
-    let third = c in
-    let second = third in
-    let first = second in
-    let control = first in
-    let maximum = control in
-    let bytes = maximum.four-counts.ensures ∙ four_inside _ _ (omega arith) in
-    let a = maximum.args in
-    record_stands _ _ c.record_of.ensures (maximum.half.ensures ∙ first_half a.space.now a.at bytes) (control.half-2.ensures ∙ second_half a.space.now a.at bytes) first.long_at.ensures second.long_at-2.ensures third.long_at-3.ensures
+    let bytes = c.four.ensures ∙ four_inside _ _ (omega arith) in
+    let a = c.args in
+    record_stands _ _ c.record_of.ensures (first_half a.space.now a.at bytes c.from_le_bytes.ensures) (second_half a.space.now a.at bytes c.from_le_bytes-2.ensures) c.long_at.ensures c.long_at-2.ensures c.long_at-3.ensures

@@ -1,13 +1,9 @@
 -- `report::section::compatible_entry` meets its contract: each digit is the one that the line has there. Assumes nothing.
-use native.Mathlib.Omega.{arith}
 use Rattle.report.proofs.Lines.{compatible_line}
 use Rattle.report.proofs.section.compatible_entry.Goals as goal
 
-pub overflow_cast-id : goal.overflow_cast-id
-overflow_cast-id c = omega (arith, c.type_inv.space c.args.at)
-
-pub returns : goal.returns
-returns c =
+pub returns-clause-written : goal.returns-clause-written
+returns-clause-written c =
     let a = c.args in
     rw (
       compatible_line a.space.now a.at,
@@ -16,4 +12,4 @@ returns c =
       ← c.hex_digit-3.ensures,
       ← c.hex_digit-4.ensures,
       ← c.hex_digit-5.ensures,
-    ) c.append.ensures
+    ) c.append.ensures.written

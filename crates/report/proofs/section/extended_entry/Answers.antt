@@ -5,8 +5,8 @@ use Rattle.words.proofs.Laws.{word_inside}
 use Rattle.report.proofs.Lines.{extended_line}
 use Rattle.report.proofs.section.extended_entry.Goals as goal
 
-pub returns : goal.returns
-returns c =
+pub returns-clause-written : goal.returns-clause-written
+returns-clause-written c =
     rw (
       extended_line c.args.space.now c.args.at,
       ← (c.word-header.ensures ∙ word_inside c.args.space.now c.args.at (omega (arith, c.requires))),
@@ -18,4 +18,4 @@ returns c =
       ← c.hex_digit-6.ensures,
       ← c.hex_digit-7.ensures,
       ← c.hex_digit-8.ensures,
-    ) c.append.ensures
+    ) c.append.ensures.written

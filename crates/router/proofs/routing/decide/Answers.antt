@@ -1,49 +1,45 @@
 -- `router::routing::decide` meets its contract: the checks in their order, then the request. Assumes nothing.
-use mathlib.Core.Path.{sym, ap, subst, ◌∙◌}
+use mathlib.Core.Path.{sym, ap, ◌∙◌}
 use lib.ListN.{length}
 use borrow.Author.Rules.{rules}
+use Rattle.std.specs.Prelude.{Err}
+use Rattle.std.proofs.lemmas.Result.{err_from_is_err_and}
 use Rattle.answers.proofs.Unique.{number_positive}
-use Rattle.packet.specs.Request.{Decodes}
-use Rattle.router.specs.Routing.{Outcome}
-use Rattle.router.specs.Promise.{shows}
+use Rattle.ports.specs.Choice.{Choice}
+use Rattle.router.specs.Routing.{Outcome, is_bad}
+use Rattle.router.specs.Promise.{Routed, told, shows}
+use Rattle.router.specs.Inner.{passes}
 use Rattle.router.proofs.Laws.{refused_shows, bad_number, room_number, packet_number_lem, passes_decides}
 use Rattle.router.proofs.routing.decide.Goals as goal
 
-pub returns-then-is_bad : goal.returns-then-is_bad
-returns-then-is_bad c =
-    let s = c in
-    let p = s.args.packet.now in
-    let b = s.args.leaving.now in
-    refused_shows s.args.choice p b 1 (search rules) (bad_number s.args.choice p (length b) (sym c.is_bad.ensures ∙ c.if-is_bad.true))
+pub returns-in_err-exit : goal.returns-in_err-exit
+returns-in_err-exit c =
+    let p = c.args.packet.now in
+    let b = c.args.leaving.now in
+    let r = err_from_is_err_and c.from_residual.result c.from_residual.ensures.1 in
+    ap (λ (x : Routed). told x b) (r.1 ∙ ap Err r.2)
+    ∙ refused_shows c.args.choice p b 1 (search rules) (bad_number c.args.choice p (length b) (ap is_bad c.in_err-exit.was))
 
 pub returns-then-leaving-lt-LEAVING : goal.returns-then-leaving-lt-LEAVING
 returns-then-leaving-lt-LEAVING c =
-    let s = c in
-    let p = s.args.packet.now in
-    let b = s.args.leaving.now in
-    refused_shows s.args.choice p b 2 (search rules) (room_number s.args.choice p (length b) (sym c.is_bad.ensures ∙ c.if-is_bad.false) c.if-leaving-lt-LEAVING.true)
+    let p = c.args.packet.now in
+    let b = c.args.leaving.now in
+    refused_shows c.args.choice p b 2 (search rules) (room_number c.args.choice p (length b) (ap is_bad c.in_ok-exit.was) c.if-leaving-lt-LEAVING.true)
 
-pub pass-requires : goal.pass-requires
-pass-requires c =
-    let s = c in
-    let p = s.args.packet.now in
-    let b = s.args.leaving.now in
-    let d = subst (Decodes p) c.in-Ok.is c.decode.ensures in
-    record { number = d.0; request = d.1; room = c.if-leaving-lt-LEAVING.false }
+pub returns-in_err-request : goal.returns-in_err-request
+returns-in_err-request c =
+    let p = c.args.packet.now in
+    let b = c.args.leaving.now in
+    let f = c.in_err-request.field-0.0 in
+    let r = err_from_is_err_and c.from_residual-in_err-request.result c.from_residual-in_err-request.ensures.1 in
+    let d = c.in_err-request.ensures in
+    ap (λ (x : Routed). told x b) (r.1 ∙ ap Err r.2)
+    ∙ refused_shows c.args.choice p b _ (number_positive f) (packet_number_lem c.args.choice p (length b) (ap is_bad c.in_ok-exit.was) c.if-leaving-lt-LEAVING.false (λ e. number_positive f (sym d ∙ e)) ∙ d)
 
-pub returns-in-Err : goal.returns-in-Err
-returns-in-Err c =
-    let s = c in
-    let p = s.args.packet.now in
-    let b = s.args.leaving.now in
-    let d = subst (Decodes p) c.in-Err.is c.decode.ensures in
-    refused_shows s.args.choice p b _ (number_positive c.in-Err.refusal) (packet_number_lem s.args.choice p (length b) (sym c.is_bad.ensures ∙ c.if-is_bad.false) c.if-leaving-lt-LEAVING.false (λ e. number_positive c.in-Err.refusal (sym d ∙ e)) ∙ d)
-
-pub returns-in-Ok : goal.returns-in-Ok
-returns-in-Ok c =
-    let s = c in
-    let p = s.args.packet.now in
-    let b = s.args.leaving.now in
-    let d = subst (Decodes p) c.in-Ok.is c.decode.ensures in
+pub returns : goal.returns
+returns c =
+    let p = c.args.packet.now in
+    let b = c.args.leaving.now in
     c.pass.ensures
-    ∙ ap (λ (o : Outcome). shows o b) (sym (passes_decides s.args.choice p (length b) (sym c.is_bad.ensures ∙ c.if-is_bad.false) c.if-leaving-lt-LEAVING.false d.0))
+    ∙ ap (λ (o : Outcome). shows o b) (ap (λ (x : Choice). passes x p) (sym c.in_ok-exit.was)
+    ∙ sym (passes_decides c.args.choice p (length b) (ap is_bad c.in_ok-exit.was) c.if-leaving-lt-LEAVING.false c.in_ok-request.ensures.0))

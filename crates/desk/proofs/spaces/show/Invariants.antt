@@ -1,8 +1,0 @@
--- `desk::spaces::show` is safe and ends. Assumes nothing.
-use Rattle.desk.proofs.spaces.show.Given as goal
-
-abbrev pub invariant-loop-left : goal.invariant-loop-left
-invariant-loop-left l = Unit {0}
-
-abbrev pub decreases-loop-left : goal.decreases-loop-left
-decreases-loop-left l = l.left
