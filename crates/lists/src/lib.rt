@@ -4,7 +4,7 @@
 // scans the space. A refusal leaves the room as it was lent.
 ghost use Rattle.std.specs.Prelude.{◌≡◌, ◌≤◌, ◌<◌, length};
 ghost use Rattle.lists.specs.Table.{describe};
-ghost use Rattle.lists.specs.Walks.{Walks, WholeSpace, Roomy, Lists};
+ghost use Rattle.lists.specs.Walks.{Walks, Roomy, Lists};
 ghost use Rattle.lists.specs.Inner.{offset_of, last_of, Underway, Stops, Words, Onward, Told};
 
 use answers::Refusal;
@@ -37,7 +37,9 @@ const SHORT: usize = COMPATIBLE_MAXIMUM;
 
 const LONG: usize = TRUSTED_MAXIMUM;
 
-// Lists the offsets of a list's headers in `room`, in order, and answers how many there are.
+// Lists the offsets of a list's headers in `room`, in order, and answers how many there are. Where a caller says which list, its walk alone is compiled
+// into it.
+#[inline(always)]
 pub fn walk(kind: Kind, space: &[u8], room: &mut [u16]) -> Result<usize, Refused>
     ensures { Walks kind space.now room.old result room.new }
 {

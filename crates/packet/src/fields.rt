@@ -1,6 +1,6 @@
 // Header fields by shift and mask, each from the bytes that hold it.
 ghost use Rattle.std.specs.Prelude.{◌≡◌, eqb};
-ghost use Rattle.packet.specs.Fields.{type_code, refuses_bit7, type_of, digest, poison, first_enables, device_of, function_of, length_field, offset_of, wrong_field, whole_length};
+ghost use Rattle.packet.specs.Fields.{type_code, refuses_bit7, type_of, poison, first_enables, device_of, function_of, length_field, offset_of, wrong_field, whole_length};
 
 use super::{Access, Target};
 

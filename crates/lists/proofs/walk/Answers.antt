@@ -2,9 +2,7 @@
 use mathlib.Core.Path.{◌≡◌, sym}
 use mathlib.Core.List.{List}
 use Prim.Native.Nat.{ℕ}
-use Rattle.std.specs.Prelude.{Result}
 use Rattle.lists.specs.declared.Kind.{Kind}
-use Rattle.lists.specs.declared.Kind.TheVariants.{Compatible, Extended, Trusted}
 use Rattle.lists.specs.Walks.{Walks, Walked}
 use Rattle.lists.proofs.walk.Goals as goal
 
