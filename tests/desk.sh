@@ -1034,7 +1034,7 @@ fi
 
 # Each word of the desk stands in what `help` writes.
 echo help | desk 2>&1 | tr -c 'A-Za-z-' '\n' | sort -u >"$work/help"
-sed -n '/b"help$/,/^",$/p' crates/desk/src/vocabulary.rt | tr -d '" ' | sed 's/^bhelp$/help/' | grep '^[A-Za-z]' | sort -u >"$work/words"
+sed -n 's/^    ("\([A-Za-z-]*\)", Word::.*/\1/p' crates/desk/src/vocabulary.rt | grep '^[A-Za-z]' | sort -u >"$work/words"
 absent=$(comm -13 "$work/help" "$work/words" | tr '\n' ' ')
 if [ "$(wc -l <"$work/words")" -ge 50 ] && [ -z "$absent" ]; then echo "ok desk, help has each of its $(wc -l <"$work/words") words"; else echo "FAILED desk, help lacks: $absent"; fi
 

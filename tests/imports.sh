@@ -44,6 +44,8 @@ unused() {
     /^(ghost |pub )?use / {
         if ($0 ~ /^pub /) next
         sub(/;$/, "")
+        # self in a list is the module that the list is of
+        if (match($0, /::\{/)) { module = substr($0, 1, RSTART - 1); sub(/^.*(::| )/, "", module); sub(/\{self/, "{" module); sub(/, self/, ", " module) }
         if (match($0, /\{.*\}$/)) bring(substr($0, RSTART + 1, RLENGTH - 2))
         else if (match($0, / as [^ ]*$/)) brought[substr($0, RSTART + 4)]
         else if (match($0, /(::|\.)[^ .:]*$/)) brought[bare(substr($0, RSTART))]

@@ -4,22 +4,22 @@ use mathlib.Core.List.{[], ◌∷◌}
 use mathlib.Core.Path.{◌≡◌, refl, sym, ap, ◌∙◌}
 use native.Mathlib.Omega.{arith}
 use lib.ListN.{get_or}
+use Rattle.std.specs.Prelude.{Result, Ok, Err}
 use Rattle.answers.specs.declared.Refusal.{Refusal}
 use Rattle.answers.specs.declared.Refusal.TheVariants.{BadDescription, NoRoom, ShortPacket, UnknownType, WrongLength, WrongField, OtherStructure, WrongExtent, NotOneFunction, BelowFloor, ComesBack, WrongGroups, NoLayout, NotAccepted}
-use Rattle.answers.specs.declared.Answer.{Answer}
-use Rattle.answers.specs.declared.Answer.TheVariants.{Done, Refused}
-use Rattle.answers.specs.Numbers.{number_of, answer_of}
+use Rattle.answers.specs.Numbers.{number_of, answered}
 
 -- the statements
 abbrev pub NumberTells : Type 0
 NumberTells = (r q : Refusal) → number_of r ≡ number_of q → r ≡ q
 
-abbrev pub AnswerTells : Type 0
-AnswerTells = (r q : Answer) → answer_of r ≡ answer_of q → r ≡ q
+-- of an answer that holds nothing which could differ
+abbrev pub AnswerTells : Type 1
+AnswerTells = (A : Type 0) → ((x y : A) → x ≡ y) → (r q : Result A Refusal) → answered r ≡ answered q → r ≡ q
 
 -- document 02, 3/13
-abbrev pub NoSeven : Type 0
-NoSeven = (answer : Answer) → answer_of answer ≡ 7 → ⊥
+abbrev pub NoSeven : Type 1
+NoSeven = (A : Type 0) (answer : Result A Refusal) → answered answer ≡ 7 → ⊥
 
 -- the refusal that a number stands for (the first, where it stands for none)
 refusal_of : ℕ → Refusal
@@ -65,8 +65,8 @@ number_positive NotAccepted e = omega arith
 
 -- "7 is no longer given": no answer has that number
 pub no_seven : NoSeven
-no_seven Done e = omega arith
-no_seven (Refused r) e = none r e
+no_seven A (Ok value) e = omega arith
+no_seven A (Err r) e = none r e
   where
     none : (r : Refusal) → number_of r ≡ 7 → ⊥
     none BadDescription e = omega arith
@@ -85,14 +85,14 @@ no_seven (Refused r) e = none r e
     none NotAccepted e = omega arith
 
 pub answer_tells : AnswerTells
-answer_tells Done Done e = refl
-answer_tells Done (Refused q) e = absurd (number_positive q (sym e))
-answer_tells (Refused r) Done e = absurd (number_positive r e)
-answer_tells (Refused r) (Refused q) e = ap Refused (number_tells r q e)
+answer_tells A alike (Ok x) (Ok y) e = ap Ok (alike x y)
+answer_tells A alike (Ok x) (Err q) e = absurd (number_positive q (sym e))
+answer_tells A alike (Err r) (Ok y) e = absurd (number_positive r e)
+answer_tells A alike (Err r) (Err q) e = ap Err (number_tells r q e)
 
 -- the entries of this crate: a second number that meets the promise is the same
 pub refusal_number_unique : (refusal : Refusal) (r q : ℕ) → r ≡ number_of refusal → q ≡ number_of refusal → r ≡ q
 refusal_number_unique refusal r q e f = e ∙ sym f
 
-pub answer_number_unique : (answer : Answer) (r q : ℕ) → r ≡ answer_of answer → q ≡ answer_of answer → r ≡ q
-answer_number_unique answer r q e f = e ∙ sym f
+pub number_unique : {A : Type 0} (answer : Result A Refusal) (r q : ℕ) → r ≡ answered answer → q ≡ answered answer → r ≡ q
+number_unique answer r q e f = e ∙ sym f

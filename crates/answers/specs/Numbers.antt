@@ -2,8 +2,6 @@
 use Rattle.std.specs.Prelude.{ℕ, Result, Ok, Err}
 use Rattle.answers.specs.declared.Refusal.{Refusal}
 use Rattle.answers.specs.declared.Refusal.TheVariants.{BadDescription, NoRoom, ShortPacket, UnknownType, WrongLength, WrongField, OtherStructure, WrongExtent, NotOneFunction, BelowFloor, ComesBack, WrongGroups, NoLayout, NotAccepted}
-use Rattle.answers.specs.declared.Answer.{Answer}
-use Rattle.answers.specs.declared.Answer.TheVariants.{Done, Refused}
 
 -- 1 a space, device, function number, offset or, by 9/13, edition is out of its range, and by document 02, 6/13, "A bit marked both [as cleared by writing 1] and as writable" or
 -- "another buffer length" of the marks · 2 no room · 3 fewer than 12 bytes · 4 not one of the six
@@ -28,12 +26,7 @@ number_of WrongGroups = 13
 number_of NoLayout = 14
 number_of NotAccepted = 18
 
--- 0 served; any other number, the refusal's
-abbrev pub answer_of : Answer → ℕ
-answer_of Done = 0
-answer_of (Refused refusal) = number_of refusal
-
--- the same of a result, whatever it holds
+-- 0 served, whatever the answer then holds; any other number, the refusal's
 abbrev pub answered : {A : Type 0} → Result A Refusal → ℕ
 answered (Ok value) = 0
 answered (Err refusal) = number_of refusal

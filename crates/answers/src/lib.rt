@@ -2,7 +2,7 @@
 // The answer numbers of document 01, with those of document 02 that are built, named once. What a public entry answers is a `Result` whose error is a
 // refusal, and its number is `number_of` or `answered` of specs/Numbers.antt.
 ghost use Rattle.std.specs.Prelude.{◌≡◌};
-ghost use Rattle.answers.specs.Numbers.{number_of, answer_of, answered};
+ghost use Rattle.answers.specs.Numbers.{number_of, answered};
 
 // Why nothing was done, each with its number.
 #[derive(Clone, Copy, PartialEq, Eq)]
@@ -23,12 +23,6 @@ pub enum Refusal {
     NotAccepted = 18,
 }
 
-#[derive(Clone, Copy)]
-pub enum Answer {
-    Done, // 0
-    Refused(Refusal),
-}
-
 impl Refusal {
     pub fn number(self) -> u8
         ensures { result ≡ number_of self }
@@ -37,18 +31,7 @@ impl Refusal {
     }
 }
 
-impl Answer {
-    pub fn number(self) -> u8
-        ensures { result ≡ answer_of self }
-    {
-        match self {
-            Answer::Done => 0,
-            Answer::Refused(refusal) => refusal.number(),
-        }
-    }
-}
-
-// The number of any answer: 0 where it is no refusal.
+// The number of an answer, whatever it holds: 0 where it is no refusal.
 pub fn number<T>(answer: &Result<T, Refusal>) -> u8
     ensures { result ≡ answered answer.now }
 {

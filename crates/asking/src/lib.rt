@@ -11,6 +11,7 @@ pub use reading::read_completion;
 pub use writing::write_request;
 
 // The parts of a request, but for a write's data. The kind is the type code: 04h, 44h (read, write, Type 0), 05h, 45h (Type 1), 1Bh, 5Bh (trusted).
+// (A byte and no enum: any kind may be given, and one outside these six is answered 1.)
 #[derive(Clone, Copy, PartialEq, Eq)]
 pub struct Parts {
     pub kind: u8,

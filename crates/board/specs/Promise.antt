@@ -4,6 +4,7 @@ use Rattle.answers.specs.declared.Refusal.{Refusal}
 use Rattle.answers.specs.Numbers.{answered}
 use Rattle.capture.specs.declared.Capture.{Capture}
 use Rattle.board.specs.declared.Board.{Board as Lent}
+use Rattle.board.specs.declared.Look.{Look}
 use Rattle.board.specs.Description.{Space, with_bytes, Board}
 use Rattle.board.specs.Serving.{Outcome, serve}
 
@@ -33,6 +34,16 @@ space_of bytes rules marks = record { bytes = bytes; rules = rules; marks = mark
 -- the board that a caller lends: its description and capture, and the six buffers as they are
 abbrev pub lent : Lent → Board
 lent b =
+    record {
+      description = b.description;
+      capture = b.capture;
+      ordinary = space_of b.ordinary.now b.ordinary_rules.now b.ordinary_marks.now;
+      trusted = space_of b.trusted.now b.trusted_rules.now b.trusted_marks.now;
+    }
+
+-- the board that a caller lends only to be looked at
+abbrev pub looked_at : Look → Board
+looked_at b =
     record {
       description = b.description;
       capture = b.capture;

@@ -1,6 +1,5 @@
 // The completion, written at the start of the reply.
 ghost use Rattle.std.specs.Prelude.{◌≡◌, ◌≤◌, length};
-ghost use Rattle.capture.specs.Kept.{completer};
 ghost use Rattle.board.specs.Serving.{replies, replies_data, completer_of};
 ghost use Rattle.board.specs.Promise.{lent, over};
 ghost use Rattle.board.specs.Inner.{Leaves, Readable};

@@ -1,10 +1,10 @@
 // Whether a board is badly described: its buffers, its numbers, and the bits that are marked.
 ghost use Rattle.std.specs.Prelude.{◌≡◌, ◌||◌};
 ghost use Rattle.board.specs.Description.{other_edition, out_of_range, wrong_sizes, badly_described};
-ghost use Rattle.board.specs.Promise.{lent};
+ghost use Rattle.board.specs.Promise.{looked_at};
 ghost use Rattle.capture.specs.Kept.{device_over};
 
-use super::{Board, marking};
+use super::{Look, marking};
 use capture::Capture;
 
 // The lowest places of A and of B, and the highest of both.
@@ -27,10 +27,10 @@ fn is_other_edition(edition: u32) -> bool
     edition < packet::EDITION_1 || packet::EDITION_2 < edition
 }
 
-impl Board<'_> {
+impl Look<'_> {
     // One of the six buffers has another size.
     fn has_wrong_size(&self) -> bool
-        ensures { result ≡ (wrong_sizes (lent self.now).ordinary || wrong_sizes (lent self.now).trusted) }
+        ensures { result ≡ (wrong_sizes (looked_at self.now).ordinary || wrong_sizes (looked_at self.now).trusted) }
     {
         self.ordinary.len() != words::SPACE
             || self.ordinary_rules.len() != words::SPACE
@@ -53,7 +53,7 @@ impl Board<'_> {
     // Answer 1: the sizes and the board's numbers first, which are soon looked at, and then every bit of the rules and marks.
     #[tactic(auto, unfolding(crate::specs::Description::badly_described))]
     pub fn is_badly_described(&self) -> bool
-        ensures { result ≡ badly_described (lent self.now) }
+        ensures { result ≡ badly_described (looked_at self.now) }
     {
         self.has_wrong_size()
             || self.is_out_of_range()

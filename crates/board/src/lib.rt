@@ -1,6 +1,6 @@
 #![tactic(auto)]
 // One function of one endpoint: every configuration packet answered, and every space left, as document 01 says.
-// `Board::serve`, `Board::is_badly_described` and `reset` are the entries; what they promise for every input is specs/Promise.antt over
+// `Board::serve`, `Look::is_badly_described` and `reset` are the entries; what they promise for every input is specs/Promise.antt over
 // specs/Serving.antt, and specs/Description.antt.
 mod access;
 mod completing;
@@ -30,6 +30,19 @@ pub struct Board<'a> {
     pub ordinary_rules: &'a [u8],
     pub ordinary_marks: &'a [u8],
     pub trusted: &'a mut [u8],
+    pub trusted_rules: &'a [u8],
+    pub trusted_marks: &'a [u8],
+}
+
+// A board that is only looked at: the same, with nothing to write.
+#[derive(Clone, Copy)]
+pub struct Look<'a> {
+    pub description: Description,
+    pub capture: Capture,
+    pub ordinary: &'a [u8],
+    pub ordinary_rules: &'a [u8],
+    pub ordinary_marks: &'a [u8],
+    pub trusted: &'a [u8],
     pub trusted_rules: &'a [u8],
     pub trusted_marks: &'a [u8],
 }

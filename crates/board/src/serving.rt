@@ -4,9 +4,10 @@ ghost use Rattle.packet.specs.Fields.{data_of};
 ghost use Rattle.capture.specs.Kept.{forgotten};
 ghost use Rattle.board.specs.Serving.{respond};
 ghost use Rattle.board.specs.Promise.{lent, after_call, Serves};
+ghost use Rattle.board.specs.Description.{badly_described};
 ghost use Rattle.board.specs.Inner.{Ready, Leaves};
 
-use super::Board;
+use super::{Board, Look};
 use answers::Refusal;
 use capture::Capture;
 use packet::{Request, Status};
@@ -21,6 +22,22 @@ pub fn reset(kept: Capture) -> Capture
 }
 
 impl Board<'_> {
+    fn is_badly_described(&self) -> bool
+        ensures { result ≡ badly_described (lent self.now) }
+    {
+        let look = Look {
+            description: self.description,
+            capture: self.capture,
+            ordinary: self.ordinary,
+            ordinary_rules: self.ordinary_rules,
+            ordinary_marks: self.ordinary_marks,
+            trusted: self.trusted,
+            trusted_rules: self.trusted_rules,
+            trusted_marks: self.trusted_marks,
+        };
+        look.is_badly_described()
+    }
+
     // A request without a fault: unsupported, a write or a read.
     #[tactic(auto, unfolding(crate::specs::Serving::respond))]
     fn respond_to(&mut self, packet: &[u8], request: Request, reply: &mut [u8]) -> usize

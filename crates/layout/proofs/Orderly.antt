@@ -1,14 +1,14 @@
 -- Offsets in order, as the checker goes through them: each a multiple of 4, where all before have ended, and ending by 1000h. Of sound structures that is what the tenth
 -- request of document 02 calls acceptable, but for the first at 100h. Assumes nothing.
 use Prim.Native.Nat.{ℕ, zero, suc, ◌+◌, ◌%◌, ◌≤◌, ◌<◌}
-use mathlib.Core.Bool.{Bool, true, false, ◌&&◌}
+use mathlib.Core.Bool.{true, false, ◌&&◌}
 use mathlib.Core.List.{List, [], ◌∷◌}
-use mathlib.Core.Path.{◌≡◌, refl, sym, ap, ◌∙◌}
+use mathlib.Core.Path.{◌≡◌, refl, ap}
 use native.Mathlib.Omega.{arith}
 use borrow.Author.Tests.{eqb-true, leb-true, ltb-true, ltb-false, eq-eqb, le-leb}
 use lib.Dec.{eqb, leb, ltb}
 use lib.ListN.{length}
-use Rattle.words.proofs.Laws.{and_both}
+use Rattle.std.proofs.lemmas.Bool.{and_parts, both_ways}
 use Rattle.layout.specs.declared.Structure.{Structure}
 use Rattle.layout.specs.Structures.{extent}
 use Rattle.layout.specs.Accepting.{offset_at, end_at, Acceptable}
@@ -30,8 +30,8 @@ pub record Standing (ended : ℕ) (structure : Structure) (at : ℕ) : Type 0 wh
 
 pub standing : (ended : ℕ) (structure : Structure) (at : ℕ) → may_stand ended (extent structure) at ≡ true → Standing ended structure at
 standing ended structure at e =
-    let a = and_both (eqb (at % 4) 0) (leb ended at && leb (at + extent structure) 0x1000) e in
-    let b = and_both (leb ended at) (leb (at + extent structure) 0x1000) a.1 in
+    let a = and_parts (eqb (at % 4) 0) (leb ended at && leb (at + extent structure) 0x1000) e in
+    let b = and_parts (leb ended at) (leb (at + extent structure) 0x1000) a.1 in
     record { aligned = eqb-true _ _ a.0; above = leb-true _ _ b.0; inside = leb-true _ _ b.1 }
 
 pub stands : {ended : ℕ} {structure : Structure} {at : ℕ} → Standing ended structure at → may_stand ended (extent structure) at ≡ true
@@ -101,10 +101,10 @@ pub stand_orderly : (ended : ℕ) (structures : List Structure) (offsets : List 
     → Orderly ended structures offsets
 unfolding stand_from
 stand_orderly ended [] [] e = alone ended
-stand_orderly ended [] (at ∷ offsets) e = let z : ◌≡◌ {A = ℕ} 0 1 = cc in absurd (omega arith)
-stand_orderly ended (structure ∷ structures) [] e = let z : ◌≡◌ {A = ℕ} 0 1 = cc in absurd (omega arith)
+stand_orderly ended [] (at ∷ offsets) e = cc
+stand_orderly ended (structure ∷ structures) [] e = cc
 stand_orderly ended (structure ∷ structures) (at ∷ offsets) e =
-    let a = and_both (may_stand ended (extent structure) at) (stand_from (at + extent structure) structures offsets) e in
+    let a = and_parts (may_stand ended (extent structure) at) (stand_from (at + extent structure) structures offsets) e in
     before (standing ended structure at a.0) (stand_orderly (at + extent structure) structures offsets a.1)
 
 pub orderly_stand : (ended : ℕ) (structures : List Structure) (offsets : List ℕ) → Orderly ended structures offsets
@@ -152,7 +152,7 @@ module _ {structures : List Structure} {offsets : List ℕ} (sound : AllSound st
   pub accepts_acceptable : accepts structures offsets ≡ true → Acceptable structures offsets
   unfolding accepts
   accepts_acceptable e =
-      let a = and_both (eqb (offset_at offsets 0) 0x100) (stand_from 0x100 structures offsets) e in
+      let a = and_parts (eqb (offset_at offsets 0) 0x100) (stand_from 0x100 structures offsets) e in
       orderly_acceptable (eqb-true _ _ a.0) (stand_orderly 0x100 structures offsets a.1)
 
   pub acceptable_accepts : Acceptable structures offsets → accepts structures offsets ≡ true
@@ -161,4 +161,4 @@ module _ {structures : List Structure} {offsets : List ℕ} (sound : AllSound st
       rw (eq-eqb (offset_at offsets 0) 0x100 a.first) (orderly_stand 0x100 structures offsets (acceptable_orderly a))
 
   pub refuses_acceptable : accepts structures offsets ≡ false → Acceptable structures offsets → ⊥
-  refuses_acceptable e a = let z : ◌≡◌ {A = Bool} true false = sym (acceptable_accepts a) ∙ e in let q : ◌≡◌ {A = ℕ} 0 1 = cc in omega arith
+  refuses_acceptable e a = both_ways _ e (acceptable_accepts a)

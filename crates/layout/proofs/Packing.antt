@@ -10,7 +10,7 @@ use native.Mathlib.Omega.{arith}
 use borrow.Author.Tests.{leb-true, leb-false, le-leb, lt-leb}
 use lib.Dec.{leb}
 use lib.ListN.{length}
-use Rattle.words.proofs.Laws.{and_both}
+use Rattle.std.proofs.lemmas.Bool.{and_parts, both_ways}
 use Rattle.layout.specs.declared.Structure.{Structure}
 use Rattle.layout.specs.Structures.{extent, are_bad}
 use Rattle.layout.specs.Accepting.{offset_at, Acceptable}
@@ -53,7 +53,7 @@ pub packed_orderly : (at : ℕ) (structures : List Structure) → at % 4 ≡ 0 �
 unfolding fits_from packed_from
 packed_orderly at [] a e = alone at
 packed_orderly at (structure ∷ structures) a e =
-    let f = and_both (leb (at + extent structure) 0x1000) (fits_from (at + rounded_up (extent structure)) structures) e in
+    let f = and_parts (leb (at + extent structure) 0x1000) (fits_from (at + rounded_up (extent structure)) structures) e in
     before (record { aligned = a; above = omega arith; inside = leb-true _ _ f.0 })
     (sooner (omega arith) (packed_orderly (at + rounded_up (extent structure)) structures (omega arith) f.1))
 
@@ -107,7 +107,7 @@ module _ {structures : List Structure} (g : Given structures) where
   acceptable_fits offsets a = orderly_fits 0x100 0x100 structures offsets (omega arith) (acceptable_orderly g.sound a)
 
   pub none_fits : fits_from 0x100 structures ≡ false → NoneAcceptable structures
-  none_fits e offsets a = let z : ◌≡◌ {A = Bool} true false = sym (acceptable_fits offsets a) ∙ e in let q : ◌≡◌ {A = ℕ} 0 1 = cc in omega arith
+  none_fits e offsets a = both_ways _ e (acceptable_fits offsets a)
 
 -- ---- the arithmetic
 

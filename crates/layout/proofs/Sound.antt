@@ -1,7 +1,7 @@
 -- THEOREM. When structures are bad, as the tenth request of document 02 has it: there are none or more than 960, or one of them has the ID 0000h, a version over 15 or
 -- a length outside 4 to 3,840. Assumes nothing.
 use Prim.Native.Nat.{ℕ, zero, suc, ◌≤◌, ◌<◌}
-use mathlib.Core.Bool.{Bool, true, false, ◌||◌, or-false}
+use mathlib.Core.Bool.{Bool, true, false, or-false}
 use mathlib.Core.List.{List, [], ◌∷◌}
 use mathlib.Core.Logic.{◌↔◌, ◌⊎◌}
 use mathlib.Core.Logic.◌⊎◌.{inl, inr}
@@ -10,6 +10,7 @@ use native.Mathlib.Omega.{arith}
 use borrow.Author.Tests.{eqb-true, eqb-false, ltb-true, ltb-false}
 use lib.Dec.{eqb, ltb}
 use lib.ListN.{length}
+use Rattle.std.proofs.lemmas.Bool.{or_parts}
 use Rattle.answers.proofs.Checks.{none_of}
 use Rattle.layout.specs.declared.Structure.{Structure}
 use Rattle.layout.specs.Structures.{identity, version, extent, structure_at, is_bad, one_bad, are_bad}
@@ -43,10 +44,6 @@ pub record Sound (structure : Structure) : Type 0 where
 abbrev pub AllSound : List Structure → Type 0
 AllSound structures = (k : ℕ) → k < length structures → Sound (structure_at structures k)
 
-pub neither : (a b : Bool) → (a || b) ≡ false → (a ≡ false) × (b ≡ false)
-neither true b e = let z : ◌≡◌ {A = ℕ} 0 1 = cc in absurd (omega arith)
-neither false b e = (refl, e)
-
 -- ---- a test or its opposite
 
 pub tested : {A : Type 0} (b : Bool) → (b ≡ true → A) → (b ≡ false → A) → A
@@ -75,10 +72,7 @@ is_faulty structure e =
     last : eqb (identity structure) 0 ≡ false → ltb 15 (version structure) ≡ false → ltb (extent structure) 4 ≡ false
         → ltb 3840 (extent structure) ≡ true
     last f g h =
-        tested (ltb 3840 (extent structure)) (λ t. t) (λ k. let z : ◌≡◌ {A = Bool} true false = sym e ∙ rw (f, g, h, k) in absurd (unlike z))
-      where
-        unlike : ◌≡◌ {A = Bool} true false → ⊥
-        unlike z = let q : ◌≡◌ {A = ℕ} 0 1 = cc in omega arith
+        tested (ltb 3840 (extent structure)) (λ t. t) (λ k. let z : ◌≡◌ {A = Bool} true false = sym e ∙ rw (f, g, h, k) in cc)
 
 never_both : {structure : Structure} → Faulty structure → Sound structure → ⊥
 never_both (unnamed e) s = s.named e
@@ -90,11 +84,11 @@ never_both (long h) s = omega (arith, s.most)
 
 none_is : (structures : List Structure) → one_bad structures ≡ false → AllSound structures
 none_is [] e k h = absurd (omega arith)
-none_is (structure ∷ structures) e zero h = is_sound structure (neither _ (one_bad structures) e).0
-none_is (structure ∷ structures) e (suc k) h = none_is structures (neither (is_bad structure) _ e).1 k (omega arith)
+none_is (structure ∷ structures) e zero h = is_sound structure (or_parts _ (one_bad structures) e).0
+none_is (structure ∷ structures) e (suc k) h = none_is structures (or_parts (is_bad structure) _ e).1 k (omega arith)
 
 one_is : (structures : List Structure) → one_bad structures ≡ true → OneFaulty structures
-one_is [] e = let z : ◌≡◌ {A = ℕ} 0 1 = cc in absurd (omega arith)
+one_is [] e = cc
 one_is (structure ∷ structures) e =
     tested (is_bad structure) (λ t. record { which = 0; one = omega arith; faulty = is_faulty structure t })
     (λ f. later (one_is structures (sym (rw f) ∙ e)))

@@ -14,7 +14,8 @@ use Rattle.std.proofs.lemmas.List.{append-nil}
 use lib.ListN.{length, length-append, set, take, drop}
 use lib.Seq.{append_snoc, drop-cons, drop-length, take-length, get_or-append_seam, paste, paste-suc}
 use Rattle.words.specs.Bytes.{put}
-use Rattle.words.proofs.Laws.{and_both, put_length}
+use Rattle.std.proofs.lemmas.Bool.{and_parts}
+use Rattle.words.proofs.Laws.{put_length}
 use Rattle.layout.specs.declared.Structure.{Structure}
 use Rattle.layout.specs.Structures.{extent, no_structure, structure_at, one_bad, are_bad}
 use Rattle.layout.specs.Accepting.{offset_at}
@@ -100,7 +101,7 @@ module _ (structures : List Structure) (at place : ℕ) where
   -- of structures that fit, the next one ends by 1000h
   pub fitting : place < length structures → fits_from at (drop place structures) ≡ true → at + extent (structure_at structures place) ≤ 0x1000
   fitting here e =
-      leb-true _ _ (and_both _ (fits_from (at + rounded_up (extent (structure_at structures place))) (drop (suc place) structures)) (sym (fits_next here) ∙ e)).0
+      leb-true _ _ (and_parts _ (fits_from (at + rounded_up (extent (structure_at structures place))) (drop (suc place) structures)) (sym (fits_next here) ∙ e)).0
 
   packed_next : place < length structures
       → packed_from at (drop place structures) ≡ at ∷ packed_from (at + rounded_up (extent (structure_at structures place))) (drop (suc place) structures)

@@ -49,7 +49,7 @@ same : {r q : Result ⊤ Refusal} {n : ℕ} → answered r ≡ n → answered q 
 same {r} {q} e f = answered_tells r q (e ∙ sym f)
 
 pub unlike : {b : Bool} → b ≡ true → b ≡ false → ⊥
-unlike e f = let z : ◌≡◌ {A = Bool} true false = sym e ∙ f in let n : ◌≡◌ {A = ℕ} 0 1 = cc in omega arith
+unlike e f = cc
 
 pub check_unique : CheckUnique
 check_unique structures offsets r q (misdescribed bad e) (misdescribed x f) = same e f

@@ -52,7 +52,7 @@ fn moved_up(waiting: usize, last: usize, count: usize) -> usize
 // mark. No `for` over the log: a chain may end where it is full.
 #[tactic(auto, using(crate::proofs::Following::chase_ends))]
 pub(crate) fn chase<L: List>(
-    space: &[u8],
+    space: &[u8; words::SPACE],
     log: &mut [u16],
     passed: usize,
     from: usize,
@@ -64,9 +64,9 @@ pub(crate) fn chase<L: List>(
     let mut position = from;
     let mut waiting = 0;
     loop {
-        let taken = step_to::<L>(position);
-        let Step::Next(at) = taken else {
-            if let Step::End = taken {
+        let Step::Next(at) = step_to::<L>(position) else {
+            // The end is at position 0. With another look at the step, `if let Step::End`, each step of a long list took half as long again.
+            if position == 0 {
                 return Ok(count);
             }
             return Err(Stopped { count, position });

@@ -4,7 +4,7 @@
 // scans the space. A refusal leaves the room as it was lent.
 ghost use Rattle.std.specs.Prelude.{◌≡◌, ◌≤◌, ◌<◌, length};
 ghost use Rattle.lists.specs.Table.{describe};
-ghost use Rattle.lists.specs.Walks.{Walks, WholeSpace, Roomy, Lists};
+ghost use Rattle.lists.specs.Walks.{Walks, Roomy, Lists};
 ghost use Rattle.lists.specs.Inner.{offset_of, last_of, Underway, Stops, Words, Onward, Told};
 
 use answers::Refusal;
@@ -37,10 +37,18 @@ const SHORT: usize = COMPATIBLE_MAXIMUM;
 
 const LONG: usize = TRUSTED_MAXIMUM;
 
-// Lists the offsets of a list's headers in `room`, in order, and answers how many there are.
+// Lists the offsets of a list's headers in `room`, in order, and answers how many there are. Where a caller says which list, its walk alone is compiled
+// into it.
+#[inline(always)]
 pub fn walk(kind: Kind, space: &[u8], room: &mut [u16]) -> Result<usize, Refused>
     ensures { Walks kind space.now room.old result room.new }
 {
+    let Ok(space) = <&[u8; words::SPACE]>::try_from(space) else {
+        return Err(Refused {
+            refusal: Refusal::BadDescription,
+            place: 0,
+        });
+    };
     match kind {
         Kind::Compatible => walk_list::<Compatible>(space, room),
         Kind::Extended => walk_list::<Extended>(space, room),
@@ -49,15 +57,9 @@ pub fn walk(kind: Kind, space: &[u8], room: &mut [u16]) -> Result<usize, Refused
 }
 
 // With a short log at first: a chain that ends in it is listed.
-fn walk_list<L: List>(space: &[u8], room: &mut [u16]) -> Result<usize, Refused>
+fn walk_list<L: List>(space: &[u8; words::SPACE], room: &mut [u16]) -> Result<usize, Refused>
     ensures { Walks L.kind space.now room.old result room.new }
 {
-    if space.len() != words::SPACE {
-        return Err(Refused {
-            refusal: Refusal::BadDescription,
-            place: 0,
-        });
-    }
     if room.len() < L::maximum() {
         return Err(Refused {
             refusal: Refusal::NoRoom,
@@ -74,7 +76,7 @@ fn walk_list<L: List>(space: &[u8], room: &mut [u16]) -> Result<usize, Refused>
 
 // The walk from where it stopped: with a long log where the short one was full and the list may be longer, and else it is broken.
 fn go_on<L: List>(
-    space: &[u8],
+    space: &[u8; words::SPACE],
     short: &[u16],
     stopped: Stopped,
     room: &mut [u16],
@@ -91,7 +93,7 @@ fn go_on<L: List>(
 
 // The walk from where a short log was full: to the list's maximum.
 fn walk_long<L: List>(
-    space: &[u8],
+    space: &[u8; words::SPACE],
     short: &[u16],
     position: usize,
     room: &mut [u16],

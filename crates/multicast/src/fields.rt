@@ -20,6 +20,8 @@ const BELOW_BASE: u64 = 0xfff;
 // The least index while enabled.
 const LEAST_INDEX: u64 = 12;
 
+// (In `records` a line like this one asks for a DVSEC. One function for both would be a public one, with ID and version for arguments, and no shorter to call.)
+#[tactic(auto, unfolding(crate::specs::Capability::is_multicast))]
 pub(crate) fn is_multicast(header: u32) -> bool
     ensures { result ≡ is_multicast header }
 {

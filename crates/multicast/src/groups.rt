@@ -7,6 +7,7 @@ ghost use Rattle.multicast.specs.Inner.{Hits};
 use crate::Record;
 
 // The group whose window has the address, where the port is enabled and has one.
+#[tactic(auto, unfolding(crate::specs::Judging::is_hit))]
 pub(crate) fn hit_by(port: &Record, address: u64) -> Option<u8>
     requires { is_record port.now ≡ true }
     ensures { Hits port.now address result }

@@ -2,8 +2,7 @@
 // What hosts of a switch's multicast link, in the same archive as the rest: the entries of multicast with plain numbers.
 // Each function answers for every input and keeps nothing; what it promises is in specs/, over the promises of the entries that it calls.
 // A slice is a pointer and a length. Where the length is 0 the pointer is not followed. A record is seven numbers of 64 bits, one after the other.
-ghost use Rattle.std.specs.Prelude.{◌≡◌};
-ghost use Rattle.offload.specs.Judges.{HostReads, told_judged, HostJudges};
+ghost use Rattle.offload.specs.Judges.{HostReads, HostJudges};
 
 use answers::Refusal;
 use multicast::{Judged, Record};
@@ -28,34 +27,39 @@ pub extern "C" fn thawribbon_multicast(space: &[u8], at: usize, groups: &mut Rec
     answers::number(&read)
 }
 
-fn told_judged(judged: Result<Judged, Refusal>) -> HostJudged
-    ensures { result ≡ told_judged judged }
-{
-    match judged {
-        Err(refusal) => HostJudged {
-            ports: 0,
-            number: refusal.number(),
-            verdict: 0,
-            group: 0,
-        },
-        Ok(Judged::NoHit) => HostJudged {
-            ports: 0,
-            number: 0,
-            verdict: 1,
-            group: 0,
-        },
-        Ok(Judged::Dropped { group }) => HostJudged {
-            ports: 0,
-            number: 0,
-            verdict: 2,
-            group,
-        },
-        Ok(Judged::Leaves { group, ports }) => HostJudged {
-            ports,
-            number: 0,
-            verdict: 3,
-            group,
-        },
+impl From<Result<Judged, Refusal>> for HostJudged {
+    ghost use Rattle.std.specs.Prelude.{◌≡◌};
+    ghost use Rattle.offload.specs.Judges.{told_judged};
+
+    ghost from_gives = { λ judged host. host ≡ told_judged judged };
+
+    fn from(judged: Result<Judged, Refusal>) -> HostJudged {
+        match judged {
+            Err(refusal) => HostJudged {
+                ports: 0,
+                number: refusal.number(),
+                verdict: 0,
+                group: 0,
+            },
+            Ok(Judged::NoHit) => HostJudged {
+                ports: 0,
+                number: 0,
+                verdict: 1,
+                group: 0,
+            },
+            Ok(Judged::Dropped { group }) => HostJudged {
+                ports: 0,
+                number: 0,
+                verdict: 2,
+                group,
+            },
+            Ok(Judged::Leaves { group, ports }) => HostJudged {
+                ports,
+                number: 0,
+                verdict: 3,
+                group,
+            },
+        }
     }
 }
 
@@ -63,5 +67,5 @@ fn told_judged(judged: Result<Judged, Refusal>) -> HostJudged
 pub extern "C" fn thawribbon_judge(ports: &[Record], entering: usize, address: u64) -> HostJudged
     ensures { HostJudges ports.now entering address result }
 {
-    told_judged(multicast::judge(ports, entering, address))
+    HostJudged::from(multicast::judge(ports, entering, address))
 }

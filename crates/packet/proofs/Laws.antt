@@ -5,11 +5,10 @@ use mathlib.Core.List.Memᴰ
 use mathlib.Core.List.{List, [], ◌∷◌}
 use mathlib.Core.Path.{◌≡◌, refl, sym, ◌∙◌}
 use native.Mathlib.Omega.{arith}
-use lib.Bits.{bit_and, and_mask}
 use lib.Dec.{eqb, ltb}
 use lib.ListN.{length}
 use Rattle.std.specs.Prelude.{None}
-use borrow.Author.Tests.{le-ltb, eq-eqb, lt-ltb, eqb-true, not-false}
+use borrow.Author.Tests.{le-ltb, eq-eqb, ne_eqb, lt-ltb, eqb-true, not-false}
 use Rattle.answers.proofs.Checks.{Positive, none_applies}
 use Rattle.words.specs.Bytes.{byte}
 use Rattle.packet.specs.declared.Access.{Access}
@@ -18,9 +17,12 @@ use Rattle.packet.specs.Fields.{type_code, bit7_set, refuses_bit7, known, type_o
 use Rattle.packet.specs.Request.{typed, writes_of, checks_under, number_under, packet_checks, packet_number, request_of, target_of, is_trusted, trusted, trusted_under}
 use Rattle.packet.specs.Inner.{KnownHeader}
 
--- byte 0 without bit 7 is the type code
-pub code_is : (first k : ℕ) → bit_and first 127 ≡ k → type_code first ≡ k
-code_is first k h = omega (arith, and_mask first 7)
+-- a code that is none of the six
+pub type_unknown : (code : ℕ) → (code ≡ 0x04 → ⊥) → (code ≡ 0x44 → ⊥) → (code ≡ 0x05 → ⊥) → (code ≡ 0x45 → ⊥) → (code ≡ 0x1b → ⊥)
+    → (code ≡ 0x5b → ⊥) → type_of code ≡ None
+unfolding type_of
+type_unknown code a b c d e f =
+    rw (ne_eqb code 0x04 a, ne_eqb code 0x44 b, ne_eqb code 0x05 c, ne_eqb code 0x45 d, ne_eqb code 0x1b e, ne_eqb code 0x5b f)
 
 -- past the check 5, the check 6 decides
 pub number_past : (p : List ℕ) (access : Access) → KnownHeader p access → length p ≡ whole_length access.writes (byte p 2)
@@ -31,6 +33,12 @@ number_past p access header whole =
 -- ---- the edition: what is not refused for bit 7 is looked at as where the bit is ignored
 
 module _ (edition : ℕ) (p : List ℕ) where
+  pub number_bit_7 : 12 ≤ length p → refuses_bit7 edition (byte p 0) ≡ true → number_under edition p ≡ 4
+  number_bit_7 long e = rw (le-ltb (length p) 12 long, e)
+
+  pub number_short_under : length p < 12 → number_under edition p ≡ 3
+  number_short_under h = rw (lt-ltb (length p) 12 h)
+
   pub number_under_lem : refuses_bit7 edition (byte p 0) ≡ false → number_under edition p ≡ packet_number p
   number_under_lem e = rw e
 
@@ -50,7 +58,7 @@ module _ (edition : ℕ) (p : List ℕ) where
   sound_under n = sym (number_under_lem (accepted n)) ∙ n
 
 pub number_short : (p : List ℕ) → length p < 12 → packet_number p ≡ 3
-number_short p h = rw (lt-ltb (length p) 12 h)
+number_short p h = number_short_under 1 p h
 
 -- with bit 7 clear, no edition refuses it
 pub clear_accepted : (edition first : ℕ) → bit7_set first ≡ false → refuses_bit7 edition first ≡ false

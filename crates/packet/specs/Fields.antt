@@ -62,10 +62,11 @@ offset_of ten eleven = 256 * bits 3 0 ten + 4 * bits 7 2 eleven
 abbrev pub data_of : List ℕ → List ℕ
 data_of p = four p 12
 
--- "Six type codes are served: 04h and 44h (read, write, Type 0), 05h and 45h (read, write, Type 1), 1Bh and 5Bh (trusted read, write)."
+-- what a served type code stands for: whether it writes, and where it goes
 abbrev pub known : Bool → Target → Option Access
 known writes target = Some (record { writes = writes; target = target })
 
+-- "Six type codes are served: 04h and 44h (read, write, Type 0), 05h and 45h (read, write, Type 1), 1Bh and 5Bh (trusted read, write)."
 unfoldable pub type_of : ℕ → Option Access
 type_of code =
     cond (eqb code 0x04) (known false Type0)

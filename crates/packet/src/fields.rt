@@ -1,6 +1,6 @@
 // Header fields by shift and mask, each from the bytes that hold it.
 ghost use Rattle.std.specs.Prelude.{◌≡◌, eqb};
-ghost use Rattle.packet.specs.Fields.{type_code, refuses_bit7, type_of, digest, poison, first_enables, device_of, function_of, length_field, offset_of, wrong_field, whole_length};
+ghost use Rattle.packet.specs.Fields.{type_code, refuses_bit7, type_of, poison, first_enables, device_of, function_of, length_field, offset_of, wrong_field, whole_length};
 
 use super::{Access, Target};
 
@@ -83,10 +83,10 @@ pub(super) fn offset_of(ten: u8, eleven: u8) -> usize
     usize::from(u16::from_be_bytes([ten & 0x0f, eleven & 0xfc]))
 }
 
-fn length_field(two: u8, three: u8) -> usize
+fn length_field(two: u8, three: u8) -> u16
     ensures { result ≡ length_field two three }
 {
-    usize::from(u16::from_be_bytes([two & 0x03, three]))
+    u16::from_be_bytes([two & 0x03, three])
 }
 
 // TC, Attr or the last enables are not 0, or Length is not 1.

@@ -13,13 +13,15 @@ pub use decoding::{decode, decode_under};
 pub use fields::type_of;
 pub use reply::{with_data, without_data};
 
-// The editions of byte 0 that a board may have: the first ignores bit 7, and the second refuses what has it set.
+// The editions of byte 0 that a board may have: the first ignores bit 7, and the second refuses what has it set. (Numbers and no enum: a host gives
+// any number, and a board with another edition answers 1.)
 pub const EDITION_1: u32 = 1;
 
 pub const EDITION_2: u32 = 2;
 
-// A requester or completer ID, as its two bytes are sent.
-#[derive(Clone, Copy, PartialEq, Eq)]
+// A requester or completer ID, as its two bytes are sent. (In C's layout: a host's structs hold it.)
+#[repr(C)]
+#[derive(Clone, Copy, PartialEq, Eq, Default)]
 pub struct Id {
     pub high: u8,
     pub low: u8,

@@ -8,7 +8,7 @@ ghost use Rattle.pair.specs.Inner.{ServesBeside};
 
 use super::{Captures, Function, Side, choosing};
 use answers::Refusal;
-use board::{Board, Description};
+use board::{Board, Description, Look};
 
 impl Function {
     fn described(self, edition: u32) -> Description
@@ -23,17 +23,12 @@ impl Function {
     }
 }
 
-// A board is made of a side in two places: that a method hands one out, with the two buffers that can be written lent on, isn't covered by the
-// proofs.
 impl Side<'_> {
-    // Whether it is badly described as a board of its own. It is only looked at.
-    fn is_badly_described(&mut self, edition: u32) -> bool
-        ensures same_ordinary { self.new.ordinary.ghost_name ≡ self.old.ordinary.ghost_name }
-        ensures same_trusted { self.new.trusted.ghost_name ≡ self.old.trusted.ghost_name }
-        ensures unchanged { lent_side self.new ≡ lent_side self.old }
-        ensures bad { result ≡ badly_described (board_of edition (lent_side self.old)) }
+    // Whether it is badly described as a board of its own.
+    fn is_badly_described(&self, edition: u32) -> bool
+        ensures { result ≡ badly_described (board_of edition (lent_side self.now)) }
     {
-        let board = Board {
+        let look = Look {
             description: self.function.described(edition),
             capture: self.capture,
             ordinary: self.ordinary,
@@ -43,7 +38,7 @@ impl Side<'_> {
             trusted_rules: self.trusted_rules,
             trusted_marks: self.trusted_marks,
         };
-        board.is_badly_described()
+        look.is_badly_described()
     }
 
     // Serves a packet as a board of its own.
@@ -71,18 +66,15 @@ impl Side<'_> {
     // Serves a packet, unless the other function, which is only looked at, is badly described.
     fn serve_beside(
         &mut self,
-        other: &mut Side,
+        other: &Side,
         edition: u32,
         packet: &[u8],
         reply: &mut [u8],
     ) -> Result<usize, Refusal>
         ensures same_ordinary { self.new.ordinary.ghost_name ≡ self.old.ordinary.ghost_name }
         ensures same_trusted { self.new.trusted.ghost_name ≡ self.old.trusted.ghost_name }
-        ensures same_other_ordinary { other.new.ordinary.ghost_name ≡ other.old.ordinary.ghost_name }
-        ensures same_other_trusted { other.new.trusted.ghost_name ≡ other.old.trusted.ghost_name }
-        ensures serves { ServesBeside (board_of edition (lent_side self.old)) (board_of edition (lent_side other.old)) packet.now reply.old (record { answer = result; capture = self.new.capture }) self.new.ordinary.now self.new.trusted.now reply.new }
+        ensures serves { ServesBeside (board_of edition (lent_side self.old)) (board_of edition (lent_side other.now)) packet.now reply.old (record { answer = result; capture = self.new.capture }) self.new.ordinary.now self.new.trusted.now reply.new }
         ensures holds { lent_side self.new ≡ held_side (lent_side self.old) self.new.capture self.new.ordinary.now self.new.trusted.now }
-        ensures unchanged { lent_side other.new ≡ lent_side other.old }
     {
         if other.is_badly_described(edition) {
             return Err(Refusal::BadDescription);

@@ -9,10 +9,11 @@ use native.Mathlib.Omega.{arith}
 use lib.Bits.{bit_and, bit_or, differ}
 use lib.Dec.{eqb, ltb}
 use borrow.Author.Tests.{ltb-true, ltb-false, eq-eqb, eqb-true}
+use Rattle.std.proofs.lemmas.Bool.{cases_lt}
 use Rattle.ports.specs.declared.Port.{Port}
 use Rattle.ports.specs.declared.Buses.{Buses}
 use Rattle.ports.specs.Buses.{width, below, range, buses_of, shared, together}
-use Rattle.ports.proofs.Laws.{below_or_not, zero_is_not_one}
+use Rattle.ports.proofs.Laws.{zero_is_not_one}
 use Rattle.ports.proofs.Bits.{bit, bit_below, max_one, and_bit, or_bit, xor_bit, one_inside, zero_outside, no_bits}
 
 -- the word for the buses from 64 × q on
@@ -106,7 +107,7 @@ in_range p x h l u =
 
 -- and, where the port is in order, no other
 pub range_has : (p : Port) (x : ℕ) → x < 256 → p.secondary ≤ p.subordinate → In (buses_of p) x → (p.secondary ≤ x) × (x ≤ p.subordinate)
-range_has p x h o i = ⊎_elim (λ l. absurd (low_end l)) (λ l. ⊎_elim (λ u. absurd (high_end u)) (λ u. (l, u)) (below_or_not p.subordinate x)) (below_or_not x p.secondary)
+range_has p x h o i = ⊎_elim (λ l. absurd (low_end l)) (λ l. ⊎_elim (λ u. absurd (high_end u)) (λ u. (l, u)) (cases_lt p.subordinate x)) (cases_lt x p.secondary)
   where
     base : ℕ
     base = 64 * (x / 64)
@@ -210,7 +211,7 @@ shares_none a p none = rw (eq-eqb _ 0 (word 0 (omega arith)), eq-eqb _ 0 (word 1
     each_bit q l k =
         and_bit k (quarter a q) (quarter (buses_of p) q)
         ∙ min_zero_of (bit k (quarter a q)) (bit k (quarter (buses_of p) q)) (bit_below k (quarter a q)) (bit_below k (quarter (buses_of p) q))
-        (λ i j. ⊎_elim (λ h. low_bit k q h l i j) (λ h. zero_is_not_one _ (ap (bit k) (quarter_of p q l) ∙ range_beyond k p.secondary (p.subordinate + 1) (64 * q) h) j) (below_or_not k 64))
+        (λ i j. ⊎_elim (λ h. low_bit k q h l i j) (λ h. zero_is_not_one _ (ap (bit k) (quarter_of p q l) ∙ range_beyond k p.secondary (p.subordinate + 1) (64 * q) h) j) (cases_lt k 64))
 
     word : (q : ℕ) → q < 4 → bit_and (quarter a q) (quarter (buses_of p) q) ≡ 0
     word q l = no_bits (bit_and (quarter a q) (quarter (buses_of p) q)) (each_bit q l)

@@ -5,6 +5,7 @@ use mathlib.Core.Bool.{Bool, true, false, cond, ◌||◌, true≢false}
 use mathlib.Core.List.{List, [], ◌∷◌}
 use mathlib.Core.Logic.{⊎_elim}
 use mathlib.Core.Path.{◌≡◌, refl, sym, ap, ◌∙◌, subst}
+use Rattle.std.proofs.lemmas.Bool.{cases_Bool, cases_lt, false_from_ne_true, or_parts}
 use Rattle.std.specs.Prelude.{Option, Some, None, Ok, Err}
 use native.Mathlib.Omega.{arith}
 use lib.Dec.{ltb}
@@ -18,9 +19,8 @@ use Rattle.ports.specs.Ports.{has, exceeds, meet, bad_list}
 use Rattle.ports.specs.Choice.{Choice, exit_at, list_refused, port_from, choice}
 use Rattle.ports.specs.Buses.{buses_of, shared, together}
 use Rattle.ports.specs.Noting.{no_port, begun, placed, noted, concluded, up_to, after, Notes}
-use Rattle.ports.proofs.Laws.{below_or_not}
 use Rattle.ports.proofs.Members.{In, nothing_in, in_range, range_has, of_either, from_first, from_second, apart_in, shares_none}
-use Rattle.ports.proofs.Pairs.{port_at, Sound, Good, neither, is_or_not, not_true_false, has_is, is_has, in_both_meet, meet_in_both, good_of, of_good}
+use Rattle.ports.proofs.Pairs.{port_at, Sound, Good, has_is, is_has, in_both_meet, meet_in_both, good_of, of_good}
 
 -- the buses of the first n ports are bytes
 abbrev pub BytesUpTo : List Port → ℕ → Type 0
@@ -33,7 +33,7 @@ NotedIsChoice = (ps : List Port) (bus : ℕ) → BytesUpTo ps (length ps) → co
 bytes_more : (ps : List Port) (i : ℕ) (p : Port) → BytesUpTo ps i → p ≡ get_or ps i no_port → (p.secondary < 256) × (p.subordinate < 256)
     → BytesUpTo ps (suc i)
 bytes_more ps i p b e h j l =
-    ⊎_elim (b j) (λ k. subst (λ (q : Port). (q.secondary < 256) × (q.subordinate < 256)) (e ∙ ap (get_d' ps) (omega arith)) h) (below_or_not j i)
+    ⊎_elim (b j) (λ k. subst (λ (q : Port). (q.secondary < 256) × (q.subordinate < 256)) (e ∙ ap (get_d' ps) (omega arith)) h) (cases_lt j i)
   where
     get_d' : List Port → ℕ → Port
     get_d' ps k = get_or ps k no_port
@@ -87,7 +87,7 @@ module _ (ps : List Port) (bus n : ℕ) (s : Survey) (before : Surveyed ps bus n
 
   -- port n or one before it
   at_place : (P : ℕ → Type 0) (i : ℕ) → i < suc n → (i < n → P i) → P n → P i
-  at_place P i h old new = ⊎_elim old (λ l. subst P (omega arith) new) (below_or_not i n)
+  at_place P i h old new = ⊎_elim old (λ l. subst P (omega arith) new) (cases_lt i n)
 
   earlier : Sound ps (suc n) → Sound ps n
   earlier z = record { ordered = λ i h. z.ordered i (omega arith); apart = λ i j h l. z.apart i j h (omega arith) }
@@ -95,7 +95,7 @@ module _ (ps : List Port) (bus n : ℕ) (s : Survey) (before : Surveyed ps bus n
   -- a port before that meets port n has a bus of its set
   apart_now : Sound ps n → p.secondary ≤ p.subordinate → shared s.taken (buses_of p) ≡ false → (i : ℕ) → i < n → meet (port_at ps i) p ≡ false
   apart_now z o e i h =
-      not_true_false (meet (port_at ps i) p) (λ m.
+      false_from_ne_true (meet (port_at ps i) p) (λ m.
       let x = max (port_at ps i).secondary p.secondary in
       let b = meet_in_both (port_at ps i) p (z.ordered i h) o m in
       let u = has_is p x b.1 in
@@ -104,8 +104,8 @@ module _ (ps : List Port) (bus n : ℕ) (s : Survey) (before : Surveyed ps bus n
 
   sound_next : next.bad ≡ false → Sound ps (suc n)
   sound_next e =
-      let a = neither s.bad (exceeds p || shared s.taken (buses_of p)) e in
-      let b = neither (exceeds p) (shared s.taken (buses_of p)) a.1 in
+      let a = or_parts s.bad (exceeds p || shared s.taken (buses_of p)) e in
+      let b = or_parts (exceeds p) (shared s.taken (buses_of p)) a.1 in
       let z = before.sound a.0 in
       let o = ltb-false p.subordinate p.secondary b.0 in
       record {
@@ -131,7 +131,7 @@ module _ (ps : List Port) (bus n : ℕ) (s : Survey) (before : Surveyed ps bus n
   unsound_next : next.bad ≡ true → Sound ps (suc n) → ⊥
   unsound_next e z =
       let c : next.bad ≡ false = rw (
-        not_true_false s.bad (λ b. before.unsound b (earlier z)),
+        false_from_ne_true s.bad (λ b. before.unsound b (earlier z)),
         le-ltb p.subordinate p.secondary (z.ordered n (omega arith)),
         unshared z,
       ) in
@@ -192,8 +192,8 @@ pub alone : (ps : List Port) → Good ps → (bus i j : ℕ) → i < length ps �
 alone ps g bus i j h l e f =
     ⊎_elim
     (λ o. absurd (clash i j o l e f))
-    (λ o. ⊎_elim (λ q. absurd (clash j i q h f e)) (λ q. omega arith) (below_or_not j i))
-    (below_or_not i j)
+    (λ o. ⊎_elim (λ q. absurd (clash j i q h f e)) (λ q. omega arith) (cases_lt j i))
+    (cases_lt i j)
   where
     clash : (i j : ℕ) → i < j → j < length ps → has (port_at ps i) bus ≡ true → has (port_at ps j) bus ≡ true → ⊥
     clash i j o l e f = true≢false (sym (in_both_meet (port_at ps i) (port_at ps j) bus e f) ∙ g.sound.apart i j o l)
@@ -202,9 +202,9 @@ module _ (ps : List Port) (bus : ℕ) (few : length ps ≤ 32) (s : Survey) (all
   bad_is : s.bad ≡ bad_list ps
   bad_is =
       ⊎_elim
-      (λ b. b ∙ sym (⊎_elim (λ t. t) (λ f. absurd (all.unsound b (good_of ps f).sound)) (is_or_not (bad_list ps))))
+      (λ b. b ∙ sym (⊎_elim (λ t. t) (λ f. absurd (all.unsound b (good_of ps f).sound)) (cases_Bool (bad_list ps))))
       (λ b. b ∙ sym (of_good ps (record { few = few; sound = all.sound b })))
-      (is_or_not s.bad)
+      (cases_Bool s.bad)
 
   found_is : bad_list ps ≡ false → s.found ≡ port_from 0 ps bus
   found_is g = go s.found all.found
@@ -217,7 +217,7 @@ module _ (ps : List Port) (bus : ℕ) (few : length ps ≤ 32) (s : Survey) (all
       go (Some x) w =
           let f = subst (λ (q : Port). has q bus ≡ true) w.1 w.2 in
           ap (λ (q : Port). Some (exit_at x.place q)) w.1
-          ∙ sym (chosen_at ps 0 bus x.place w.0 f (λ i h. not_true_false (has (port_at ps i) bus) (λ t.
+          ∙ sym (chosen_at ps 0 bus x.place w.0 f (λ i h. false_from_ne_true (has (port_at ps i) bus) (λ t.
           other x.place i h (alone ps (good_of ps g) bus i x.place (omega (arith, w.0)) w.0 t f)))
           ∙ ap (λ (i : ℕ). Some (exit_at i (port_at ps x.place))) (omega arith))
 

@@ -5,6 +5,7 @@ use mathlib.Core.Bool.{Bool, true, false, cond, true≢false}
 use mathlib.Core.List.{List, [], ◌∷◌}
 use mathlib.Core.Logic.{◌↔◌, ⊎_elim}
 use mathlib.Core.Path.{◌≡◌, refl, sym, ap, ◌∙◌, subst}
+use Rattle.std.proofs.lemmas.Bool.{cases_Bool, false_from_ne_true}
 use Rattle.std.specs.Prelude.{Option, Some, None, Ok, Err}
 use native.Mathlib.Omega.{arith}
 use lib.ListN.{length}
@@ -14,7 +15,7 @@ use Rattle.ports.specs.Ports.{has, bad_list}
 use Rattle.ports.specs.Choice.{Choice, exit_at, list_refused, port_from, choice}
 use Rattle.ports.specs.Noting.{no_port}
 use Rattle.ports.proofs.Noted.{alone, chosen_none, chosen_at}
-use Rattle.ports.proofs.Pairs.{port_at, Good, is_or_not, not_true_false, good_of, of_good}
+use Rattle.ports.proofs.Pairs.{port_at, Good, good_of, of_good}
 
 -- the port at a place of a list has a bus
 pub record HasAt (ps : List Port) (bus i : ℕ) : Type 0 where
@@ -85,7 +86,7 @@ not_both c o e f = cc
 
 -- a choice that is no refusal was made of a good list
 was_good : (ps : List Port) (bus : ℕ) (o : Option Exit) → choice ps bus ≡ Ok o → bad_list ps ≡ false
-was_good ps bus o e = not_true_false (bad_list ps) (λ b. not_both (choice ps bus) o (choice_bad ps bus b) e)
+was_good ps bus o e = false_from_ne_true (bad_list ps) (λ b. not_both (choice ps bus) o (choice_bad ps bus b) e)
 
 -- and is what `port_from` gives
 was_given : (ps : List Port) (bus : ℕ) (o : Option Exit) → choice ps bus ≡ Ok o → port_from 0 ps bus ≡ o
@@ -96,7 +97,7 @@ was_given ps bus o e = same (choice ps bus) (port_from 0 ps bus) (choice_good ps
 
 before_none : (ps : List Port) → Good ps → (bus i : ℕ) → HasAt ps bus i → (j : ℕ) → j < i → has (port_at ps j) bus ≡ false
 before_none ps g bus i h j l =
-    not_true_false (has (port_at ps j) bus) (λ e. other i j l (at_most_one ps g bus j i (record { inside = omega (arith, h.inside); held = e }) h))
+    false_from_ne_true (has (port_at ps j) bus) (λ e. other i j l (at_most_one ps g bus j i (record { inside = omega (arith, h.inside); held = e }) h))
   where
     other : (i j : ℕ) → j < i → j ≡ i → ⊥
     other i j l e = omega arith
@@ -130,10 +131,10 @@ chooses ps bus =
     from_none : Good ps × ((i : ℕ) → HasAt ps bus i → ⊥) → choice ps bus ≡ Ok None
     from_none h =
         choice_good ps bus (of_good ps h.0)
-        ∙ ap Ok (chosen_none ps 0 bus (λ i l. not_true_false (has (port_at ps i) bus) (λ e. h.1 i (record { inside = l; held = e }))))
+        ∙ ap Ok (chosen_none ps 0 bus (λ i l. false_from_ne_true (has (port_at ps i) bus) (λ e. h.1 i (record { inside = l; held = e }))))
 
     to_bad : choice ps bus ≡ Err list_refused → Good ps → ⊥
     to_bad e g = not_both (choice ps bus) (port_from 0 ps bus) e (choice_good ps bus (of_good ps g))
 
     from_bad : (Good ps → ⊥) → choice ps bus ≡ Err list_refused
-    from_bad n = ⊎_elim (choice_bad ps bus) (λ b. absurd (n (good_of ps b))) (is_or_not (bad_list ps))
+    from_bad n = ⊎_elim (choice_bad ps bus) (λ b. absurd (n (good_of ps b))) (cases_Bool (bad_list ps))

@@ -4,6 +4,7 @@ use Prim.Native.Nat.{ℕ, suc}
 use mathlib.Core.Bool.{Bool, true, false, cond, ◌||◌, true≢false}
 use mathlib.Core.List.{List, [], ◌∷◌}
 use mathlib.Core.Path.{◌≡◌, refl, sym, ap, ap₂, ◌∙◌}
+use Rattle.std.proofs.lemmas.Bool.{or_parts}
 use Rattle.std.specs.Prelude.{Option, Some, None, Ok, Err}
 use lib.Dec.{ltb}
 use lib.ListN.{length}
@@ -11,7 +12,7 @@ use Rattle.ports.specs.declared.Port.{Port}
 use Rattle.ports.specs.declared.Exit.{Exit}
 use Rattle.ports.specs.Ports.{has, exceeds, meet, one_exceeds, meets_one_of, two_meet, bad_list}
 use Rattle.ports.specs.Choice.{Choice, exit_at, list_refused, port_from, choice}
-use Rattle.ports.proofs.Pairs.{neither, meet_comm, in_both_meet}
+use Rattle.ports.proofs.Pairs.{meet_comm, in_both_meet}
 
 -- the same ports in another order
 pub data Reordered : List Port → List Port → Type 0 where
@@ -89,7 +90,7 @@ place_free (p ∷ ps) k m bus = go (has p bus) (place_free ps (suc k) (suc m) bu
 
 same_port : {ps qs : List Port} → Reordered ps qs → two_meet ps ≡ false → (k bus : ℕ) → unplaced_exit (port_from k ps bus) ≡ unplaced_exit (port_from k qs bus)
 same_port Reordered.none z k bus = refl
-same_port (Reordered.keep p ps qs r) z k bus = go (has p bus) (same_port r (neither (meets_one_of p ps) (two_meet ps) z).1 (suc k) bus)
+same_port (Reordered.keep p ps qs r) z k bus = go (has p bus) (same_port r (or_parts (meets_one_of p ps) (two_meet ps) z).1 (suc k) bus)
   where
     go : (b : Bool) → unplaced_exit (port_from (suc k) ps bus) ≡ unplaced_exit (port_from (suc k) qs bus)
         → unplaced_exit (cond b (Some (exit_at k p)) (port_from (suc k) ps bus)) ≡ unplaced_exit (cond b (Some (exit_at k p)) (port_from (suc k) qs bus))
@@ -98,7 +99,7 @@ same_port (Reordered.keep p ps qs r) z k bus = go (has p bus) (same_port r (neit
 same_port (Reordered.swap p q ps) z k bus = go (has p bus) (has q bus) refl refl
   where
     apart : meet p q ≡ false
-    apart = (neither (meet p q) (meets_one_of p ps) (neither (meet p q || meets_one_of p ps) (two_meet (q ∷ ps)) z).0).0
+    apart = (or_parts (meet p q) (meets_one_of p ps) (or_parts (meet p q || meets_one_of p ps) (two_meet (q ∷ ps)) z).0).0
 
     go : (a b : Bool) → has p bus ≡ a → has q bus ≡ b
         → unplaced_exit (cond a (Some (exit_at k p)) (cond b (Some (exit_at (suc k) q)) (port_from (suc (suc k)) ps bus)))
@@ -114,7 +115,7 @@ unfolding choice bad_list
 order_free ps qs r bus = go (bad_list ps) (bad_list qs) refl (sym (same_bad ps qs r))
   where
     two : (l : List Port) → bad_list l ≡ false → two_meet l ≡ false
-    two l e = (neither (two_meet l) false (neither (one_exceeds l) (two_meet l || false) (neither (ltb 32 (length l)) (one_exceeds l || (two_meet l || false)) e).1).1).0
+    two l e = (or_parts (two_meet l) false (or_parts (one_exceeds l) (two_meet l || false) (or_parts (ltb 32 (length l)) (one_exceeds l || (two_meet l || false)) e).1).1).0
 
     go : (a b : Bool) → bad_list ps ≡ a → bad_list qs ≡ bad_list ps → unplaced (cond (bad_list ps) (Err list_refused) (Ok (port_from 0 ps bus))) ≡ unplaced (cond (bad_list qs) (Err list_refused) (Ok (port_from 0 qs bus)))
     go true b e f = rw (f, e)

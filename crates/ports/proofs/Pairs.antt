@@ -1,15 +1,17 @@
 -- THEOREMS. A good list, place by place: `bad_list` says no exactly if there are at most 32 ports, no secondary exceeds its subordinate, and no two
 -- ports at different places meet. Two ranges in order meet exactly if a bus is in both. Assumes nothing.
 use Prim.Native.Nat.{ℕ, zero, suc, ◌≤◌, ◌<◌, max}
-use mathlib.Core.Bool.{Bool, true, false, ◌&&◌, ◌||◌, true≢false}
+use mathlib.Core.Bool.{true, false, ◌||◌}
 use mathlib.Core.List.{List, [], ◌∷◌}
-use mathlib.Core.Logic.{◌↔◌, ◌⊎◌}
-use mathlib.Core.Path.{◌≡◌, refl, sym}
+use mathlib.Core.Logic.{◌↔◌}
+use mathlib.Core.Path.{◌≡◌, refl}
 use native.Mathlib.Nat.{le-max_left, le-max_right, max-le}
 use native.Mathlib.Omega.{arith}
 use lib.Dec.{ltb, leb}
 use lib.ListN.{length, get_or}
 use borrow.Author.Tests.{le-ltb, ltb-false, le-leb, leb-true}
+use Rattle.std.proofs.Math.Bool.{and_comm}
+use Rattle.std.proofs.lemmas.Bool.{and_parts, or_parts}
 use Rattle.ports.specs.declared.Port.{Port}
 use Rattle.ports.specs.Ports.{has, exceeds, meet, one_exceeds, meets_one_of, two_meet, bad_list}
 use Rattle.ports.specs.Noting.{no_port}
@@ -41,28 +43,10 @@ MeetIff =
 abbrev pub MeetComm : Type 0
 MeetComm = (p q : Port) → meet p q ≡ meet q p
 
--- ---- one test and another
-
-pub both_true : (a b : Bool) → a && b ≡ true → (a ≡ true) × (b ≡ true)
-both_true true b e = (refl, e)
-both_true false b e = absurd (true≢false (sym e))
-
-pub neither : (a b : Bool) → a || b ≡ false → (a ≡ false) × (b ≡ false)
-neither true b e = absurd (true≢false e)
-neither false b e = (refl, e)
-
-pub is_or_not : (b : Bool) → (b ≡ true) ⊎ (b ≡ false)
-is_or_not true = ◌⊎◌.inl refl
-is_or_not false = ◌⊎◌.inr refl
-
-pub not_true_false : (b : Bool) → (b ≡ true → ⊥) → b ≡ false
-not_true_false true n = absurd (n refl)
-not_true_false false n = refl
-
 -- ---- a bus in a range
 
 pub has_is : (p : Port) (x : ℕ) → has p x ≡ true → (p.secondary ≤ x) × (x ≤ p.subordinate)
-has_is p x e = let b = both_true (leb p.secondary x) (leb x p.subordinate) e in (leb-true _ _ b.0, leb-true _ _ b.1)
+has_is p x e = let b = and_parts (leb p.secondary x) (leb x p.subordinate) e in (leb-true _ _ b.0, leb-true _ _ b.1)
 
 pub is_has : (p : Port) (x : ℕ) → p.secondary ≤ x → x ≤ p.subordinate → has p x ≡ true
 is_has p x l u = rw (le-leb p.secondary x l, le-leb x p.subordinate u)
@@ -71,12 +55,6 @@ is_has p x l u = rw (le-leb p.secondary x l, le-leb x p.subordinate u)
 
 pub meet_comm : MeetComm
 meet_comm p q = and_comm (leb p.secondary q.subordinate) (leb q.secondary p.subordinate)
-  where
-    and_comm : (a b : Bool) → a && b ≡ b && a
-    and_comm true true = refl
-    and_comm true false = refl
-    and_comm false true = refl
-    and_comm false false = refl
 
 pub in_both_meet : (p q : Port) (x : ℕ) → has p x ≡ true → has q x ≡ true → meet p q ≡ true
 in_both_meet p q x e f =
@@ -87,7 +65,7 @@ in_both_meet p q x e f =
 pub meet_in_both : (p q : Port) → p.secondary ≤ p.subordinate → q.secondary ≤ q.subordinate → meet p q ≡ true
     → InBoth p q (max p.secondary q.secondary)
 meet_in_both p q o r e =
-    let b = both_true (leb p.secondary q.subordinate) (leb q.secondary p.subordinate) e in
+    let b = and_parts (leb p.secondary q.subordinate) (leb q.secondary p.subordinate) e in
     let l = leb-true _ _ b.0 in
     let u = leb-true _ _ b.1 in (
       is_has p _ (le-max_left p.secondary q.secondary) (max-le o u),
@@ -104,8 +82,8 @@ in_order p e = ltb-false p.subordinate p.secondary e
 
 each_ordered : (ps : List Port) → one_exceeds ps ≡ false → (i : ℕ) → i < length ps → (port_at ps i).secondary ≤ (port_at ps i).subordinate
 each_ordered [] e i h = absurd (omega arith)
-each_ordered (p ∷ ps) e zero h = in_order p (neither (exceeds p) (one_exceeds ps) e).0
-each_ordered (p ∷ ps) e (suc i) h = each_ordered ps (neither (exceeds p) (one_exceeds ps) e).1 i (omega arith)
+each_ordered (p ∷ ps) e zero h = in_order p (or_parts (exceeds p) (one_exceeds ps) e).0
+each_ordered (p ∷ ps) e (suc i) h = each_ordered ps (or_parts (exceeds p) (one_exceeds ps) e).1 i (omega arith)
 
 none_exceeds : (ps : List Port) → ((i : ℕ) → i < length ps → (port_at ps i).secondary ≤ (port_at ps i).subordinate) → one_exceeds ps ≡ false
 none_exceeds [] o = refl
@@ -113,8 +91,8 @@ none_exceeds (p ∷ ps) o = rw (le-ltb p.subordinate p.secondary (o 0 (omega ari
 
 meets_none : (p : Port) (qs : List Port) → meets_one_of p qs ≡ false → (i : ℕ) → i < length qs → meet p (port_at qs i) ≡ false
 meets_none p [] e i h = absurd (omega arith)
-meets_none p (q ∷ qs) e zero h = (neither (meet p q) (meets_one_of p qs) e).0
-meets_none p (q ∷ qs) e (suc i) h = meets_none p qs (neither (meet p q) (meets_one_of p qs) e).1 i (omega arith)
+meets_none p (q ∷ qs) e zero h = (or_parts (meet p q) (meets_one_of p qs) e).0
+meets_none p (q ∷ qs) e (suc i) h = meets_none p qs (or_parts (meet p q) (meets_one_of p qs) e).1 i (omega arith)
 
 none_met : (p : Port) (qs : List Port) → ((i : ℕ) → i < length qs → meet p (port_at qs i) ≡ false) → meets_one_of p qs ≡ false
 none_met p [] a = refl
@@ -123,8 +101,8 @@ none_met p (q ∷ qs) a = rw (a 0 (omega arith)) (none_met p qs (λ i h. a (suc 
 each_apart : (ps : List Port) → two_meet ps ≡ false → (i j : ℕ) → i < j → j < length ps → meet (port_at ps i) (port_at ps j) ≡ false
 each_apart [] e i j h l = absurd (omega arith)
 each_apart (p ∷ ps) e i zero h l = absurd (omega arith)
-each_apart (p ∷ ps) e zero (suc j) h l = meets_none p ps (neither (meets_one_of p ps) (two_meet ps) e).0 j (omega arith)
-each_apart (p ∷ ps) e (suc i) (suc j) h l = each_apart ps (neither (meets_one_of p ps) (two_meet ps) e).1 i j (omega arith) (omega arith)
+each_apart (p ∷ ps) e zero (suc j) h l = meets_none p ps (or_parts (meets_one_of p ps) (two_meet ps) e).0 j (omega arith)
+each_apart (p ∷ ps) e (suc i) (suc j) h l = each_apart ps (or_parts (meets_one_of p ps) (two_meet ps) e).1 i j (omega arith) (omega arith)
 
 no_two_meet : (ps : List Port) → ((i j : ℕ) → i < j → j < length ps → meet (port_at ps i) (port_at ps j) ≡ false) → two_meet ps ≡ false
 no_two_meet [] a = refl
@@ -137,9 +115,9 @@ no_two_meet (p ∷ ps) a =
 pub good_of : (ps : List Port) → bad_list ps ≡ false → Good ps
 unfolding bad_list
 good_of ps e =
-    let a = neither (ltb 32 (length ps)) (one_exceeds ps || (two_meet ps || false)) e in
-    let b = neither (one_exceeds ps) (two_meet ps || false) a.1 in
-    let c = neither (two_meet ps) false b.1 in
+    let a = or_parts (ltb 32 (length ps)) (one_exceeds ps || (two_meet ps || false)) e in
+    let b = or_parts (one_exceeds ps) (two_meet ps || false) a.1 in
+    let c = or_parts (two_meet ps) false b.1 in
     record { few = ltb-false 32 (length ps) a.0; sound = record { ordered = each_ordered ps b.0; apart = each_apart ps c.0 } }
 
 pub of_good : (ps : List Port) → Good ps → bad_list ps ≡ false

@@ -4,3 +4,4 @@ pub mod Told
 pub mod Numbers
 pub mod Unique
 pub mod Traps
+pub mod NotOne

@@ -1,26 +1,15 @@
--- Laws of fields and tests, as the code computes them: masks, and the tail of a list of facts. Assumes nothing.
-use Prim.Native.Nat.{ℕ, ◌+◌, ◌/◌, ◌%◌, ◌≤◌, ◌<◌}
-use mathlib.Core.Bool.{Bool, true, false, ◌&&◌}
+-- Laws of the words of a record, as the code reads them. Assumes nothing.
+use Prim.Native.Nat.{ℕ, ◌+◌, ◌%◌, ◌≤◌}
+use mathlib.Core.Bool.{Bool, true, false}
 use mathlib.Core.List.{List}
 use mathlib.Core.Path.{◌≡◌, refl, ◌∙◌}
 use native.Mathlib.Omega.{arith}
-use lib.Bits.{bit_and, and_mask}
 use lib.Dec.{leb}
 use lib.ListN.{length, get_or-eq_default}
 use borrow.Author.Tests.{leb-true, leb-false}
 use Rattle.words.specs.Bytes.{byte}
-use Rattle.words.specs.Fields.{bits, word, word_or_zero}
+use Rattle.words.specs.Fields.{word, word_or_zero}
 use Rattle.words.proofs.Laws.{word_inside, word_outside}
-
-pub low_half : (n : ℕ) → bit_and n 0xffff ≡ bits 15 0 n
-low_half n = and_mask n 16 ∙ omega arith
-
-pub top_twelve : (n : ℕ) → n < 4294967296 → n / 1048576 ≡ bits 31 20 n
-top_twelve n h = omega arith
-
-pub and_true : (b : Bool) → b ≡ b && true
-and_true true = refl
-and_true false = refl
 
 -- a whole number of words is read as it stands, also past the end, where both are 0
 word_aligned : (s : List ℕ) (at : ℕ) → length s ≡ 4096 → at % 4 ≡ 0 → word_or_zero s at ≡ word s at

@@ -12,6 +12,7 @@ const LENGTH: u8 = 0x0c;
 
 const END: usize = 0x100;
 
+#[tactic(auto, unfolding(crate::specs::DualRule::fits_dual))]
 pub(crate) fn fits_dual(at: usize, capability: u8, second: u32) -> bool
     requires { at ≤ 0x0fc }
     ensures { result ≡ fits_dual at capability second }
@@ -19,6 +20,7 @@ pub(crate) fn fits_dual(at: usize, capability: u8, second: u32) -> bool
     at + LENGTH as usize <= END && capability == LENGTH && second >> 20 == LENGTH as u32
 }
 
+#[tactic(auto, unfolding(crate::specs::DualRule::is_dual))]
 pub(crate) fn is_dual(second: u32, third: u32) -> bool
     ensures { result ≡ is_dual second third }
 {

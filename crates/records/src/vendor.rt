@@ -8,6 +8,7 @@ const DVSEC: u32 = 0x0023;
 
 const VERSION: u32 = 0x1;
 
+#[tactic(auto, unfolding(crate::specs::DvsecRule::is_dvsec))]
 pub(crate) fn is_dvsec(header: u32) -> bool
     ensures { result ≡ is_dvsec header }
 {
@@ -15,6 +16,7 @@ pub(crate) fn is_dvsec(header: u32) -> bool
 }
 
 // The record and its body lie in the space.
+#[tactic(auto, unfolding(crate::specs::DvsecRule::extends))]
 pub(crate) fn extends(at: usize, length: usize) -> bool
     requires { (at ≤ 0xffc) × (length < 0x1000) }
     ensures { result ≡ extends at length }

@@ -1,18 +1,15 @@
 -- Laws of bytes that are put at the place of a text, one after the other. Assumes nothing.
 use Prim.Native.Nat.{ℕ, ◌+◌, ◌≤◌}
-use mathlib.Core.List.{List, [], ◌++◌, append_assoc, append-nil}
+use mathlib.Core.List.{List, ◌++◌, append_assoc}
 use mathlib.Core.Path.{◌≡◌, sym, ap, ap₂, subst, ◌∙◌}
-use native.Mathlib.Nat.{add-zero, add_assoc}
+use native.Mathlib.Nat.{add_assoc}
 use native.Mathlib.Omega.{arith}
-use lib.ListN.{length, drop, take, length-append, take-append-drop}
+use lib.ListN.{length, drop, take, length-append}
 use lib.Seq.{length-take-le, take_at, drop_at, drop-drop}
 use Rattle.words.specs.Bytes.{put}
 use Rattle.words.proofs.Laws.{put_length}
 use Rattle.report.specs.declared.text.Text.{Text}
 use Rattle.report.specs.Inner.{Added, Fits}
-
-pub added_none : (text : Text) → Added [] text text
-added_none text = record { next = sym (add-zero text.place); left = simp (add-zero, append-nil, take-append-drop) }
 
 -- a place that is passed is as good as a list that is split there
 put_again : (bytes : List ℕ) (place : ℕ) (a b : List ℕ) → place + (length a + length b) ≤ length bytes

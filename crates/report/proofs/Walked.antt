@@ -86,9 +86,6 @@ module _ (section : Section) {s room : List ℕ} (text : Text) (space : WholeSpa
     chain : (count ≤ length after) × HasChain (describe (kind_of section)) s (take count after)
     chain = found space roomy kept walks_shown done
 
-    pub walked_fits : count ≤ length after
-    walked_fits = chain.0
-
     few : length (take count after) ≤ (describe (kind_of section)).maximum
     few = chain_maximum (kind_of section) s bytes (take count after) chain.1
 

@@ -19,7 +19,7 @@ mod text; // text.rt: bytes and numbers
 // The longest listing: both headings, each list at its maximum with 7 and 11 bytes to a line, and the end.
 pub const LONGEST: usize = 14 + COMPATIBLE_MAXIMUM * 7 + 13 + EXTENDED_MAXIMUM * 11 + 4;
 
-// Added the listing of an input at the start of a text, and answers its length.
+// Writes the listing of an input at the start of a text, and answers its length.
 pub fn listing(space: &[u8], text: &mut [u8; LONGEST]) -> usize
     ensures { Prints space.now text.old result text.new }
 {

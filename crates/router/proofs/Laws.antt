@@ -6,7 +6,6 @@ use mathlib.Core.List.Memᴰ
 use mathlib.Core.List.{List, [], ◌∷◌, ◌++◌}
 use mathlib.Core.Logic.{◌⊎◌, ⊎_elim}
 use mathlib.Core.Path.{◌≡◌, refl, sym, ap, ap₂, ◌∙◌, subst}
-use native.Mathlib.Nat.{zero-add}
 use native.Mathlib.Omega.{arith}
 use lib.Bits.{bit_and}
 use lib.Dec.{eqb}
@@ -15,9 +14,8 @@ use borrow.Author.Tests.{eqb-true, lt-ltb, le-ltb, ltb-false}
 use Rattle.answers.specs.declared.Refusal.TheVariants.{UnknownType}
 use Rattle.answers.specs.Checks.{Check, first_that_applies}
 use Rattle.answers.proofs.Checks.{Positive, none_applies}
-use Rattle.words.specs.Bytes.{byte, Puts}
+use Rattle.words.specs.Bytes.{byte}
 use Rattle.words.specs.Fields.{bit}
-use Rattle.words.proofs.Laws.{puts_is}
 use Rattle.packet.specs.declared.Target.{Target}
 use Rattle.packet.specs.declared.Target.TheVariants.{Type0, Type1, Trusted}
 use Rattle.std.specs.Prelude.{Some, None, Ok, Err}
@@ -95,9 +93,6 @@ pub turned_first : (p : List ℕ) → packet_number p ≡ 0 → target_in p ≡ 
 turned_first p e t h = turned_byte (byte p 0) h (type1_codes (type_code (byte p 0)) (known_type p e) t)
 
 -- ---- what is written
-
-pub put_over : (buffer bytes : List ℕ) (said : Bool) (after : List ℕ) → Puts buffer 0 bytes said after → length bytes ≤ length buffer → after ≡ over bytes buffer
-put_over buffer bytes said after p h = puts_is buffer 0 bytes p (rw (zero-add (length bytes)) h) ∙ rw (zero-add (length bytes))
 
 pub turned_over : (p buffer : List ℕ) → packet_number p ≡ 0 → target_in p ≡ Type1 → byte p 0 < 256 → set (over p buffer) 0 (bit_and (byte p 0) 254) ≡ over (as_type0 p) buffer
 turned_over [] buffer e t h = absurd (omega (arith, whole_header [] e))

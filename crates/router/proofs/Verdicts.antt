@@ -9,6 +9,7 @@ use mathlib.Core.List.{List, [], ◌∷◌, ◌++◌, Memᴰ}
 use mathlib.Core.Logic.{◌↔◌, ◌⊎◌, ⊎_elim}
 use mathlib.Core.Path.{◌≡◌, refl, sym, ap, ◌∙◌, subst}
 use native.Mathlib.Omega.{arith}
+use Rattle.std.proofs.lemmas.Bool.{cases_Bool, cases_lt, false_from_ne_true}
 use Rattle.std.specs.Prelude.{Some, None, Ok, Err}
 use lib.ListN.{length}
 use Rattle.answers.specs.Checks.{check, first_that_applies}
@@ -19,8 +20,7 @@ use Rattle.packet.specs.Request.{packet_number, is_trusted}
 use Rattle.ports.specs.declared.Port.{Port}
 use Rattle.ports.specs.Ports.{supports, bad_list}
 use Rattle.ports.specs.Choice.{Choice, exit_at, choice}
-use Rattle.ports.proofs.Laws.{below_or_not}
-use Rattle.ports.proofs.Pairs.{port_at, Good, is_or_not, not_true_false, good_of}
+use Rattle.ports.proofs.Pairs.{port_at, Good, good_of}
 use Rattle.ports.proofs.Only.{HasAt, chooses}
 use Rattle.router.specs.declared.Verdict.TheVariants.{Leaves, Unsupported}
 use Rattle.router.specs.Routing.{bus_of, target_in, is_type0, is_bad, barred_at, barred, route_checks, route_number, leaving_by, Outcome, leaves_by, unsupported, by_port, by_number, decide, route}
@@ -193,8 +193,8 @@ both_clear false false e = (refl, refl)
 module _ (c : Choice) (p : List ℕ) (size : ℕ) where
   clear : route_number c p size ≡ 0 → Clear c p size
   clear e =
-      let s = not_true_false (is_bad c) (λ b. not_zero 1 (omega arith) (bad_number c p size b)) in
-      let r = ⊎_elim (λ h. absurd (not_zero 2 (omega arith) (room_number c p size s h))) (λ h. h) (below_or_not size 20) in
+      let s = false_from_ne_true (is_bad c) (λ b. not_zero 1 (omega arith) (bad_number c p size b)) in
+      let r = ⊎_elim (λ h. absurd (not_zero 2 (omega arith) (room_number c p size s h))) (λ h. h) (cases_lt size 20) in
       let f = faultless_of s r (packet_number p) refl in
       let b = both_clear (is_type0 (target_in p)) (barred c (target_in p)) (sym (router_number c p size s r f) ∙ e) in
       record { sound = s; room = r; faultless = f; not_type0 = b.0; unbarred = b.1 }
@@ -221,7 +221,7 @@ module _ (c : Choice) (p : List ℕ) (size : ℕ) where
 -- ---- leaves
 
 unbarred_port : (port : Port) (t : Target) → barred_at port t ≡ false → is_trusted t ≡ true → supports port ≡ true
-unbarred_port port t b e = ⊎_elim (λ s. s) (λ s. absurd (true≢false (sym (both e s) ∙ b))) (is_or_not (supports port))
+unbarred_port port t b e = ⊎_elim (λ s. s) (λ s. absurd (true≢false (sym (both e s) ∙ b))) (cases_Bool (supports port))
   where
     both : is_trusted t ≡ true → supports port ≡ false → is_trusted t && not (supports port) ≡ true
     both f s = rw (f, s)

@@ -11,6 +11,7 @@ use lib.Dec.{eqb, ltb}
 use lib.ListN.{length, take, drop}
 use lib.Seq.{take-append_seam, drop-append_seam}
 use borrow.Author.Tests.{eq-eqb, eqb-true}
+use Rattle.std.proofs.lemmas.Bool.{cases_Bool}
 use Rattle.answers.specs.Checks.{check, first_that_applies}
 use Rattle.words.specs.Bytes.{byte}
 use Rattle.words.specs.Fields.{bit}
@@ -25,7 +26,7 @@ use Rattle.packet.specs.Request.{unknown, writes_of, target_of, packet_number, r
 use Rattle.packet.proofs.Laws.{trusted_target}
 use Rattle.packet.proofs.Unique.{decode_unique}
 use Rattle.ports.specs.declared.Port.{Port}
-use Rattle.ports.proofs.Pairs.{port_at, is_or_not}
+use Rattle.ports.proofs.Pairs.{port_at}
 use Rattle.router.specs.Routing.{bus_of, target_in, is_type0, type0_code, as_type0, turns, leaving_by, Outcome, leaves_by, route}
 use Rattle.router.specs.declared.Verdict.TheVariants.{Leaves}
 use Rattle.router.specs.Promise.{Seen, over, shows, Routes}
@@ -217,7 +218,7 @@ turns_at_secondary r p q w = (turned, kept)
     kept : ((target_in p ≡ Type1) × (bus_of p ≡ (port_at r.ports w.0).secondary) → ⊥) → q ≡ p
     kept n =
         left_is r p q w
-        ∙ as_it_is (port_at r.ports w.0) p (⊎_elim (λ t. absurd (n (turns_true (target_in p) (bus_of p) (port_at r.ports w.0) t))) (λ f. f) (is_or_not (turns (target_in p) (bus_of p) (port_at r.ports w.0))))
+        ∙ as_it_is (port_at r.ports w.0) p (⊎_elim (λ t. absurd (n (turns_true (target_in p) (bus_of p) (port_at r.ports w.0) t))) (λ f. f) (cases_Bool (turns (target_in p) (bus_of p) (port_at r.ports w.0))))
 
 -- so a packet leaves as it is, or has become Type 0
 either_way : (r : Router) (p q : List ℕ) → Passes r p q → (q ≡ p) ⊎ BecameType0 p q
@@ -226,7 +227,7 @@ either_way r p q w =
     ⊎_elim
     (λ t. ◌⊎◌.inr ((turns_at_secondary r p q w).0 (turns_true (target_in p) (bus_of p) port t)))
     (λ f. ◌⊎◌.inl (left_is r p q w ∙ as_it_is port p f))
-    (is_or_not (turns (target_in p) (bus_of p) port))
+    (cases_Bool (turns (target_in p) (bus_of p) port))
 
 -- ---- a row
 

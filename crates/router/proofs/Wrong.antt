@@ -6,6 +6,7 @@ use mathlib.Core.List.{List, [], ◌∷◌}
 use mathlib.Core.Logic.{⊎_elim}
 use mathlib.Core.Path.{◌≡◌, refl, sym, ap, ◌∙◌}
 use native.Mathlib.Omega.{arith}
+use Rattle.std.proofs.lemmas.Bool.{cases_lt}
 use Rattle.std.specs.Prelude.{Ok}
 use lib.ListN.{length, replicate, take, drop}
 use lib.Seq.{take-append_seam}
@@ -15,7 +16,6 @@ use Rattle.packet.specs.Request.{trusted}
 use Rattle.packet.proofs.Laws.{number_short}
 use Rattle.ports.specs.declared.Port.{Port}
 use Rattle.ports.specs.Ports.{has, meet, two_meet, bad_list}
-use Rattle.ports.proofs.Laws.{below_or_not}
 use Rattle.ports.proofs.Pairs.{port_at, Good, meet_comm, good_of}
 use Rattle.router.specs.Routing.{bus_of, as_type0, route}
 use Rattle.router.specs.declared.Verdict.TheVariants.{Leaves, Unsupported}
@@ -53,10 +53,10 @@ two_meet_lem ports i j two m g =
     ⊎_elim
     (λ l. true≢false (sym m ∙ g.sound.apart i j l two.inside.1))
     (λ l. true≢false (sym m ∙ meet_comm (port_at ports i) (port_at ports j) ∙ g.sound.apart j i (below i j l two.different) two.inside.0))
-    (below_or_not i j)
+    (cases_lt i j)
   where
     below : (i j : ℕ) → j ≤ i → (i ≡ j → ⊥) → j < i
-    below i j l n = ⊎_elim (λ h. h) (λ h. absurd (n (omega arith))) (below_or_not j i)
+    below i j l n = ⊎_elim (λ h. h) (λ h. absurd (n (omega arith))) (cases_lt j i)
 
 contains_meet : (ports : List Port) (i j : ℕ) → Contains ports i j → meet (port_at ports i) (port_at ports j) ≡ true
 contains_meet ports i j c =

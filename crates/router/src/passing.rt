@@ -34,7 +34,7 @@ fn leave(turned: bool, packet: &[u8], leaving: &mut [u8])
     requires { Ready packet.now turned leaving.old }
     ensures { leaving.new ≡ left turned packet.now leaving.old }
 {
-    words::put(leaving, 0, packet);
+    leaving[..packet.len()].copy_from_slice(packet);
     if turned {
         leaving[0] = packet[0] & 0xfe;
     }

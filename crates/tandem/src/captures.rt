@@ -1,5 +1,5 @@
 // What two functions have captured: as a host keeps it, and as the library does.
-// thawribbon has the same of one function: a crate that another one stands on would export its functions twice in the archive.
+// thawribbon has the conversions of one capture too: no crate can stand on a static library, which both are.
 use super::{HostCapture, HostCaptures};
 use capture::Capture;
 use pair::Captures;

@@ -1,5 +1,5 @@
 -- What the functions that are exported for a test host promise: the promises of `asking`, with a host's numbers in the place of enums. Assumes nothing.
-use Rattle.std.specs.Prelude.{ℕ, zero, suc, List, [], ◌∷◌, ◌≡◌, Result, Ok, Err, get_or}
+use Rattle.std.specs.Prelude.{ℕ, zero, suc, List, [], ◌∷◌, ◌≡◌, Result, Ok, Err}
 use Rattle.answers.specs.declared.Refusal.{Refusal}
 use Rattle.answers.specs.Numbers.{number_of}
 use Rattle.asking.specs.declared.Parts.{Parts}
@@ -17,7 +17,7 @@ abbrev pub parts_by : HostParts → Parts
 parts_by p =
     record {
       kind = p.kind;
-      requester = record { high = p.requester_high; low = p.requester_low };
+      requester = p.requester;
       tag = p.tag;
       bus = p.bus;
       device = p.device;
@@ -27,7 +27,7 @@ parts_by p =
     }
 
 abbrev pub data_by : HostParts → List ℕ
-data_by p = p.first ∷ p.second ∷ p.third ∷ p.fourth ∷ []
+data_by p = p.«data»
 
 -- what was written, as a host is told it
 abbrev pub told_written : Result ℕ Refusal → HostWritten
@@ -51,27 +51,22 @@ abbrev pub HostWrites : HostParts → List ℕ → HostWritten → List ℕ → 
 HostWrites p buffer r after = host_sees r after ≡ host_shown (shows_written (parts_by p) (data_by p) buffer)
 
 -- a completion, as a host is told it: its fields, what it says as a number, and its data
-unfoldable pub told_fields : Completion → ℕ → ℕ → ℕ → ℕ → ℕ → HostHeard
-told_fields c said first second third fourth =
+unfoldable pub told_fields : Completion → ℕ → List ℕ → HostHeard
+told_fields c said four =
     record {
       number = 0;
       said = said;
-      completer_high = c.completer.high;
-      completer_low = c.completer.low;
-      requester_high = c.requester.high;
-      requester_low = c.requester.low;
+      completer = c.completer;
+      requester = c.requester;
       tag = c.tag;
-      first = first;
-      second = second;
-      third = third;
-      fourth = fourth;
+      «data» = four;
     }
 
 -- 1 success with data, 2 success without, 3 UR
 abbrev pub told_by_said : Completion → Said → HostHeard
-told_by_said c (Shown four) = told_fields c 1 (get_or four 0 0) (get_or four 1 0) (get_or four 2 0) (get_or four 3 0)
-told_by_said c Done = told_fields c 2 0 0 0 0
-told_by_said c Unsupported = told_fields c 3 0 0 0 0
+told_by_said c (Shown four) = told_fields c 1 four
+told_by_said c Done = told_fields c 2 (0 ∷ 0 ∷ 0 ∷ 0 ∷ [])
+told_by_said c Unsupported = told_fields c 3 (0 ∷ 0 ∷ 0 ∷ 0 ∷ [])
 
 abbrev pub told_completion : Completion → HostHeard
 told_completion c = told_by_said c c.said
@@ -82,15 +77,10 @@ nothing_heard n =
     record {
       number = n;
       said = 0;
-      completer_high = 0;
-      completer_low = 0;
-      requester_high = 0;
-      requester_low = 0;
+      completer = record { high = 0; low = 0 };
+      requester = record { high = 0; low = 0 };
       tag = 0;
-      first = 0;
-      second = 0;
-      third = 0;
-      fourth = 0;
+      «data» = 0 ∷ 0 ∷ 0 ∷ 0 ∷ [];
     }
 
 abbrev pub told_heard : Result Completion Refusal → HostHeard

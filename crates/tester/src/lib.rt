@@ -15,17 +15,13 @@ use packet::Id;
 pub struct HostParts {
     pub offset: u32,
     pub kind: u8,
-    pub requester_high: u8,
-    pub requester_low: u8,
+    pub requester: Id,
     pub tag: u8,
     pub bus: u8,
     pub device: u8,
     pub function: u8,
     pub enables: u8,
-    pub first: u8,
-    pub second: u8,
-    pub third: u8,
-    pub fourth: u8,
+    pub data: [u8; 4],
 }
 
 #[repr(C)]
@@ -36,20 +32,16 @@ pub struct HostWritten {
 }
 
 // What a completion says: 0 nothing, since it is refused; 1 success, with the data; 2 success without data; 3 UR. Bytes that it does not have are 0.
+// (C has no enum with values.)
 #[repr(C)]
 #[derive(Clone, Copy, Default)]
 pub struct HostHeard {
     pub number: u8,
     pub said: u8,
-    pub completer_high: u8,
-    pub completer_low: u8,
-    pub requester_high: u8,
-    pub requester_low: u8,
+    pub completer: Id,
+    pub requester: Id,
     pub tag: u8,
-    pub first: u8,
-    pub second: u8,
-    pub third: u8,
-    pub fourth: u8,
+    pub data: [u8; 4],
 }
 
 impl From<HostParts> for Parts {
@@ -58,10 +50,7 @@ impl From<HostParts> for Parts {
     fn from(host: HostParts) -> Parts {
         Parts {
             kind: host.kind,
-            requester: Id {
-                high: host.requester_high,
-                low: host.requester_low,
-            },
+            requester: host.requester,
             tag: host.tag,
             bus: host.bus,
             device: host.device,
@@ -76,12 +65,9 @@ impl From<Result<usize, Refusal>> for HostWritten {
     ghost from_gives = { λ written told. told ≡ told_written written };
 
     fn from(written: Result<usize, Refusal>) -> HostWritten {
-        match written {
-            Ok(length) => HostWritten { length, number: 0 },
-            Err(refusal) => HostWritten {
-                length: 0,
-                number: refusal.number(),
-            },
+        HostWritten {
+            length: written.unwrap_or(0),
+            number: answers::number(&written),
         }
     }
 }
@@ -89,24 +75,24 @@ impl From<Result<usize, Refusal>> for HostWritten {
 impl From<Completion> for HostHeard {
     ghost from_gives = { λ completion told. told ≡ told_completion completion };
 
+    #[tactic(auto, unfolding(crate::specs::Asks::told_fields))]
     fn from(completion: Completion) -> HostHeard {
-        let (said, [first, second, third, fourth]) = match completion.said {
-            Said::Shown(bytes) => (1, bytes),
-            Said::Done => (2, [0; 4]),
-            Said::Unsupported => (3, [0; 4]),
-        };
-        HostHeard {
+        let told = HostHeard {
             number: 0,
-            said,
-            completer_high: completion.completer.high,
-            completer_low: completion.completer.low,
-            requester_high: completion.requester.high,
-            requester_low: completion.requester.low,
+            said: 0,
+            completer: completion.completer,
+            requester: completion.requester,
             tag: completion.tag,
-            first,
-            second,
-            third,
-            fourth,
+            data: [0; 4],
+        };
+        match completion.said {
+            Said::Shown(data) => HostHeard {
+                said: 1,
+                data,
+                ..told
+            },
+            Said::Done => HostHeard { said: 2, ..told },
+            Said::Unsupported => HostHeard { said: 3, ..told },
         }
     }
 }
@@ -130,8 +116,7 @@ impl From<Result<Completion, Refusal>> for HostHeard {
 pub extern "C" fn thawribbon_write_request(parts: HostParts, buffer: &mut [u8]) -> HostWritten
     ensures { HostWrites parts buffer.old result buffer.new }
 {
-    let new = [parts.first, parts.second, parts.third, parts.fourth];
-    HostWritten::from(asking::write_request(Parts::from(parts), new, buffer))
+    HostWritten::from(asking::write_request(Parts::from(parts), parts.data, buffer))
 }
 
 #[unsafe(no_mangle)]

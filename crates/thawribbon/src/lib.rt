@@ -20,7 +20,7 @@ pub struct HostDescription {
     pub edition: u32,
 }
 
-// Nothing where `captured` is 0, else the captured bus and device number.
+// Nothing where `captured` is 0, else the captured bus and device number. (C has no enum with values.)
 #[repr(C)]
 #[derive(Clone, Copy)]
 pub struct HostCapture {
@@ -29,6 +29,7 @@ pub struct HostCapture {
     pub device: u8,
 }
 
+// How many bytes of the reply are written, 0 where the number is that of a refusal. (C has no enum with values.)
 #[repr(C)]
 #[derive(Clone, Copy)]
 pub struct HostServed {

@@ -63,6 +63,7 @@ impl From<Capture> for HostCapture {
     }
 }
 
+// (A board's parts come one by one: no struct of this interface has more than 16 bytes.)
 #[unsafe(no_mangle)]
 pub extern "C" fn thawribbon_serve(
     description: HostDescription,

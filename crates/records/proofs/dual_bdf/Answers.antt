@@ -9,13 +9,18 @@ use borrow.Author.Tests.{eqb-true, eqb-false}
 use lib.Dec.{eqb}
 use lib.ListN.{length}
 use Rattle.std.proofs.Common.{rules}
+use Rattle.std.specs.Prelude.{Result, Err}
+use Rattle.answers.specs.declared.Refusal.{Refusal}
+use Rattle.answers.specs.declared.Refusal.TheVariants.{NotOneFunction}
+use Rattle.records.specs.declared.Alternate.{Alternate}
 use Rattle.words.specs.Bytes.{byte}
 use Rattle.words.specs.Fields.{bits, word, word_or_zero}
 use Rattle.words.specs.Places.{placed}
 use Rattle.words.proofs.Laws.{Place, placed_true}
-use Rattle.records.specs.DualRule.{fits_dual, is_dual, one_set, vector_at, alternate_of, dual_number}
+use Rattle.records.specs.DualRule.{fits_dual, is_dual, one_set, vector_at, alternate_of, dual_number, tells_dual, dual_says}
+use Rattle.records.proofs.NotOne.{not_one_function}
 use Rattle.records.proofs.Masks.{word_read}
-use Rattle.records.proofs.OneBit.{one_set_lem, not_one_set}
+use Rattle.records.proofs.OneBit.{one_set_lem}
 use Rattle.records.proofs.Told.{sized_is, dual_refused, dual_found, dual_number_lem}
 use Rattle.records.proofs.dual_bdf.Goals as goal
 
@@ -102,18 +107,18 @@ returns-in_err-required-5 c =
 pub alternate_of-requires : goal.alternate_of-requires
 alternate_of-requires c = one_set_lem _ (omega (arith, c.vector_of-vector.ensures)) (eqb-true _ 1 c.in_ok-required-6.ensures)
 
+-- where the vector has not one bit: the answer that is told
+told : (s : List ℕ) (at : ℕ) {r : Result Alternate Refusal} {refusal : Refusal} → r ≡ Err refusal → refusal ≡ NotOneFunction
+    → tells_dual (Err NotOneFunction) ≡ dual_says s at → tells_dual r ≡ dual_says s at
+told s at is same e = rw (is, same) e
+
 pub returns-in_err-required-6 : goal.returns-in_err-required-6
 returns-in_err-required-6 c =
     let a = c.args in
-    let size = c.in_ok-required.ensures in
-    let there = c.in_ok-required-2.ensures in
-    let here = place a.at c.placed-placed.ensures there in
-    dual_refused _ _ (search rules) c.in_err-required-6.ensures.1
-    (number a.space.now a.at size here (sym c.placed-placed.ensures ∙ there) c.in_ok-required-3.ensures
-    (fits_tested a.space.now a.at size here c.word-second.ensures c.fits_dual.ensures ∙ c.in_ok-required-4.ensures)
-    (dual_tested a.space.now a.at size here c.word-second.ensures c.word-third.ensures c.is_dual.ensures ∙ c.in_ok-required-5.ensures)
-    c.word-third.ensures c.vector_of-vector.ensures
-    (not_one_set _ (omega (arith, c.vector_of-vector.ensures)) (eqb-false _ 1 c.in_err-required-6.ensures.0)))
+    told a.space.now a.at (search rules) c.in_err-required-6.ensures.1
+    (not_one_function a.space.now a.at (eqb-true _ _ c.in_ok-required.ensures) (sym c.placed-placed.ensures ∙ c.in_ok-required-2.ensures)
+    (eqb-true _ _ c.in_ok-required-3.ensures) c.word-second.ensures (sym c.fits_dual.ensures ∙ c.in_ok-required-4.ensures) c.word-third.ensures
+    (sym c.is_dual.ensures ∙ c.in_ok-required-5.ensures) c.vector_of-vector.ensures (eqb-false _ 1 c.in_err-required-6.ensures.0))
 
 pub returns : goal.returns
 returns c =

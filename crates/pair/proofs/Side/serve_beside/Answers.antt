@@ -9,10 +9,10 @@ pub returns-then-is_badly_described-clause-serves : goal.returns-then-is_badly_d
 returns-then-is_badly_described-clause-serves c =
     let a = c.args in
     beside_bad_seen (board_of a.edition (lent_side a.self.now)) (board_of a.edition (lent_side a.other.now)) a.packet.now a.reply.now
-    (sym c.is_badly_described.ensures.bad ∙ c.if-is_badly_described.true)
+    (sym c.is_badly_described.ensures ∙ c.if-is_badly_described.true)
 
 pub returns-clause-serves : goal.returns-clause-serves
 returns-clause-serves c =
     let a = c.args in
     beside_served (board_of a.edition (lent_side a.self.now)) (board_of a.edition (lent_side a.other.now)) a.packet.now a.reply.now _ _ _ _
-    (sym c.is_badly_described.ensures.bad ∙ c.if-is_badly_described.false) c.serve.ensures.serves
+    (sym c.is_badly_described.ensures ∙ c.if-is_badly_described.false) c.serve.ensures.serves
