@@ -2,8 +2,10 @@
 // and their records, and the structures of a new board with their proposal.
 use crate::boards::Board;
 use crate::desks::Desk;
+use crate::keeping::Records;
 use crate::list::List;
-use crate::walking::{ROOM, UNTOUCHED};
+use crate::structures::{Proposal, Structures};
+use crate::walking::UNTOUCHED;
 use layout::Structure;
 use multicast::Record;
 use ports::Port;
@@ -32,9 +34,9 @@ pub struct Bench {
     pub reply: [u8; REPLY],
     // These stay with a new board.
     pub ports: List<Port, MOST_PORTS>,
-    pub records: List<Record, MOST_RECORDS>,
-    pub structures: List<Structure, MOST_STRUCTURES>,
-    pub proposal: List<u16, ROOM>,
+    pub records: Records,
+    pub structures: Structures,
+    pub proposal: Proposal,
 }
 
 impl Bench {
@@ -56,7 +58,7 @@ impl Bench {
             sent: 0,
             reply: [UNWRITTEN; REPLY],
             ports: List::alike(port, 0),
-            records: List::alike([0; 7], 0),
+            records: List::alike(Record::default(), 0),
             structures: List::alike(structure, 0),
             proposal: List::alike(UNTOUCHED, 0),
         }

@@ -1,12 +1,12 @@
 // A Multicast capability of the board at the desk is asked for. Its number and its seven fields are told, or held against what is expected; it
 // may be kept as the record of a port of the switch.
 use crate::desks::Desk;
-use crate::keeping::{RecordList, numbers_of};
+use crate::keeping::{Records, numbers_of};
 use crate::tokens::Tokens;
 use crate::vocabulary::Word;
 use crate::{explaining, reading, say};
-use answers::{Answer, Refusal};
-use multicast::{BASE, BLOCK_ALL, ENABLE, INDEX, MAX_GROUP, NUM_GROUP, RECEIVE, Record};
+use answers::Refusal;
+use multicast::Record;
 use std::fmt;
 use std::fmt::{Display, Formatter};
 
@@ -19,7 +19,7 @@ pub fn ask(desk: &Desk, tokens: Tokens, space: &[u8]) -> bool {
 }
 
 // The same, and what is found becomes the record of a port; a refusal leaves that as it is.
-pub fn keep(desk: &Desk, tokens: Tokens, space: &[u8], records: &mut RecordList) -> bool {
+pub fn keep(desk: &Desk, tokens: Tokens, space: &[u8], records: &mut Records) -> bool {
     let found = read(tokens, space);
     let right = answer(desk, tokens, space, found);
     let port = tokens.number(3);
@@ -33,12 +33,7 @@ pub fn keep(desk: &Desk, tokens: Tokens, space: &[u8], records: &mut RecordList)
 }
 
 fn read(tokens: Tokens, space: &[u8]) -> Result<Record, Refusal> {
-    let found = multicast::read(space, tokens.number(2));
-    let answer = found.answer;
-    match answer {
-        Answer::Done => Ok(found.fields),
-        Answer::Refused(refusal) => Err(refusal),
-    }
+    multicast::read(space, tokens.number(2))
 }
 
 fn answer(desk: &Desk, tokens: Tokens, space: &[u8], found: Result<Record, Refusal>) -> bool {
@@ -67,14 +62,14 @@ fn answer_found(desk: &Desk, tokens: Tokens, record: Record) -> bool {
 
 // The seven fields in words.
 fn tell(record: Record) {
-    let enabled = Enabled(record[ENABLE] == 1);
-    let most = record[MAX_GROUP];
-    let count = record[NUM_GROUP];
-    let base = record[BASE];
-    let index = record[INDEX];
+    let enabled = Enabled(record.enable == 1);
+    let most = record.max_group;
+    let count = record.num_group;
+    let base = record.base;
+    let index = record.index;
     let window = 1u64 << (index % 64);
-    let receive = record[RECEIVE];
-    let block_all = record[BLOCK_ALL];
+    let receive = record.receive;
+    let block_all = record.block_all;
     let received = Places(receive);
     let blocked = Places(block_all);
     say!("  Max Group {most:X}, Num Group {count:X}, {enabled}\n");

@@ -10,6 +10,7 @@ use crate::{
     capabilities, chaining, completions, helping, keeping, laying, packets, planning, reading,
     requests, routing, say, structures, verdicts, walking,
 };
+use multicast::Record;
 use ports::Port;
 
 // The bytes that stand in a fresh board's spaces.
@@ -110,7 +111,10 @@ fn sizes_of(numbers: Tokens) -> [usize; 6] {
 fn set_switch(bench: &mut Bench, word: Word, numbers: Tokens) -> Result<(), Wrong> {
     match word {
         Word::Ports => put_ports(bench, numbers),
-        Word::Records => bench.records = List::alike([0; 7], numbers.number(0).min(MOST_RECORDS)),
+        Word::Records => bench.records = List::alike(
+            Record::default(),
+            numbers.number(0).min(MOST_RECORDS),
+        ),
         _ => {
             if !bench
                 .records

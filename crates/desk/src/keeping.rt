@@ -5,29 +5,30 @@ use crate::list::List;
 use crate::tokens::Tokens;
 use multicast::Record;
 
-pub type RecordList = List<Record, MOST_RECORDS>;
+pub type Records = List<Record, MOST_RECORDS>;
 
-// The seven numbers from a place of the line on, whether a capability could have them or not.
+// Seven numbers, whether a capability could have them or not.
 pub fn record_of(numbers: Tokens) -> Record {
-    [
-        numbers.number(0) as u64,
-        numbers.number(1) as u64,
-        numbers.number(2) as u64,
-        numbers.number(3) as u64,
-        numbers.number(4) as u64,
-        numbers.number(5) as u64,
-        numbers.number(6) as u64,
-    ]
+    Record {
+        max_group: numbers.number(0) as u64,
+        num_group: numbers.number(1) as u64,
+        enable: numbers.number(2) as u64,
+        index: numbers.number(3) as u64,
+        base: numbers.number(4) as u64,
+        receive: numbers.number(5) as u64,
+        block_all: numbers.number(6) as u64,
+    }
 }
 
+// The same numbers, in their order.
 pub fn numbers_of(record: Record) -> [usize; 7] {
     [
-        record[0] as usize,
-        record[1] as usize,
-        record[2] as usize,
-        record[3] as usize,
-        record[4] as usize,
-        record[5] as usize,
-        record[6] as usize,
+        record.max_group as usize,
+        record.num_group as usize,
+        record.enable as usize,
+        record.index as usize,
+        record.base as usize,
+        record.receive as usize,
+        record.block_all as usize,
     ]
 }

@@ -1,6 +1,6 @@
 // Why an address hits no group, and why it is not judged at all: the first of the causes, in words.
 use crate::say;
-use multicast::{BASE, ENABLE, INDEX, MAX_GROUP, MOST_PORTS, NUM_GROUP, Record};
+use multicast::{MOST_PORTS, Record};
 use std::fmt;
 use std::fmt::{Display, Formatter};
 
@@ -35,14 +35,14 @@ pub fn tell_no_hit(list: &[Record], port: usize, address: u64) {
     let Some(record) = list.get(port) else {
         return;
     };
-    let base = record[BASE];
-    let last = record[NUM_GROUP];
-    if record[ENABLE] == 0 {
+    let base = record.base;
+    let last = record.num_group;
+    if record.enable == 0 {
         say!("  no hit: port {port:X} is not enabled\n");
     } else if address < base {
         say!("  no hit: the address is below {base:X}, the base of port {port:X}\n");
     } else {
-        let group = (address - base) >> (record[INDEX] % 64);
+        let group = (address - base) >> (record.index % 64);
         say!(
             "  no hit: it would be in group {group:X}, and the last one of port {port:X} is {last:X}\n"
         );
@@ -71,22 +71,22 @@ fn tell_faulty(list: &[Record]) {
 }
 
 fn fault_of(record: &Record) -> Option<Fault> {
-    if 63 < record[MAX_GROUP] {
+    if 63 < record.max_group {
         return Some(Fault::MaxGroup);
     }
-    if 1 < record[ENABLE] {
+    if 1 < record.enable {
         return Some(Fault::Enable);
     }
-    if 63 < record[INDEX] {
+    if 63 < record.index {
         return Some(Fault::Index);
     }
-    if record[BASE] % 4096 != 0 {
+    if record.base % 4096 != 0 {
         return Some(Fault::Base);
     }
-    if record[MAX_GROUP] < record[NUM_GROUP] {
+    if record.max_group < record.num_group {
         return Some(Fault::NumGroup);
     }
-    if record[ENABLE] == 1 && record[INDEX] < 12 {
+    if record.enable == 1 && record.index < 12 {
         return Some(Fault::SmallWindow);
     }
     None

@@ -52,26 +52,47 @@ pub fn send(bench: &mut Bench) -> Outcome {
     let packet = bench.packet;
     let sent = packet.get(..bench.sent).unwrap_or(&packet);
     let room = bench.desk.room.min(REPLY);
-    let is_pair = bench.board.is_pair;
-    let reply = &mut bench.reply[..room];
-    if is_pair {
-        serve_both(&mut bench.board, sent, reply)
+    let mut reply = bench.reply;
+    let outcome = if bench.board.is_pair {
+        serve_both(&mut bench.board, sent, &mut reply[..room])
     } else {
-        serve(&mut bench.board, sent, reply)
-    }
+        serve(&mut bench.board, sent, &mut reply[..room])
+    };
+    bench.reply = reply;
+    outcome
+}
+
+fn serve(board: &mut Board, packet: &[u8], reply: &mut [u8]) -> Outcome {
+    let mut ordinary = board.primary.ordinary.bytes;
+    let mut trusted = board.primary.trusted.bytes;
+    let outcome = serve_lent(
+        board,
+        ordinary.lent_mut(),
+        trusted.lent_mut(),
+        packet,
+        reply,
+    );
+    board.primary.ordinary.bytes = ordinary;
+    board.primary.trusted.bytes = trusted;
+    outcome
 }
 
 // Beside a function that is alone nothing is captured.
-fn serve(board: &mut Board, packet: &[u8], reply: &mut [u8]) -> Outcome {
-    let edition = board.edition();
-    let one = &mut board.primary;
+fn serve_lent(
+    board: &Board,
+    ordinary: &mut [u8],
+    trusted: &mut [u8],
+    packet: &[u8],
+    reply: &mut [u8],
+) -> Outcome {
+    let one = &board.primary;
     let mut lent = board::Board {
-        description: describe(one, edition),
+        description: describe(one, board.edition()),
         capture: one.capture(),
-        ordinary: one.ordinary.bytes.lent_mut(),
+        ordinary,
         ordinary_rules: one.ordinary.rules.lent(),
         ordinary_marks: one.ordinary.marks.lent(),
-        trusted: one.trusted.bytes.lent_mut(),
+        trusted,
         trusted_rules: one.trusted.rules.lent(),
         trusted_marks: one.trusted.marks.lent(),
     };
@@ -81,28 +102,67 @@ fn serve(board: &mut Board, packet: &[u8], reply: &mut [u8]) -> Outcome {
 }
 
 fn serve_both(board: &mut Board, packet: &[u8], reply: &mut [u8]) -> Outcome {
-    let edition = board.edition();
-    let mut primary = side_of(&mut board.primary);
-    let mut alternate = side_of(&mut board.alternate);
-    let answer = pair::serve(edition, &mut primary, &mut alternate, packet, reply);
+    let mut primary_ordinary = board.primary.ordinary.bytes;
+    let mut primary_trusted = board.primary.trusted.bytes;
+    let mut alternate_ordinary = board.alternate.ordinary.bytes;
+    let mut alternate_trusted = board.alternate.trusted.bytes;
+    let outcome = serve_lent_both(
+        board,
+        primary_ordinary.lent_mut(),
+        primary_trusted.lent_mut(),
+        alternate_ordinary.lent_mut(),
+        alternate_trusted.lent_mut(),
+        packet,
+        reply,
+    );
+    board.primary.ordinary.bytes = primary_ordinary;
+    board.primary.trusted.bytes = primary_trusted;
+    board.alternate.ordinary.bytes = alternate_ordinary;
+    board.alternate.trusted.bytes = alternate_trusted;
+    outcome
+}
+
+fn serve_lent_both(
+    board: &Board,
+    primary_ordinary: &mut [u8],
+    primary_trusted: &mut [u8],
+    alternate_ordinary: &mut [u8],
+    alternate_trusted: &mut [u8],
+    packet: &[u8],
+    reply: &mut [u8],
+) -> Outcome {
+    let one = &board.primary;
+    let other = &board.alternate;
+    let mut primary = Side {
+        function: function_of(one),
+        capture: one.capture(),
+        ordinary: primary_ordinary,
+        ordinary_rules: one.ordinary.rules.lent(),
+        ordinary_marks: one.ordinary.marks.lent(),
+        trusted: primary_trusted,
+        trusted_rules: one.trusted.rules.lent(),
+        trusted_marks: one.trusted.marks.lent(),
+    };
+    let mut alternate = Side {
+        function: function_of(other),
+        capture: other.capture(),
+        ordinary: alternate_ordinary,
+        ordinary_rules: other.ordinary.rules.lent(),
+        ordinary_marks: other.ordinary.marks.lent(),
+        trusted: alternate_trusted,
+        trusted_rules: other.trusted.rules.lent(),
+        trusted_marks: other.trusted.marks.lent(),
+    };
+    let answer = pair::serve(board.edition(), &mut primary, &mut alternate, packet, reply);
     let kept = Kept::of(primary.capture, alternate.capture);
     Outcome { answer, kept }
 }
 
-fn side_of(function: &mut Function) -> Side<'_> {
-    Side {
-        function: pair::Function {
-            number: function.number,
-            a: function.a,
-            b: function.b,
-        },
-        capture: function.capture(),
-        ordinary: function.ordinary.bytes.lent_mut(),
-        ordinary_rules: function.ordinary.rules.lent(),
-        ordinary_marks: function.ordinary.marks.lent(),
-        trusted: function.trusted.bytes.lent_mut(),
-        trusted_rules: function.trusted.rules.lent(),
-        trusted_marks: function.trusted.marks.lent(),
+fn function_of(function: &Function) -> pair::Function {
+    pair::Function {
+        number: function.number,
+        a: function.a,
+        b: function.b,
     }
 }
 

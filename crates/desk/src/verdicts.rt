@@ -8,73 +8,31 @@ use crate::{explaining, judging, missing, say};
 use answers::Refusal;
 use multicast::{Judged, Record};
 
-// What becomes of a packet. The ports are a set with a bit for each.
-#[derive(Clone, Copy)]
-enum Fate {
-    NoHit,
-    Dropped { group: u8 },
-    Leaves { group: u8, ports: u64 },
-}
-
-impl Fate {
-    fn word(self) -> Word {
-        match self {
-            Fate::NoHit => Word::NoHit,
-            Fate::Dropped { .. } => Word::Dropped,
-            Fate::Leaves { .. } => Word::LeavesBy,
-        }
-    }
-
-    fn group(self) -> Option<usize> {
-        match self {
-            Fate::NoHit => None,
-            Fate::Dropped { group } | Fate::Leaves { group, .. } => Some(group as usize),
-        }
-    }
-
-    fn ports(self) -> u64 {
-        match self {
-            Fate::NoHit | Fate::Dropped { .. } => 0,
-            Fate::Leaves { ports, .. } => ports,
-        }
-    }
-}
-
 // Says whether this is a check that was right.
 pub fn ask(desk: &Desk, tokens: Tokens, list: &[Record]) -> bool {
     let entering = tokens.number(1);
     let address = tokens.number(2) as u64;
-    let fate = fate_of(multicast::judge(list, entering, address));
-    if tokens.is_check() && judge(desk, tokens, fate) {
+    let judged = multicast::judge(list, entering, address);
+    if tokens.is_check() && judge(desk, tokens, judged) {
         return true;
     }
-    tell(fate, list, entering, address);
+    tell(judged, list, entering, address);
     false
 }
 
-fn fate_of(judged: Judged) -> Result<Fate, Refusal> {
-    match judged {
-        Judged::Refused(refusal) => Err(refusal),
-        Judged::NoHit => Ok(Fate::NoHit),
-        Judged::Dropped { group } => Ok(Fate::Dropped { group }),
-        Judged::Leaves { group, ports } => Ok(Fate::Leaves {
-            group,
-            ports: ports as u64,
-        }),
-    }
-}
-
 // Of an address that is refused nothing is said.
-fn judge(desk: &Desk, tokens: Tokens, fate: Result<Fate, Refusal>) -> bool {
-    let (word, group, ports) = match fate {
-        Ok(fate) => (Some(fate.word()), fate.group(), fate.ports()),
+fn judge(desk: &Desk, tokens: Tokens, judged: Result<Judged, Refusal>) -> bool {
+    let (word, group, ports) = match judged {
+        Ok(Judged::NoHit) => (Some(Word::NoHit), None, 0),
+        Ok(Judged::Dropped { group }) => (Some(Word::Dropped), Some(group as usize), 0),
+        Ok(Judged::Leaves { group, ports }) => (Some(Word::LeavesBy), Some(group as usize), ports),
         Err(_) => (None, None, 0),
     };
     let wanted = judging::first_of(&[Word::NoHit, Word::Dropped, Word::LeavesBy], tokens);
-    let answered = judging::number(desk, tokens, answers::number(&fate));
+    let answered = judging::number(desk, tokens, answers::number(&judged));
     let said = judging::said(desk, word, wanted);
     let grouped = judging::perhaps(desk, "group", group, wanted_group(tokens));
-    answered & said & grouped & judge_ports(desk, ports, wanted_ports(tokens))
+    answered & said & grouped & judge_ports(desk, ports as u64, wanted_ports(tokens))
 }
 
 fn wanted_group(tokens: Tokens) -> Option<usize> {
@@ -106,28 +64,28 @@ fn judge_ports(desk: &Desk, found: u64, wanted: u64) -> bool {
     false
 }
 
-fn tell(fate: Result<Fate, Refusal>, list: &[Record], entering: usize, address: u64) {
-    match fate {
+fn tell(judged: Result<Judged, Refusal>, list: &[Record], entering: usize, address: u64) {
+    match judged {
         Err(refusal) => {
             explaining::put_number(refusal.number(), missing::REFUSED);
             missing::tell_refused(list, entering);
         }
-        Ok(fate) => {
+        Ok(judged) => {
             explaining::put_number(0, explaining::ANSWERED);
-            tell_fate(fate, list, entering, address);
+            tell_judged(judged, list, entering, address);
         }
     }
 }
 
-fn tell_fate(fate: Fate, list: &[Record], entering: usize, address: u64) {
-    match fate {
-        Fate::NoHit => missing::tell_no_hit(list, entering, address),
-        Fate::Dropped { group } => say!(
+fn tell_judged(judged: Judged, list: &[Record], entering: usize, address: u64) {
+    match judged {
+        Judged::NoHit => missing::tell_no_hit(list, entering, address),
+        Judged::Dropped { group } => say!(
             "  group {group:X}, dropped where it enters: the Block All bit of port {entering:X} is 1\n"
         ),
-        Fate::Leaves { group, ports: 0 } => say!("  group {group:X}, leaves by no port\n"),
-        Fate::Leaves { group, ports } => {
-            let places = Places(ports);
+        Judged::Leaves { group, ports: 0 } => say!("  group {group:X}, leaves by no port\n"),
+        Judged::Leaves { group, ports } => {
+            let places = Places(ports as u64);
             say!("  group {group:X}, leaves by ports:{places}\n");
         }
     }
