@@ -62,6 +62,7 @@ pub fn send(bench: &mut Bench) -> Outcome {
     outcome
 }
 
+// The bytes are lent as copies: that fields are lent side by side behind a `&mut` is not covered by the proofs.
 fn serve(board: &mut Board, packet: &[u8], reply: &mut [u8]) -> Outcome {
     let mut ordinary = board.primary.ordinary.bytes;
     let mut trusted = board.primary.trusted.bytes;

@@ -1,5 +1,5 @@
 // What the desk writes, always on standard output: `say!` takes a format, as `print!` does. What standard output does not take is lost, and the session
-// goes on.
+// goes on: so nobody needs the result, or a runtime to print with, passed on through every function.
 use std::fmt::{self, Display, Formatter, Write};
 
 // The file descriptor of standard output.
