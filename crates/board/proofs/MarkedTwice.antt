@@ -1,14 +1,16 @@
 -- A bit that is marked twice: what the loop has found so far, and that it is found exactly if there is one. Assumes nothing.
-use Prim.Native.Nat.{ℕ, zero, suc, ◌/◌, ◌%◌, ◌^◌, ◌<◌, min}
+use Prim.Native.Nat.{ℕ, zero, suc, ◌+◌, ◌/◌, ◌%◌, ◌^◌, ◌≤◌, ◌<◌, min}
 use mathlib.Core.Bool.{Bool, true, false, cond, not}
 use mathlib.Core.List.{List, [], ◌∷◌}
-use mathlib.Core.Logic.{◌⊎◌, inl, inr}
 use mathlib.Core.Path.{◌≡◌, refl, sym, ap, ◌∙◌}
 use native.Mathlib.Nat.{div-eq_of_lt, pow-suc}
+use native.Mathlib.Numerals.{add-one}
 use native.Mathlib.Omega.{arith}
 use lib.Bits.{bit_and, bit_or, or_zero_r, or_add_and, and_le_l, and_zero_l, and_zero_r, and_step, and_shr}
 use lib.Dec.{eqb}
+use lib.ListN.{length, take}
 use lib.Pow.{pow_pos}
+use lib.Seq.{take_all}
 use borrow.Author.Tests.{ne_eqb, eqb-true, eqb-false}
 use Rattle.words.specs.Bytes.{byte}
 use Rattle.words.specs.Fields.{bit}
@@ -31,39 +33,43 @@ FoundExactly =
 
 -- ---- the loop
 
-either_way : (found : Bool) → true ≡ cond found true true
-either_way true = refl
-either_way false = refl
-
-more : (both x : ℕ) (later : Bool) → cond (eqb (bit_or both x) 0) later true ≡ cond (eqb both 0) (cond (eqb x 0) later true) true
-more both zero later = rw or_zero_r refl
-more both (suc x) later =
+-- a byte more: what was found before, or in that byte
+more : (both x : ℕ) (found : Bool) → not (eqb both 0) ≡ found → not (eqb (bit_or both x) 0) ≡ cond (eqb x 0) found true
+more both zero found h = rw or_zero_r h
+more both (suc x) found h =
     rw (
       ne_eqb (suc x) 0 (λ e. omega arith),
       ne_eqb (bit_or both (suc x)) 0 (λ e. omega (arith, or_add_and both (suc x), and_le_l both (suc x), e)),
     )
-    (either_way (eqb both 0))
 
--- a byte more: found before, in that byte, or in the rest
-pub one_more : (both rule mark : ℕ) (rules marks rules' marks' : List ℕ) → rules ≡ rule ∷ rules' → marks ≡ mark ∷ marks'
-    → cond (eqb (bit_or both (bit_and rule mark)) 0) (doubly_marked rules' marks') true ≡ cond (eqb both 0) (doubly_marked rules marks) true
+-- in which order two bytes are looked at makes no difference
+either_order : (s t found : Bool) → cond s (cond t found true) true ≡ cond t (cond s found true) true
+either_order true true found = refl
+either_order true false found = refl
+either_order false true found = refl
+either_order false false found = refl
+
+at_place : (rules marks : List ℕ) (i : ℕ) → i < length rules → i < length marks
+    → doubly_marked (take (suc i) rules) (take (suc i) marks)
+    ≡ cond (eqb (bit_and (byte rules i) (byte marks i)) 0) (doubly_marked (take i rules) (take i marks)) true
 unfolding doubly_marked
-one_more both rule mark rules marks rules' marks' e f = rw (e, f) (more both (bit_and rule mark) (doubly_marked rules' marks'))
+at_place [] marks i h k = absurd (omega arith)
+at_place (r ∷ rules) [] i h k = absurd (omega arith)
+at_place (r ∷ rules) (m ∷ marks) zero h k = refl
+at_place (r ∷ rules) (m ∷ marks) (suc i) h k =
+    rw (at_place rules marks i (omega arith) (omega arith))
+    (either_order (eqb (bit_and r m) 0) (eqb (bit_and (byte rules i) (byte marks i)) 0) (doubly_marked (take i rules) (take i marks)))
 
--- and nothing after the last
-nothing_later : (rules marks : List ℕ) → (rules ≡ []) ⊎ (marks ≡ []) → doubly_marked rules marks ≡ false
-unfolding doubly_marked
-nothing_later [] marks h = refl
-nothing_later (r ∷ rules) [] h = refl
-nothing_later (r ∷ rules) (m ∷ marks) (inl e) = cc
-nothing_later (r ∷ rules) (m ∷ marks) (inr e) = cc
+pub one_more : (rules marks : List ℕ) (both i : ℕ) → i < length rules → i < length marks
+    → not (eqb both 0) ≡ doubly_marked (take i rules) (take i marks)
+    → not (eqb (bit_or both (bit_and (byte rules i) (byte marks i))) 0) ≡ doubly_marked (take (i + 1) rules) (take (i + 1) marks)
+one_more rules marks both i h k e =
+    rw (add-one, at_place rules marks i h k)
+    (more both (bit_and (byte rules i) (byte marks i)) (doubly_marked (take i rules) (take i marks)) e)
 
-as_found : (found : Bool) → not found ≡ cond found false true
-as_found true = refl
-as_found false = refl
-
-pub none_later : (rules marks : List ℕ) (both : ℕ) → (rules ≡ []) ⊎ (marks ≡ []) → not (eqb both 0) ≡ cond (eqb both 0) (doubly_marked rules marks) true
-none_later rules marks both h = rw (nothing_later rules marks h) (as_found (eqb both 0))
+pub all_looked_at : (rules marks : List ℕ) (n : ℕ) → length rules ≤ n → length marks ≤ n
+    → doubly_marked (take n rules) (take n marks) ≡ doubly_marked rules marks
+all_looked_at rules marks n h k = rw (take_all n rules h, take_all n marks k)
 
 -- ---- at every place
 

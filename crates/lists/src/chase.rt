@@ -4,6 +4,7 @@ ghost use Rattle.lists.specs.Table.{describe};
 ghost use Rattle.lists.specs.Inner.{offset_of, Leads, Underway, Chases};
 
 use crate::table::{self, List};
+use words::SPACE;
 
 // Where a pointer leads: "the next offset, the end, or a fault". A Result of an Option is no plainer than the three.
 #[derive(Clone, Copy)]
@@ -49,10 +50,10 @@ fn moved_up(waiting: usize, last: usize, count: usize) -> usize
 // Goes on from a position with `passed` offsets in the log, and answers how many there are at the chain's end. What is carried is a position: a word's
 // number, from which the next header is loaded without another step between, and in the compatible list the offset of the byte before its pointer. A list
 // that goes round comes by the position that waits, so that a short round is noticed early; a chain that ends pays two comparisons a header for it, and no
-// mark. No `for` over the log: a chain may end where it is full.
+// mark. No `for` over the log: a chain may end where it is full. No Vec for the log and its count: there is no heap.
 #[tactic(auto, using(crate::proofs::Following::chase_ends))]
 pub(crate) fn chase<L: List>(
-    space: &[u8; words::SPACE],
+    space: &[u8; SPACE],
     log: &mut [u16],
     passed: usize,
     from: usize,

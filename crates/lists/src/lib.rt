@@ -11,6 +11,7 @@ use answers::Refusal;
 use chase::{Step, Stopped};
 use table::{Compatible, Extended, List, Trusted};
 pub use table::{COMPATIBLE_MAXIMUM, EXTENDED_MAXIMUM, TRUSTED_MAXIMUM};
+use words::SPACE;
 
 mod chase; // chase.rt: a chain is followed, a step at a time
 mod marks; // marks.rt: where a list comes back for the first time
@@ -43,12 +44,6 @@ const LONG: usize = TRUSTED_MAXIMUM;
 pub fn walk(kind: Kind, space: &[u8], room: &mut [u16]) -> Result<usize, Refused>
     ensures { Walks kind space.now room.old result room.new }
 {
-    let Ok(space) = <&[u8; words::SPACE]>::try_from(space) else {
-        return Err(Refused {
-            refusal: Refusal::BadDescription,
-            place: 0,
-        });
-    };
     match kind {
         Kind::Compatible => walk_list::<Compatible>(space, room),
         Kind::Extended => walk_list::<Extended>(space, room),
@@ -56,16 +51,31 @@ pub fn walk(kind: Kind, space: &[u8], room: &mut [u16]) -> Result<usize, Refused
     }
 }
 
-// With a short log at first: a chain that ends in it is listed.
-fn walk_list<L: List>(space: &[u8; words::SPACE], room: &mut [u16]) -> Result<usize, Refused>
+// The sizes are looked at first. From there on the space's is in its type; the room's depends on the list, and stands in three contracts (`Roomy`): a
+// struct for the two would be no plainer.
+fn walk_list<L: List>(space: &[u8], room: &mut [u16]) -> Result<usize, Refused>
     ensures { Walks L.kind space.now room.old result room.new }
 {
+    let Ok(space) = <&[u8; SPACE]>::try_from(space) else {
+        return Err(Refused {
+            refusal: Refusal::BadDescription,
+            place: 0,
+        });
+    };
     if room.len() < L::maximum() {
         return Err(Refused {
             refusal: Refusal::NoRoom,
             place: 0,
         });
     }
+    walk_short::<L>(space, room)
+}
+
+// The walk with a short log: a chain that ends in it is listed.
+fn walk_short<L: List>(space: &[u8; SPACE], room: &mut [u16]) -> Result<usize, Refused>
+    requires { Roomy L.kind room.old }
+    ensures { Walks L.kind space.now room.old result room.new }
+{
     let mut log = [0u16; SHORT];
     let start = table::first::<L>(space);
     match chase::chase::<L>(space, &mut log, 0, start) {
@@ -76,12 +86,12 @@ fn walk_list<L: List>(space: &[u8; words::SPACE], room: &mut [u16]) -> Result<us
 
 // The walk from where it stopped: with a long log where the short one was full and the list may be longer, and else it is broken.
 fn go_on<L: List>(
-    space: &[u8; words::SPACE],
-    short: &[u16],
+    space: &[u8; SPACE],
+    short: &[u16; SHORT],
     stopped: Stopped,
     room: &mut [u16],
 ) -> Result<usize, Refused>
-    requires { Stops L.kind space.now short.now stopped.count (offset_of L.kind stopped.position) × Roomy L.kind room.old × (length short.now ≡ 48) }
+    requires { Stops L.kind space.now short.now stopped.count (offset_of L.kind stopped.position) × Roomy L.kind room.old }
     ensures { Walks L.kind space.now room.old result room.new }
 {
     let Stopped { count, position } = stopped;
@@ -93,12 +103,12 @@ fn go_on<L: List>(
 
 // The walk from where a short log was full: to the list's maximum.
 fn walk_long<L: List>(
-    space: &[u8; words::SPACE],
-    short: &[u16],
+    space: &[u8; SPACE],
+    short: &[u16; SHORT],
     position: usize,
     room: &mut [u16],
 ) -> Result<usize, Refused>
-    requires { Underway L.kind space.now short.now (length short.now) (offset_of L.kind position) × Roomy L.kind room.old × (length short.now ≡ 48) × (48 < (describe L.kind).maximum) }
+    requires { Underway L.kind space.now short.now 48 (offset_of L.kind position) × Roomy L.kind room.old × (48 < (describe L.kind).maximum) }
     ensures { Walks L.kind space.now room.old result room.new }
 {
     let mut log = [0u16; LONG];

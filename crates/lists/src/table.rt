@@ -6,6 +6,8 @@ ghost use Rattle.lists.specs.Table.{describe, extended_next};
 ghost use Rattle.lists.specs.Chain.{dropped, first, follows};
 ghost use Rattle.lists.specs.Inner.{offset_of, Raw, Counted, Whole};
 
+use words::SPACE;
+
 // A row of the table. What is generic in it is compiled for each of the three. The floor and the maximum are functions: a constant has no contract.
 pub(crate) trait List {
     ghost kind: { Kind };
@@ -27,18 +29,18 @@ pub(crate) trait List {
         ensures { Counted kind (dropped pointer) result };
 
     // The pointer to the first header.
-    fn start(space: &[u8; words::SPACE]) -> u32
+    fn start(space: &[u8; SPACE]) -> u32
         ensures { Raw ((describe kind).start space.now) result };
 
     // The pointer in the header at a position.
-    fn next(space: &[u8; words::SPACE], position: usize) -> usize
-        requires { (offset_of kind position ≤ 0xffc) }
+    fn next(space: &[u8; SPACE], position: usize) -> usize
+        requires { offset_of kind position ≤ 0xffc }
         ensures { Raw ((describe kind).next space.now (offset_of kind position)) result };
 }
 
 // The position of the list's first header, or 0.
 #[tactic(auto, using(crate::proofs::Pointers::counted_from), unfolding(crate::specs::Chain::first))]
-pub(crate) fn first<L: List>(space: &[u8; words::SPACE]) -> usize
+pub(crate) fn first<L: List>(space: &[u8; SPACE]) -> usize
     ensures { Counted L.kind (first (describe L.kind) space.now) result }
 {
     L::position(L::start(space) as usize)
@@ -46,8 +48,8 @@ pub(crate) fn first<L: List>(space: &[u8; words::SPACE]) -> usize
 
 // The position that the header at a position points to, or 0.
 #[tactic(auto, using(crate::proofs::Pointers::counted_from), unfolding(crate::specs::Chain::follows))]
-pub(crate) fn follow<L: List>(space: &[u8; words::SPACE], position: usize) -> usize
-    requires { (offset_of L.kind position ≤ 0xffc) }
+pub(crate) fn follow<L: List>(space: &[u8; SPACE], position: usize) -> usize
+    requires { offset_of L.kind position ≤ 0xffc }
     ensures { Counted L.kind (follows (describe L.kind) space.now (offset_of L.kind position)) result }
 {
     L::position(L::next(space, position))
@@ -85,7 +87,7 @@ impl List for Compatible {
         4 * (pointer >> 2)
     }
 
-    fn start(space: &[u8; words::SPACE]) -> u32 {
+    fn start(space: &[u8; SPACE]) -> u32 {
         if (space[STATUS] >> CAPABILITIES) & 1 == 0 {
             return 0;
         }
@@ -94,7 +96,7 @@ impl List for Compatible {
     }
 
     #[tactic(auto, unfolding(crate::specs::Table::compatible_next))]
-    fn next(space: &[u8; words::SPACE], offset: usize) -> usize {
+    fn next(space: &[u8; SPACE], offset: usize) -> usize {
         space[offset + 1] as usize
     }
 }
@@ -127,14 +129,14 @@ impl List for Extended {
         pointer >> 2
     }
 
-    fn start(space: &[u8; words::SPACE]) -> u32 {
+    fn start(space: &[u8; SPACE]) -> u32 {
         if words::word(space, EXTENDED_START) == 0 {
             return 0;
         }
         EXTENDED_START as u32
     }
 
-    fn next(space: &[u8; words::SPACE], position: usize) -> usize {
+    fn next(space: &[u8; SPACE], position: usize) -> usize {
         extended_next(space, position)
     }
 }
@@ -167,27 +169,27 @@ impl List for Trusted {
         pointer >> 2
     }
 
-    fn start(space: &[u8; words::SPACE]) -> u32 {
+    fn start(space: &[u8; SPACE]) -> u32 {
         words::word(space, TRUSTED_START) & 0xfff
     }
 
-    fn next(space: &[u8; words::SPACE], position: usize) -> usize {
+    fn next(space: &[u8; SPACE], position: usize) -> usize {
         extended_next(space, position)
     }
 }
 
 // The pointer in the header at a position of the extended or the trusted list.
 #[tactic(auto, using(crate::proofs::Pointers::whole_pointer))]
-fn extended_next(space: &[u8; words::SPACE], position: usize) -> usize
-    requires { (4 * position ≤ 0xffc) }
+fn extended_next(space: &[u8; SPACE], position: usize) -> usize
+    requires { 4 * position ≤ 0xffc }
     ensures { Raw (extended_next space.now (4 * position)) result }
 {
     (word_of(space, position) >> 20) as usize
 }
 
 // The word at a position that counts words. `words::word` would test at every header whether it lies in the space.
-fn word_of(space: &[u8; words::SPACE], position: usize) -> u32
-    requires { (4 * position ≤ 0xffc) }
+fn word_of(space: &[u8; SPACE], position: usize) -> u32
+    requires { 4 * position ≤ 0xffc }
     ensures { Whole space.now (4 * position) result }
 {
     let at = 4 * position;

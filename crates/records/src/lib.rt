@@ -1,6 +1,6 @@
 #![tactic(auto)]
 // Two records of a lent configuration space: a DVSEC record and a Dual-BDF record.
-// Every function answers for every space and offset. A record that is refused tells its number and nothing else, and has an empty body.
+// Every function answers for every space and offset. A record that is refused tells why and nothing else, and has an empty body.
 ghost use Rattle.std.specs.Prelude.{◌≡◌};
 ghost use Rattle.records.specs.DvsecRule.{tells_dvsec, dvsec_says, BodyLies};
 ghost use Rattle.records.specs.DualRule.{tells_dual, dual_says};

@@ -32,31 +32,31 @@ Passed section s offsets text done after = Added (entries (style section) s (tak
 
 module _ {section : Section} {s offsets : List ℕ} {text : Text} (ready : Ready section s offsets text) where
   module _ (done : ℕ) (after : Text) (more : done < length offsets) (passed : Passed section s offsets text done after) where
-      passed_length : length (entries (style section) s (take done offsets)) ≡ width section * done
-      passed_length =
-          entries_length section s (take done offsets) ∙ ap (λ (n : ℕ). width section * n) (length-take-le done offsets (le_of_lt more))
+    passed_length : length (entries (style section) s (take done offsets)) ≡ width section * done
+    passed_length =
+        entries_length section s (take done offsets) ∙ ap (λ (n : ℕ). width section * n) (length-take-le done offsets (le_of_lt more))
 
-      pub line_fits : Fits (width section) after
-      line_fits =
-          omega (
-            arith,
-            one_more section text.place done (length offsets) (length text.bytes.now) ready.fits more,
-            passed_length,
-            passed.next,
-            added_length passed (omega (arith, one_more section text.place done (length offsets) (length text.bytes.now) ready.fits more, passed_length)),
-          )
+    pub line_fits : Fits (width section) after
+    line_fits =
+        omega (
+          arith,
+          one_more section text.place done (length offsets) (length text.bytes.now) ready.fits more,
+          passed_length,
+          passed.next,
+          added_length passed (omega (arith, one_more section text.place done (length offsets) (length text.bytes.now) ready.fits more, passed_length)),
+        )
 
-      pub line_more : {next : Text} → Added (line ((style section).entry s (get_or offsets done 0))) after next
-          → Passed section s offsets text (done + 1) next
-      line_more written =
-          added_as (entries_more (style section) s offsets done more)
-          (added_then passed written
-          (omega (
-            arith,
-            one_more section text.place done (length offsets) (length text.bytes.now) ready.fits more,
-            passed_length,
-            line_length section s (get_or offsets done 0),
-          )))
+    pub line_more : {next : Text} → Added (line ((style section).entry s (get_or offsets done 0))) after next
+        → Passed section s offsets text (done + 1) next
+    line_more written =
+        added_as (entries_more (style section) s offsets done more)
+        (added_then passed written
+        (omega (
+          arith,
+          one_more section text.place done (length offsets) (length text.bytes.now) ready.fits more,
+          passed_length,
+          line_length section s (get_or offsets done 0),
+        )))
 
   pub all_written : (done : ℕ) {after : Text} → done ≡ length offsets → Passed section s offsets text done after
       → Added (entries (style section) s offsets) text after

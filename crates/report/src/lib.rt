@@ -2,7 +2,6 @@
 // What the listing program writes, made as bytes in a lent text: the lines of the compatible and the extended list of a space.
 // `listing` answers for every input, and its text has room for every listing. What it promises is specs/Prints.antt over specs/Listing.antt.
 ghost use Rattle.std.specs.Prelude.{◌≡◌};
-ghost use Rattle.lists.specs.Walks.{WholeSpace};
 ghost use Rattle.report.specs.Text.{ascii};
 ghost use Rattle.report.specs.Listing.{refused, Says};
 ghost use Rattle.report.specs.Prints.{Prints};
@@ -27,10 +26,9 @@ pub fn listing(space: &[u8], text: &mut [u8; LONGEST]) -> usize
         bytes: text,
         place: 0,
     };
-    if space.len() == words::SPACE {
-        parts(space, &mut text);
-    } else {
-        other(&mut text);
+    match <&[u8; words::SPACE]>::try_from(space) {
+        Ok(space) => parts(space, &mut text),
+        Err(_) => other(&mut text),
     }
     text.place
 }
@@ -46,8 +44,8 @@ fn other(text: &mut Text)
 }
 
 // A space: the compatible part, the extended part, and the end.
-fn parts(space: &[u8], text: &mut Text)
-    requires { WholeSpace space.now × Fits longest text.old }
+fn parts(space: &[u8; words::SPACE], text: &mut Text)
+    requires { Fits longest text.old }
     ensures same_reference { text.new.bytes.ghost_name ≡ text.old.bytes.ghost_name }
     ensures written { Told (Says space.now) longest text.old text.new }
 {

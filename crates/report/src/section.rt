@@ -1,7 +1,6 @@
 // One list of a space: its name and count with a line for each header, or its name, and what broke and where.
 ghost use Rattle.std.specs.Prelude.{◌≡◌, ◌++◌, ◌≤◌, length};
 ghost use Rattle.answers.specs.Numbers.{number_of};
-ghost use Rattle.lists.specs.Walks.{WholeSpace};
 ghost use Rattle.report.specs.Text.{line};
 ghost use Rattle.report.specs.Listing.{compatible_entry, extended_entry, heading, refused_at, entries, Part};
 ghost use Rattle.report.specs.Inner.{kind_of, style, width, most, Added, Told, Fits, Ready, Chained};
@@ -38,8 +37,8 @@ impl Section {
     }
 
     // The line of the header at an offset.
-    fn entry(self, space: &[u8], at: usize, text: &mut Text)
-        requires { WholeSpace space.now × (at ≤ 0xffc) × Fits (width self) text.old }
+    fn entry(self, space: &[u8; words::SPACE], at: usize, text: &mut Text)
+        requires { (at ≤ 0xffc) × Fits (width self) text.old }
         ensures same_reference { text.new.bytes.ghost_name ≡ text.old.bytes.ghost_name }
         ensures written { Added (line ((style self).entry space.now at)) text.old text.new }
     {
@@ -50,7 +49,7 @@ impl Section {
     }
 
     // A line for each offset.
-    fn entries(self, space: &[u8], offsets: &[u16], text: &mut Text)
+    fn entries(self, space: &[u8; words::SPACE], offsets: &[u16], text: &mut Text)
         requires { Ready self space.now offsets.now text.old }
         ensures same_reference { text.new.bytes.ghost_name ≡ text.old.bytes.ghost_name }
         ensures written { Added (entries (style self) space.now offsets.now) text.old text.new }
@@ -61,7 +60,7 @@ impl Section {
     }
 
     // A list with a legal chain: its count, and its headers.
-    fn listed(self, space: &[u8], offsets: &[u16], text: &mut Text)
+    fn listed(self, space: &[u8; words::SPACE], offsets: &[u16], text: &mut Text)
         requires { Chained self space.now offsets.now text.old }
         ensures same_reference { text.new.bytes.ghost_name ≡ text.old.bytes.ghost_name }
         ensures written { Added (heading (style self).name (length offsets.now) ++ entries (style self) space.now offsets.now) text.old text.new }
@@ -82,8 +81,8 @@ impl Section {
     }
 
     // The list of a space.
-    pub(crate) fn write(self, space: &[u8], text: &mut Text)
-        requires { WholeSpace space.now × Fits (most self) text.old }
+    pub(crate) fn write(self, space: &[u8; words::SPACE], text: &mut Text)
+        requires { Fits (most self) text.old }
         ensures same_reference { text.new.bytes.ghost_name ≡ text.old.bytes.ghost_name }
         ensures written { Told (Part (style self) space.now) (most self) text.old text.new }
     {
@@ -96,8 +95,8 @@ impl Section {
 }
 
 // The offset and the ID.
-fn compatible_entry(space: &[u8], at: usize, text: &mut Text)
-    requires { WholeSpace space.now × (at ≤ 0xffc) × Fits 7 text.old }
+fn compatible_entry(space: &[u8; words::SPACE], at: usize, text: &mut Text)
+    requires { (at ≤ 0xffc) × Fits 7 text.old }
     ensures same_reference { text.new.bytes.ghost_name ≡ text.old.bytes.ghost_name }
     ensures written { Added (line (compatible_entry space.now at)) text.old text.new }
 {
@@ -114,8 +113,8 @@ fn compatible_entry(space: &[u8], at: usize, text: &mut Text)
 }
 
 // The offset, the ID and the version.
-fn extended_entry(space: &[u8], at: usize, text: &mut Text)
-    requires { WholeSpace space.now × (at ≤ 0xffc) × Fits 11 text.old }
+fn extended_entry(space: &[u8; words::SPACE], at: usize, text: &mut Text)
+    requires { (at ≤ 0xffc) × Fits 11 text.old }
     ensures same_reference { text.new.bytes.ghost_name ≡ text.old.bytes.ghost_name }
     ensures written { Added (line (extended_entry space.now at)) text.old text.new }
 {

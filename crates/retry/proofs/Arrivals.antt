@@ -15,7 +15,7 @@ use Rattle.packet.specs.declared.Request.{Request}
 use Rattle.packet.specs.Fields.{refuses_bit7, data_of}
 use Rattle.packet.specs.Request.{number_under, request_of, packet_number}
 use Rattle.packet.proofs.Laws.{number_under_lem, accepted}
-use Rattle.board.specs.Serving.{Outcome, serve}
+use Rattle.board.specs.Serving.{serve}
 use Rattle.runs.specs.Run.{packet}
 use Rattle.std.specs.Prelude.{Some, None, Ok, Err}
 use Rattle.ports.specs.declared.Port.{Port}

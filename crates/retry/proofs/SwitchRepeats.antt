@@ -10,7 +10,7 @@ use borrow.Author.Tests.{eqb-true}
 use Rattle.answers.specs.Numbers.{number_of}
 use Rattle.board.specs.Description.{Board}
 use Rattle.board.specs.Serving.{serve}
-use Rattle.board.specs.Promise.{Served, Seen, shows}
+use Rattle.board.specs.Promise.{Served}
 use Rattle.runs.specs.Run as run
 use Rattle.runs.specs.Run.{packet}
 use Rattle.runs.specs.Calls as calling

@@ -10,7 +10,6 @@ use borrow.Author.Tests.{eq-eqb, ltb-false}
 use Rattle.packet.specs.Request.{number_under, request_of, is_trusted, packet_number}
 use Rattle.packet.proofs.Laws.{sound_under}
 use Rattle.board.specs.Description.{Board}
-use Rattle.board.specs.Serving.{Outcome}
 use Rattle.runs.specs.Run.{Event, packet, next}
 use Rattle.ports.specs.declared.Port.{Port}
 use Rattle.ports.proofs.Pairs.{port_at}

@@ -1,19 +1,19 @@
--- `board::is_doubly_marked` meets its contract: a bit is marked twice in the bytes so far, or in the rest. Assumes nothing.
-use mathlib.Core.Path.{◌∙◌}
-use Rattle.std.proofs.Common.{rules}
-use Rattle.std.proofs.lemmas.Slice.Zip.{Zip-more, either_empty_from_Zip}
-use Rattle.board.proofs.MarkedTwice.{one_more, none_later}
+-- `board::is_doubly_marked` meets its contract: what is found in the bytes so far, byte by byte. Assumes nothing.
+use mathlib.Core.Path.{refl, ◌∙◌}
+use native.Mathlib.Omega.{arith}
+use borrow.Author.Rules.{rules}
+use Rattle.board.specs.Description.{doubly_marked}
+use Rattle.board.proofs.MarkedTwice.{one_more, all_looked_at}
 use Rattle.board.proofs.marking.is_doubly_marked.Goals as goal
 
-pub loop-rule-init : goal.loop-rule-init
-loop-rule-init c = search rules
+pub loop-at-init : goal.loop-at-init
+unfolding doubly_marked
+loop-at-init c = (search rules, refl)
 
-pub loop-rule-preserved : goal.loop-rule-preserved
-loop-rule-preserved c =
-    let taken = Zip-more c.loop-rule.rule-iterator c.next.new.self c.next.result (c.in-Some.rule, c.in-Some.mark) c.in-Some.is c.next.ensures.steps in
-    one_more _ _ _ _ _ _ _ taken.0 taken.1 ∙ c.loop-rule.invariant
+pub loop-at-preserved : goal.loop-at-preserved
+loop-at-preserved c =
+    let l = c.loop-at in
+    (search rules, one_more _ _ l.both l.at (search rules) (search rules) l.invariant.1)
 
 pub returns : goal.returns
-returns c =
-    let spent = either_empty_from_Zip c.loop-rule.rule-iterator c.next.new.self c.next.result c.in-None.is c.next.ensures.steps in
-    none_later _ _ c.loop-rule.both spent ∙ c.loop-rule.invariant
+returns c = c.loop-at.invariant.1 ∙ all_looked_at _ _ c.loop-at.at (omega arith) (omega arith)

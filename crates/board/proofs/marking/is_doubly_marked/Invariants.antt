@@ -1,13 +1,11 @@
--- `board::is_doubly_marked` meets its contract: a bit is marked twice in the bytes so far, or in the rest. Assumes nothing.
-use mathlib.Core.Bool.{true, cond}
+-- `board::is_doubly_marked` meets its contract: what is found in the bytes so far, byte by byte. Assumes nothing.
+use Prim.Native.Nat.{◌≤◌}
+use mathlib.Core.Bool.{not}
 use mathlib.Core.Path.{◌≡◌}
 use lib.Dec.{eqb}
-use Rattle.std.specs.Iterator.Adapters.{zip_first, zip_second}
-use Rattle.std.specs.Slice.Iter.{iter_rest}
+use lib.ListN.{take}
 use Rattle.board.specs.Description.{doubly_marked}
 use Rattle.board.proofs.marking.is_doubly_marked.Given as goal
 
-abbrev pub invariant-loop-rule : goal.invariant-loop-rule
-invariant-loop-rule l =
-    let later = doubly_marked (iter_rest (zip_first l.rule-iterator)) (iter_rest (zip_second l.rule-iterator)) in
-    cond (eqb l.both 0) later true ≡ doubly_marked l.fn.rules l.fn.marks
+abbrev pub invariant-loop-at : goal.invariant-loop-at
+invariant-loop-at l = (l.at ≤ 4096) × (not (eqb l.both 0) ≡ doubly_marked (take l.at l.rules) (take l.at l.marks))

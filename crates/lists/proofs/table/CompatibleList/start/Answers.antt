@@ -1,5 +1,4 @@
 -- the start of `lists::table::Compatible` meets its contract: by the bit that says whether there is a list. Assumes nothing.
-use borrow.Author.Rules.{rules}
 use Prim.Native.Nat.{ℕ, ◌/◌, ◌<◌}
 use mathlib.Core.List.{List}
 use mathlib.Core.Path.{◌≡◌, sym, ◌∙◌}
@@ -39,5 +38,5 @@ returns-then-space-eq0 c = empty c.args.space.now c.if-space-eq0.true
 
 pub returns : goal.returns
 returns c =
-    starts c.args.space.now c.word.result (search rules) c.if-space-eq0.false c.word.ensures
-    (search rules)
+    starts c.args.space.now c.word.result c.told-space c.if-space-eq0.false c.word.ensures
+    (omega (arith, c.fits-space 0x34))

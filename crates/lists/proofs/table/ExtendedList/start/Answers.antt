@@ -1,5 +1,4 @@
 -- the start of `lists::table::Extended` meets its contract: by the whole word at 100h. Assumes nothing.
-use borrow.Author.Rules.{rules}
 use Prim.Native.Nat.{ℕ}
 use mathlib.Core.List.{List}
 use mathlib.Core.Path.{◌≡◌, sym, ◌∙◌}
@@ -24,8 +23,8 @@ starts s n size e h = record { is = sym (extended_some s (λ z. h (word_there s 
 
 pub returns-then-word-eq0 : goal.returns-then-word-eq0
 returns-then-word-eq0 c =
-    empty c.args.space.now c.word.result (search rules) c.word.ensures (omega (arith, c.if-word-eq0.true))
+    empty c.args.space.now c.word.result c.told-space c.word.ensures (omega (arith, c.if-word-eq0.true))
 
 pub returns : goal.returns
 returns c =
-    starts c.args.space.now c.word.result (search rules) c.word.ensures (λ z. c.if-word-eq0.false (omega (arith, z)))
+    starts c.args.space.now c.word.result c.told-space c.word.ensures (λ z. c.if-word-eq0.false (omega (arith, z)))

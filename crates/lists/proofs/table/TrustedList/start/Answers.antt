@@ -1,5 +1,4 @@
 -- the start of `lists::table::Trusted` meets its contract: the low twelve bits of the word. Assumes nothing.
-use borrow.Author.Rules.{rules}
 use Prim.Native.Nat.{ℕ}
 use mathlib.Core.List.{List}
 use mathlib.Core.Path.{◌≡◌, ◌∙◌}
@@ -17,4 +16,4 @@ unfolding trusted_start
 starts s n size e = record { is = and_mask n 12 ∙ omega (arith, e ∙ word_inside s 0x004 (omega arith)); small = mask_lt n 12 }
 
 pub returns : goal.returns
-returns c = starts c.args.space.now c.word.result (search rules) c.word.ensures
+returns c = starts c.args.space.now c.word.result c.told-space c.word.ensures

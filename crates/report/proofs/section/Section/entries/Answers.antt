@@ -7,7 +7,7 @@ use Rattle.report.proofs.section.Section.entries.Goals as goal
 pub entry-requires : goal.entry-requires
 entry-requires c =
     let l = c.loop-at in
-    (l.invariant.ready.space, l.invariant.ready.inside l.at-index, line_fits l.invariant.ready l.at-index l.text (omega arith) l.invariant.passed)
+    (l.invariant.ready.inside l.at-index, line_fits l.invariant.ready l.at-index l.text (omega arith) l.invariant.passed)
 
 pub loop-at-preserved : goal.loop-at-preserved
 loop-at-preserved c =

@@ -13,14 +13,14 @@ append-requires-2 c =
       added_length c.append.ensures.written (omega (arith, c.requires)),
       c.decimal.ensures.written.next,
       added_length c.decimal.ensures.written
-      (omega (
-        arith,
-        c.requires,
-        c.append.ensures.written.next,
-        added_length c.append.ensures.written (omega (arith, c.requires)),
-        decimal_length c.args.number,
-        figures_most c.args.number,
-      )),
+          (omega (
+            arith,
+            c.requires,
+            c.append.ensures.written.next,
+            added_length c.append.ensures.written (omega (arith, c.requires)),
+            decimal_length c.args.number,
+            figures_most c.args.number,
+          )),
       decimal_length c.args.number,
       figures_most c.args.number,
     )
