@@ -29,8 +29,8 @@ pub const MOST_STRUCTURES: usize = 961;
 pub struct Bench {
     pub desk: Desk,
     pub board: Board,
-    pub packet: [u8; PACKET],
-    pub sent: usize,
+    // The packet that the board is sent, or the completion that is read.
+    pub packet: List<u8, PACKET>,
     pub reply: [u8; REPLY],
     // These stay with a new board.
     pub ports: List<Port, MOST_PORTS>,
@@ -54,19 +54,13 @@ impl Bench {
         Bench {
             desk: Desk::new(),
             board: Board::new(0, 0, 0),
-            packet: [0; PACKET],
-            sent: 0,
+            packet: List::alike(UNWRITTEN, 0),
             reply: [UNWRITTEN; REPLY],
             ports: List::alike(port, 0),
             records: List::alike(Record::default(), 0),
             structures: List::alike(structure, 0),
             proposal: List::alike(UNTOUCHED, 0),
         }
-    }
-
-    // The packet's bytes, or the completion's.
-    pub fn sent(&self) -> &[u8] {
-        self.packet.get(..self.sent).unwrap_or(&self.packet)
     }
 
     // A question uses up what was lent to it, and so does a line that is not understood, so that no other question gets it.

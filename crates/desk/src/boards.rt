@@ -4,8 +4,7 @@ use crate::spaces::{Buffer, Part, Space};
 use crate::tokens::Tokens;
 use crate::vocabulary::Word;
 use capture::Capture;
-use std::fmt;
-use std::fmt::{Display, Formatter};
+use std::fmt::{self, Display, Formatter};
 
 // The bytes of a packet's header.
 const HEADER: usize = 12;

@@ -7,8 +7,7 @@ use crate::vocabulary::Word;
 use crate::{explaining, reading, say};
 use answers::Refusal;
 use multicast::Record;
-use std::fmt;
-use std::fmt::{Display, Formatter};
+use std::fmt::{self, Display, Formatter};
 
 // How many groups there may be, each with a bit of a register.
 const PLACES: u32 = 64;

@@ -8,13 +8,12 @@ use crate::vocabulary::Word;
 use crate::{explaining, judging, packets, say};
 use answers::Refusal;
 use asking::{Completion, Said};
-use std::fmt;
-use std::fmt::{Display, Formatter};
+use std::fmt::{self, Display, Formatter};
 
 // Says whether this is a check that was right.
 pub fn ask(bench: &mut Bench, tokens: Tokens) -> bool {
     packets::take_bytes(bench, tokens);
-    let heard = asking::read_completion(bench.sent());
+    let heard = asking::read_completion(bench.packet.items());
     if tokens.is_check() && judge(&bench.desk, tokens, heard) {
         return true;
     }

@@ -1,6 +1,6 @@
 // What an answer means, in words: the number, what was asked, what the completion says, what is captured.
 use crate::bench::{Bench, REPLY};
-use crate::boards::{Address, Board, Kept};
+use crate::boards::{Address, Board, Kept, Role};
 use crate::packets::{self, Outcome};
 use crate::say;
 use crate::saying::Bytes;
@@ -8,8 +8,7 @@ use crate::spaces::{self, Part};
 use answers::Refusal;
 use packet::{Request, Target};
 use reasons::Cause;
-use std::fmt;
-use std::fmt::{Display, Formatter};
+use std::fmt::{self, Display, Formatter};
 
 pub const ANSWERED: &str = "answered";
 
@@ -72,7 +71,7 @@ pub fn put_asking_refusal(refusal: Refusal) {
 
 // A packet that was served: the number, what it asked for as the board read it, what the completion says of it, what is captured.
 pub fn packet(bench: &Bench, outcome: Outcome) {
-    let packet = bench.sent();
+    let packet = bench.packet.items();
     put_answer(&bench.board, outcome.answer, packet);
     if let Ok(asked) = packet::decode_under(bench.board.edition(), packet) {
         put_request(asked, packet);
@@ -84,7 +83,10 @@ pub fn packet(bench: &Bench, outcome: Outcome) {
 fn put_answer(board: &Board, answer: Result<usize, Refusal>, packet: &[u8]) {
     match answer {
         Err(Refusal::BadDescription) => tell_bad(board),
-        Err(Refusal::UnknownType) => put_number(4, unknown_type(packet)),
+        Err(Refusal::UnknownType) => put_number(
+            Refusal::UnknownType.number(),
+            unknown_type(packet),
+        ),
         Err(refusal) => put_refusal(refusal),
         Ok(_) => put_number(0, ANSWERED),
     }
@@ -109,7 +111,7 @@ fn tell_bad(board: &Board) {
 }
 
 // A bit that is both writable and cleared by writing 1 is hard to find by hand: so the first byte of each space that has such a bit is told.
-fn tell_twice(board: &Board, role: crate::boards::Role, part: Part) {
+fn tell_twice(board: &Board, role: Role, part: Part) {
     let function = board.function(role);
     let space = match part {
         Part::Ordinary => &function.ordinary,

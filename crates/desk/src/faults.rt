@@ -1,6 +1,5 @@
 // Why a line is not understood, told with the line's number and the word at fault. Nothing of such a line is done.
-use std::fmt;
-use std::fmt::{Display, Formatter};
+use std::fmt::{self, Display, Formatter};
 
 // What a word, or the line's end, is where something else is wanted.
 #[derive(Clone, Copy)]

@@ -5,7 +5,7 @@ use crate::say;
 use crate::saying::{Hexadecimal, Perhaps};
 use crate::tokens::Tokens;
 use crate::vocabulary::Word;
-use std::fmt::Display;
+use std::fmt::{self, Display, Formatter};
 
 // Two values, where they are not the same. Says whether they are.
 fn same<T: PartialEq + Display + Drop>(desk: &Desk, what: &str, found: T, wanted: T) -> bool {
@@ -59,7 +59,7 @@ pub fn first_of(words: &[Word], tokens: Tokens) -> Option<Word> {
 struct Saying(Option<Word>);
 
 impl Display for Saying {
-    fn fmt<W: std::fmt::Write>(&self, f: &mut std::fmt::Formatter<W>) -> std::fmt::Result {
+    fn fmt<W: fmt::Write>(&self, f: &mut Formatter<W>) -> fmt::Result {
         match self.0 {
             Some(word) => write!(f, "{word}"),
             None => write!(f, "nothing"),

@@ -23,6 +23,11 @@ impl<T: Copy, const N: usize> List<T, N> {
         self.items.get(..self.count).unwrap_or(&self.items)
     }
 
+    // All that stands in its memory, behind the items too.
+    pub fn whole(&self) -> &[T] {
+        &self.items
+    }
+
     // Says whether there was room for one more.
     pub fn push(&mut self, item: T) -> bool {
         match self.items.get_mut(self.count) {

@@ -1,8 +1,7 @@
 // Why an address hits no group, and why it is not judged at all: the first of the causes, in words.
 use crate::say;
 use multicast::{MOST_PORTS, Record};
-use std::fmt;
-use std::fmt::{Display, Formatter};
+use std::fmt::{self, Display, Formatter};
 
 pub const REFUSED: &str =
     "badly described: too many records, no such port, or a record that no capability gives";

@@ -5,6 +5,7 @@ use crate::bench::{Bench, PACKET, REPLY, UNWRITTEN};
 use crate::boards::{Address, Board, Function, Kept};
 use crate::desks::Desk;
 use crate::explaining::{self, Captured};
+use crate::list::List;
 use crate::saying::Bytes;
 use crate::tokens::Tokens;
 use crate::vocabulary::Word;
@@ -42,26 +43,26 @@ pub fn ask(bench: &mut Bench, tokens: Tokens) -> bool {
 // The bytes behind a question's word are sent: a packet, or a completion.
 pub fn take_bytes(bench: &mut Bench, tokens: Tokens) {
     let numbers = tokens.numbers_from(1);
-    bench.packet = [UNWRITTEN; PACKET];
-    numbers.fill(&mut bench.packet);
-    bench.sent = numbers.count();
+    let mut bytes = [UNWRITTEN; PACKET];
+    numbers.fill(&mut bytes);
+    bench.packet = List::of(bytes, numbers.count());
 }
 
 // The board is lent its buffers, each as far as the desk says.
 pub fn send(bench: &mut Bench) -> Outcome {
     let packet = bench.packet;
-    let sent = packet.get(..bench.sent).unwrap_or(&packet);
     let room = bench.desk.room.min(REPLY);
     let mut reply = bench.reply;
     let outcome = if bench.board.is_pair {
-        serve_both(&mut bench.board, sent, &mut reply[..room])
+        serve_both(&mut bench.board, packet.items(), &mut reply[..room])
     } else {
-        serve(&mut bench.board, sent, &mut reply[..room])
+        serve(&mut bench.board, packet.items(), &mut reply[..room])
     };
     bench.reply = reply;
     outcome
 }
 
+// The bytes are lent as copies: that fields are lent side by side behind a `&mut` is not covered by the proofs.
 fn serve(board: &mut Board, packet: &[u8], reply: &mut [u8]) -> Outcome {
     let mut ordinary = board.primary.ordinary.bytes;
     let mut trusted = board.primary.trusted.bytes;

@@ -2,6 +2,7 @@
 // is read back in the reply; or it is held against what is expected, with all that is expected of a packet.
 use crate::bench::{Bench, PACKET, REPLY, UNWRITTEN};
 use crate::boards::Board;
+use crate::list::List;
 use crate::packets::{self, Outcome};
 use crate::saying::Bytes;
 use crate::tokens::Tokens;
@@ -27,29 +28,20 @@ pub fn ask(bench: &mut Bench, tokens: Tokens) -> bool {
     right
 }
 
-// What is written is sent. What is refused is not, and it has no bytes.
+// What is written is sent. What is refused is not, and it has no bytes. The room that was lent is the request's: the reply to it has all of its own.
 fn send(bench: &mut Bench, tokens: Tokens) -> Outcome {
-    match write(bench, tokens) {
-        Ok(length) => {
-            bench.sent = length;
-            packets::send(bench)
-        }
-        Err(refusal) => {
-            bench.sent = 0;
-            Outcome {
-                answer: Err(refusal),
-                kept: bench.board.kept(),
-            }
-        }
-    }
-}
-
-// The room that was lent is the request's: the reply to it has all of its own.
-fn write(bench: &mut Bench, tokens: Tokens) -> Result<usize, Refusal> {
-    bench.packet = [UNWRITTEN; PACKET];
+    let mut buffer = [UNWRITTEN; PACKET];
     let room = bench.desk.room.min(REQUEST);
+    let written = asking::write_request(parts_of(tokens), data_of(tokens), &mut buffer[..room]);
     bench.desk.room = usize::MAX;
-    asking::write_request(parts_of(tokens), data_of(tokens), &mut bench.packet[..room])
+    bench.packet = List::of(buffer, written.unwrap_or(0));
+    match written {
+        Ok(_) => packets::send(bench),
+        Err(refusal) => Outcome {
+            answer: Err(refusal),
+            kept: bench.board.kept(),
+        },
+    }
 }
 
 fn parts_of(tokens: Tokens) -> Parts {
@@ -94,16 +86,20 @@ fn judge_written(bench: &Bench, tokens: Tokens) -> bool {
     let numbers = tokens.expected(Word::Writes);
     let mut wanted = [UNWRITTEN; PACKET];
     numbers.fill(&mut wanted);
-    judging::value(&bench.desk, "request's length", bench.sent, numbers.count())
-        && judging::bytes(&bench.desk, "request byte", &bench.packet, &wanted)
+    judging::value(
+        &bench.desk,
+        "request's length",
+        bench.packet.items().len(),
+        numbers.count(),
+    ) && judging::bytes(&bench.desk, "request byte", bench.packet.whole(), &wanted)
 }
 
 // What was written, what became of it, and what is read back; or why nothing was written.
 fn tell(bench: &Bench, outcome: Outcome, before: &Board) {
     match outcome.answer {
-        Err(refusal) if bench.sent == 0 => explaining::put_asking_refusal(refusal),
+        Err(refusal) if bench.packet.items().is_empty() => explaining::put_asking_refusal(refusal),
         _ => {
-            let request = Bytes(bench.sent());
+            let request = Bytes(bench.packet.items());
             say!("writes:{request}\n");
             packets::tell(bench, outcome, before);
             completions::tell_reply(bench.reply.get(..outcome.length()).unwrap_or(&[]));

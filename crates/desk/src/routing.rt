@@ -18,7 +18,7 @@ pub type Routed = Result<Verdict, Refusal>;
 pub fn ask(bench: &mut Bench, tokens: Tokens) -> bool {
     let mut buffer = [UNWRITTEN; LEAVING];
     packets::take_bytes(bench, tokens);
-    let packet = bench.sent();
+    let packet = bench.packet.items();
     let room = bench.desk.room.min(LEAVING);
     let routed = router::route(bench.ports.items(), packet, &mut buffer[..room]);
     if tokens.is_check() && judge(&bench.desk, tokens, routed, &buffer) {

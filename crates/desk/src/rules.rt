@@ -1,7 +1,7 @@
 // What follows each word: numbers, so many and so large, and before them perhaps a name; and which words may be expected of which question.
 use crate::vocabulary::Word;
 
-// What a limit is that is none.
+// The limit that every number keeps.
 pub const ANY: usize = usize::MAX;
 
 // How many numbers a word has at least and at most, and how large the first and the others may be.

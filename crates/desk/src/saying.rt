@@ -1,7 +1,6 @@
 // What the desk writes, always on standard output: `say!` takes a format, as `print!` does. What standard output does not take is lost, and the session
-// goes on.
-use std::fmt;
-use std::fmt::{Display, Formatter, Write};
+// goes on: so nobody needs the result, or a runtime to print with, passed on through every function.
+use std::fmt::{self, Display, Formatter, Write};
 
 // The file descriptor of standard output.
 const STANDARD_OUTPUT: i32 = 1;

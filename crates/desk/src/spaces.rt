@@ -5,8 +5,7 @@ use crate::say;
 use crate::saying::Bytes;
 use crate::tokens::Tokens;
 use crate::vocabulary::Word;
-use std::fmt;
-use std::fmt::{Display, Formatter};
+use std::fmt::{self, Display, Formatter};
 
 // The bytes of each buffer: a few more than a space has, so that one of another size can be lent.
 pub const LONG: usize = 4100;

@@ -46,7 +46,7 @@ impl Token {
     }
 }
 
-// The tokens of a line, put into a room; none of a line that has more than there is room for.
+// The tokens of a line, put into a room; none of a line that has more than there is room for. By places, since a fault is told by where its token begins.
 pub fn read<'a>(line: &[u8], room: &'a mut [Token; MOST]) -> Option<Tokens<'a>> {
     let mut at = 0;
     let mut count = 0;

@@ -2,8 +2,7 @@
 use crate::say;
 use answers::Refusal;
 use layout::{MOST, Structure};
-use std::fmt;
-use std::fmt::{Display, Formatter};
+use std::fmt::{self, Display, Formatter};
 
 // Why a structure may not be laid out.
 #[derive(Clone, Copy)]

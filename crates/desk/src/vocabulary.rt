@@ -1,6 +1,5 @@
 // The words of the desk's language, as they are written.
-use std::fmt;
-use std::fmt::{Display, Formatter};
+use std::fmt::{self, Display, Formatter};
 
 #[derive(Clone, Copy, PartialEq, Eq)]
 pub enum Word {
