@@ -17,6 +17,21 @@ fn same<T: PartialEq + Display + Drop>(desk: &Desk, what: &str, found: T, wanted
     false
 }
 
+// The same of lists, which are written with a blank before each item.
+pub fn listed<T: Display + Drop>(
+    desk: &Desk,
+    right: bool,
+    what: &str,
+    found: T,
+    wanted: T,
+) -> bool {
+    if !right {
+        desk.begin_difference();
+        say!("{what}{found}, expected{wanted}\n");
+    }
+    right
+}
+
 pub fn value(desk: &Desk, what: &str, found: usize, wanted: usize) -> bool {
     same(desk, what, Hexadecimal(found), Hexadecimal(wanted))
 }

@@ -79,18 +79,12 @@ impl Headers<'_> {
         }
     }
 
-    fn id(self, header: usize) -> usize {
-        match self {
-            Headers::Listed(numbers) => numbers.number(header.wrapping_mul(3).wrapping_add(1)),
-            Headers::Alike(numbers) => numbers.number(3),
-        }
-    }
-
-    fn version(self, header: usize) -> usize {
-        match self {
-            Headers::Listed(numbers) => numbers.number(header.wrapping_mul(3).wrapping_add(2)),
-            Headers::Alike(numbers) => numbers.number(4),
-        }
+    fn id_and_version(self, header: usize) -> (usize, usize) {
+        let (numbers, place) = match self {
+            Headers::Listed(numbers) => (numbers, header.wrapping_mul(3).wrapping_add(1)),
+            Headers::Alike(numbers) => (numbers, 3),
+        };
+        (numbers.number(place), numbers.number(place.wrapping_add(1)))
     }
 }
 
@@ -110,11 +104,11 @@ fn put_expected(space: &mut Buffer, tokens: Tokens) -> Result<(), Wrong> {
 // Each points to the next, and the last to 0.
 fn put_header(space: &mut Buffer, headers: Headers, header: usize) -> Result<(), Wrong> {
     let offset = headers.offset(header);
-    let version = headers.version(header);
+    let (id, version) = headers.id_and_version(header);
     if LAST < offset || HIGHEST < version {
         return Err(Wrong::NoHeader);
     }
     let next = headers.offset(header.wrapping_add(1));
-    chaining::put_long(space, offset, headers.id(header), version, next);
+    chaining::put_long(space, offset, id, version, next);
     Ok(())
 }

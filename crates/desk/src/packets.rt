@@ -277,21 +277,19 @@ pub fn merge(desk: &Desk, tokens: Tokens) -> bool {
         tokens.four(13),
         tokens.byte(17),
     );
-    if tokens.is_check() && judge_merge(desk, &found, &tokens.expected(Word::Bytes).four(0)) {
+    let wanted = tokens.expected(Word::Bytes).four(0);
+    if tokens.is_check()
+        && judging::listed(
+            desk,
+            found == wanted,
+            "bytes",
+            Bytes(&found),
+            Bytes(&wanted),
+        )
+    {
         return true;
     }
     let bytes = Bytes(&found);
     say!("  merged:{bytes}\n");
-    false
-}
-
-fn judge_merge(desk: &Desk, found: &[u8], wanted: &[u8]) -> bool {
-    if found == wanted {
-        return true;
-    }
-    let found = Bytes(found);
-    let wanted = Bytes(wanted);
-    desk.begin_difference();
-    say!("bytes{found}, expected{wanted}\n");
     false
 }

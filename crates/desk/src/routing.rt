@@ -35,16 +35,8 @@ fn judge(desk: &Desk, tokens: Tokens, routed: Routed, buffer: &[u8]) -> bool {
         Ok(Verdict::Unsupported) | Err(_) => (None, 0),
     };
     let answered = judging::number(desk, tokens, answers::number(&routed));
-    let chosen = judging::perhaps(desk, "port", port, wanted_port(tokens));
+    let chosen = judging::perhaps(desk, "port", port, tokens.first_expected(Word::Port));
     answered & chosen & judge_leaving(desk, tokens, length, buffer)
-}
-
-fn wanted_port(tokens: Tokens) -> Option<usize> {
-    if tokens.expects(Word::Port) {
-        Some(tokens.expected(Word::Port).number(0))
-    } else {
-        None
-    }
 }
 
 fn judge_leaving(desk: &Desk, tokens: Tokens, length: usize, buffer: &[u8]) -> bool {

@@ -238,6 +238,15 @@ impl<'a> Tokens<'a> {
         }
     }
 
+    // The first number behind a word of the expectation, where that has this word.
+    pub fn first_expected(self, word: Word) -> Option<usize> {
+        if self.expects(word) {
+            Some(self.expected(word).number(0))
+        } else {
+            None
+        }
+    }
+
     // The numbers, as far as there is room for them, as bytes or as offsets.
     pub fn fill(self, room: &mut [u8]) {
         for (byte, token) in room.iter_mut().zip(self.0) {

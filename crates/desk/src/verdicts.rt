@@ -31,16 +31,16 @@ fn judge(desk: &Desk, tokens: Tokens, judged: Result<Judged, Refusal>) -> bool {
     let wanted = judging::first_of(&[Word::NoHit, Word::Dropped, Word::LeavesBy], tokens);
     let answered = judging::number(desk, tokens, answers::number(&judged));
     let said = judging::said(desk, word, wanted);
-    let grouped = judging::perhaps(desk, "group", group, wanted_group(tokens));
-    answered & said & grouped & judge_ports(desk, ports as u64, wanted_ports(tokens))
-}
-
-fn wanted_group(tokens: Tokens) -> Option<usize> {
-    if tokens.expects(Word::Group) {
-        Some(tokens.expected(Word::Group).number(0))
-    } else {
-        None
-    }
+    let grouped = judging::perhaps(desk, "group", group, tokens.first_expected(Word::Group));
+    let (found, wanted) = (ports as u64, wanted_ports(tokens));
+    let left = judging::listed(
+        desk,
+        found == wanted,
+        "ports",
+        Places(found),
+        Places(wanted),
+    );
+    answered & said & grouped & left
 }
 
 // The set of the ports behind their word, in whatever order.
@@ -51,17 +51,6 @@ fn wanted_ports(tokens: Tokens) -> u64 {
         set |= 1u64 << (numbers.number(place) % 64);
     }
     set
-}
-
-fn judge_ports(desk: &Desk, found: u64, wanted: u64) -> bool {
-    if found == wanted {
-        return true;
-    }
-    let found = Places(found);
-    let wanted = Places(wanted);
-    desk.begin_difference();
-    say!("ports{found}, expected{wanted}\n");
-    false
 }
 
 fn tell(judged: Result<Judged, Refusal>, list: &[Record], entering: usize, address: u64) {
