@@ -68,6 +68,7 @@ fn data_of(tokens: Tokens) -> [u8; 4] {
     tokens.four(DATA)
 }
 
+// As in `packets`, with the judge and the words of this question.
 fn answer(bench: &Bench, tokens: Tokens, outcome: Outcome, before: &Board) -> bool {
     if tokens.is_check() && judge(bench, tokens, outcome, before) {
         return true;

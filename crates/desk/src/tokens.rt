@@ -247,7 +247,7 @@ impl<'a> Tokens<'a> {
         }
     }
 
-    // The numbers, as far as there is room for them, as bytes or as offsets.
+    // The numbers, as far as there is room for them, as bytes or as offsets. (One for any type would need a conversion that can fail.)
     pub fn fill(self, room: &mut [u8]) {
         for (byte, token) in room.iter_mut().zip(self.0) {
             *byte = (token.number() % 0x100) as u8;

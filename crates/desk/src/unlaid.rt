@@ -69,7 +69,7 @@ fn tell_bad(list: &[Structure]) {
     }
 }
 
-// The first structure that may not be laid out.
+// The first structure that may not be laid out. (As in `missing`, of another list, with other faults and another text: one for both would take all three.)
 fn tell_faulty(list: &[Structure]) {
     for (place, structure) in list.iter().enumerate() {
         if let Some(fault) = fault_of(structure) {

@@ -69,7 +69,7 @@ pub fn judge_room(desk: &Desk, tokens: Tokens, count: usize, room: &Room) -> boo
     false
 }
 
-// Tells the first entry that is another.
+// Tells the first entry that is another. (As `judging::bytes`, but a byte is written with two digits, and an entry with four.)
 fn judge_entries(desk: &Desk, room: &Room, wanted: &Room) -> bool {
     for (entry, (is, should)) in room.iter().zip(wanted).enumerate() {
         if is != should {
