@@ -212,8 +212,8 @@ noticed 'a number that is lent and left out' 'trials::trial_merge: its promise d
 noticed 'a function that can change nothing' 'trials::trial_merge: it gives nothing and can write nothing' crates/trials/src/lib.rt \
     's/bytes: &mut \[u8; 4\]/bytes: \&[u8; 4]/'
 noticed 'a row without an entry' 'words::five: docs/ENTRIES.md has a row for it, and no crate has it' docs/ENTRIES.md 's/^(\| `words::)four/\1five/'
-noticed 'a handed-on glob' 'crates/board/src/lib.rt: ' crates/board/src/lib.rt 's/^pub use serving::\{.*\};/pub use serving::*;/'
-noticed 'a renaming in a group' 'crates/board/src/lib.rt: ' crates/board/src/lib.rt 's/^pub use serving::\{reset, /pub use serving::{reset as restart, /'
+noticed 'a handed-on glob' 'crates/pair/src/lib.rt: ' crates/pair/src/lib.rt 's/^pub use serving::\{.*\};/pub use serving::*;/'
+noticed 'a renaming in a group' 'crates/pair/src/lib.rt: ' crates/pair/src/lib.rt 's/^pub use serving::\{reset, /pub use serving::{reset as restart, /'
 noticed 'a public module' 'crates/packet/src/lib.rt: ' crates/packet/src/lib.rt 's/^mod fields;/pub mod fields;/'
 noticed 'an entry without a row' 'board::reset: docs/ENTRIES.md has no row' docs/ENTRIES.md '/^\| `board::reset`/d'
 exit 0

@@ -52,7 +52,7 @@ use Rattle.circle.specs.Replies.{shown_four, meant}
 use Rattle.circle.specs.Sentence.{BitsLanded, Landed, shown_there, Means}
 use Rattle.circle.proofs.Heard.{replies_read_back}
 
--- what the caller of `board::serve` holds afterwards: the capture that was handed back and the two spaces as the call left them; the description, which
+-- what the caller of `Board::serve` holds afterwards: the capture and the two spaces as the call left them; the description, which
 -- goes in by value, and the rules and marks, which are only read, are the caller's own
 abbrev pub holding : Board → Served → List ℕ → List ℕ → Board
 holding d r ordinary trusted = after_call d r.capture ordinary trusted

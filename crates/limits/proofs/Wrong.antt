@@ -1,4 +1,4 @@
--- THEOREM. No server with one of the faults of specs/Servers.antt meets the promise of `board::serve`, whatever else it does: for each fault, and for either space where the
+-- THEOREM. No server with one of the faults of specs/Servers.antt meets the promise of `Board::serve`, whatever else it does: for each fault, and for either space where the
 -- fault can be in both, the board and the packets that show it. Assumes nothing.
 use Prim.Native.Nat.{ℕ}
 use mathlib.Core.Bool.{Bool, true, false}

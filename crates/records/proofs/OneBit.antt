@@ -34,17 +34,22 @@ counted : ℕ → Bool
 unfolding ones set_places
 counted v = eqb (ones v) (length (set_places v))
 
-found : ℕ → Bool
+-- the trailing zeros counted in so many bits
+found : ℕ → ℕ → Bool
 unfolding count_trailing_zeros set_places one_set set_place
-found v = cond (one_set v) (eqb (count_trailing_zeros 8 v) (set_place v)) true
+found bits v = cond (one_set v) (eqb (count_trailing_zeros bits v) (set_place v)) true
 
 all_counted : T (every counted 256)
 unfolding counted
 all_counted = tt
 
-all_found : T (every found 256)
+all_found : T (every (found 32) 256)
 unfolding found
 all_found = tt
+
+all_found_in_byte : T (every (found 8) 256)
+unfolding found
+all_found_in_byte = tt
 
 module _ (v : ℕ) (small : v < 256) where
   ones_places : ones v ≡ length (set_places v)
@@ -59,6 +64,11 @@ module _ (v : ℕ) (small : v < 256) where
   unfolding one_set
   not_one_set n = ne_eqb (length (set_places v)) 1 (λ e. n (ones_places ∙ e))
 
-  pub set_place_lem : one_set v ≡ true → count_trailing_zeros 8 v ≡ set_place v
+  pub set_place_lem : one_set v ≡ true → count_trailing_zeros 32 v ≡ set_place v
   unfolding found
-  set_place_lem e = eqb→eq _ _ (rw e at (at_each found 256 all_found v small))
+  set_place_lem e = eqb→eq _ _ (rw e at (at_each (found 32) 256 all_found v small))
+
+  -- and of a byte
+  pub set_place_of_byte : one_set v ≡ true → count_trailing_zeros 8 v ≡ set_place v
+  unfolding found
+  set_place_of_byte e = eqb→eq _ _ (rw e at (at_each (found 8) 256 all_found_in_byte v small))

@@ -1,4 +1,4 @@
--- THEOREMS. Through a switch: anything that happens may happen again where it stands, as often as wanted. Of runs, and of calls of `router::route` and `board::serve`. Assumes
+-- THEOREMS. Through a switch: anything that happens may happen again where it stands, as often as wanted. Of runs, and of calls of `router::route` and `Board::serve`. Assumes
 -- nothing.
 use Prim.Native.Nat.{ℕ}
 use mathlib.Core.Bool.{Bool, true, false, cond}

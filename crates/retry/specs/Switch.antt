@@ -60,7 +60,7 @@ module _ (ports : List Port) where
 
 -- ---- calls
 
--- a call of `router::route`, its result and the buffer at its end, and, where the packet leaves, a call of `board::serve` with what left; or a call at one board by itself
+-- a call of `router::route`, its result and the buffer at its end, and, where the packet leaves, a call of `Board::serve` with what left; or a call at one board by itself
 pub data SwitchCall : Type 0 where
   routed : (bytes buffer : List ℕ) (verdict : Routed) (left reply : List ℕ) (result : Served) (ordinary trusted replied : List ℕ) → SwitchCall
   besides : (place : ℕ) (call : Call) → SwitchCall
