@@ -32,7 +32,7 @@ clauses() { # FILE NAME: from the signature of NAME, which may be Type::name, up
 }
 
 buffers() { # MARK, clauses on standard input: the names of the parameters that are lent by & or &mut, of any type
-    tr '\n' ' ' | sed 's/ requires .*//; s/ ensures .*//' | grep -oE "[a-z_]+: &('[a-z]+ )?$1|[(, ]&('[a-z]+ )?${1}self\b" | sed -E 's/:.*//; s/.*self/self/'
+    tr '\n' ' ' | sed 's/ requires .*//; s/ ensures .*//' | grep -oE "[a-z_]+: &('[a-z]+ )?$1|[(, ]&('[a-z]+ )?${1:-(mut )?}self\b" | sed -E 's/:.*//; s/.*self/self/'
 }
 
 # How many buffers a call can write: one for each parameter behind a &mut, or, where that is a struct of the crate which holds such, one for each of these.
@@ -42,6 +42,13 @@ written() { # CRATE TYPE::NAME, clauses on standard input
     done | awk '{n += $1} END{print n + 0}'
 }
 
+# The structs of the crate that a call is lent by &mut, and which hold buffers that can be written: a line 'PARAMETER FIELD ..' for each.
+structs() { # CRATE TYPE::NAME, clauses on standard input
+    tr '\n' ' ' | sed 's/ requires .*//; s/ ensures .*//' | grep -oE "[a-z_]+: &('[a-z]+ )?mut [A-Z][A-Za-z0-9]*|[(, ]&('[a-z]+ )?mut self\b" | sed -E "s/^.*mut self\$/self ${2%%::*}/; s/: &.*mut / /" | while read -r name type; do
+        cat crates/"$1"/src/*.rt | awk -v n="$name" -v t="$type" '$0 ~ "^pub struct " t "[<; {]" {on = 1} /^}/{on = 0} on && /: &.*mut /{f = $2; sub(/:.*/, "", f); all = all " " f} END{if (all) print n all}'
+    done
+}
+
 parameters() { # clauses on standard input: the name of every parameter
     tr '\n' ' ' | sed -E 's/ (requires|ensures)( [a-z_]+)? \{.*//; s/^[^(]*\(//; s/\) *(->.*)?$//' | grep -oE '(^|[ (,])(mut )?[a-z_]+:( |$)|(^|[ (,])(mut )?self\b' | sed -E 's/[(,: ]|mut //g'
 }
@@ -49,13 +56,13 @@ parameters() { # clauses on standard input: the name of every parameter
 gives() { tr '\n' ' ' | sed -E 's/ (requires|ensures)( [a-z_]+)? \{.*//' | grep -q -e '->'; } # clauses on standard input: there is a result
 
 # says NAME WHEN: the promise has what is lent under this name, at this time: .now behind a &, .old and .new behind a &mut
-says() { printf '%s\n' "$promise" | grep -qE "(^|[ (])«?$1»?\.$2([ ).]|\$)"; }
+says() { printf '%s\n' "$promise" | grep -qE "(^|[ (])«?$1»?\.$2([ )]|\$)"; }
 
 # The promise is DEFINITION of something, or that the result, or what it tells, is that: nothing beside it, and nothing around it; and it
 # speaks of every buffer as it was lent, and of every one that can be written as it is left. Of a struct that is lent two clauses may stand beside it, of
 # just these shapes: that a field keeps the caller's own &mut (same_..), and that of what it says of a board nothing but the capture and the bytes differs
 # from what was lent (holds..).
-promises() { # DEFINITION, clauses on standard input
+promises() { # DEFINITION CRATE TYPE::NAME, clauses on standard input
     cat >"$work/clauses"
     text=$(tr '\n' ' ' <"$work/clauses" | sed -E 's/  +/ /g
         s/ ensures same_[a-z_]+ \{ ([a-z_]+)\.new\.([a-z_]+)\.ghost_name ≡ \1\.old\.\2\.ghost_name \}//g
@@ -76,15 +83,22 @@ promises() { # DEFINITION, clauses on standard input
     for name in $(parameters <"$work/clauses"); do
         printf '%s\n' "$promise" | grep -qE "(^|[ («])$name([ )».]|\$)" || echo "its promise does not speak of $name"
     done
-    for name in $(grep -oE '^ *ensures same_[a-z_]+ \{ [a-z_]+' "$work/clauses" | sed 's/.* //' | sort -u); do
-        grep -qE "^ *ensures holds[a-z_]* \\{ [a-z_]+ $name\\.new ≡ " "$work/clauses" || echo "it does not say that nothing else of $name changes"
-    done
+    structs "$2" "$3" <"$work/clauses" >"$work/structs"
+    while read -r name fields; do
+        printf '%s\n' "$promise" | grep -qE "(^|[ (])$name\.new\.capture([ ;)]|\$)" || echo "its promise does not speak of the capture of $name as it is left"
+        for field in $fields; do
+            printf '%s\n' "$promise" | grep -qE "(^|[ (])$name\.new\.$field\.now([ )]|\$)" || echo "its promise does not speak of $field of $name as it is left"
+            grep -qF "{ $name.new.$field.ghost_name ≡ $name.old.$field.ghost_name }" "$work/clauses" || echo "it does not say that $name keeps the caller's $field"
+        done
+        grep -qE "^ *ensures holds[a-z_]* \{ (lent $name\.new ≡ after_call \(lent|lent_side $name\.new ≡ held_side \(lent_side) $name\.old\) $name\.new\.capture $name\.new\.ordinary\.now $name\.new\.trusted\.now \}\$" "$work/clauses" ||
+            echo "it does not say that nothing else of $name changes"
+    done <"$work/structs"
     written=" $(buffers 'mut ' <"$work/clauses" | tr '\n' ' ')"
     for name in $(buffers '' <"$work/clauses"); do
         case $written in
         *" $name "*)
             says "$name" old || echo "its promise does not speak of $name as it was lent"
-            says "$name" new || echo "its promise does not speak of $name as it is left"
+            grep -q "^$name " "$work/structs" || says "$name" new || echo "its promise does not speak of $name as it is left"
             ;;
         *) says "$name" now || echo "its promise does not speak of $name as it was lent" ;;
         esac
@@ -135,7 +149,7 @@ check() { # [CRATE]: what is wrong with all crates, or with this one, a line eac
                 continue
             fi
             promise=${row%%|*} theorem=${row#*|}
-            why=$(clauses "$file" "${entry#*::}" | promises "${promise#*: }")
+            why=$(clauses "$file" "${entry#*::}" | promises "${promise#*: }" "$crate" "${entry#*::}")
             [ -z "$why" ] || echo "$entry: $why"
             why=$(brings "$file" "${promise%%:*}" "${promise#*: }")
             [ -z "$why" ] || echo "$entry: $why"
@@ -179,6 +193,15 @@ noticed() { # NAME WORDS FILE SED: the copy with one file edited is told about i
 noticed 'a weakened promise' 'board::Board::serve: its promise is not Serves' crates/board/src/serving.rt \
     's/ensures serves \{ Serves .* \}/ensures serves { IfOk result (λ length. length ≤ 4096) }/'
 noticed 'a struct whose rules may change' 'board::Board::serve: it does not say that nothing else of self changes' crates/board/src/serving.rt '/ensures holds/d'
+noticed 'a struct of which nothing is said to stay' 'pair::serve: it does not say that primary keeps the caller' crates/pair/src/serving.rt '/ensures (holds|same)/d'
+noticed 'a struct that holds something else' 'pair::serve: it does not say that nothing else of primary changes' crates/pair/src/serving.rt 's/≡ held_side \(lent_side primary\.old\)/≡ other_side (lent_side primary.old)/'
+noticed 'a space that the promise leaves out' 'board::Board::serve: its promise does not speak of trusted of self as it is left' crates/board/src/serving.rt \
+    '/ensures serves/s/self\.new\.trusted\.now/self.old.trusted.now/'
+noticed 'a capture that the promise leaves out' 'pair::serve: its promise does not speak of the capture of alternate as it is left' crates/pair/src/serving.rt \
+    '/ensures serves/s/alternate\.new\.capture/alternate.old.capture/'
+noticed 'a promise about one field of a survey' 'ports::Survey::note: its promise does not speak of self as it is left' crates/ports/src/noting.rt 's/port self\.new \}/port self.new.count }/'
+noticed 'a promise about one field of what is looked at' 'board::Look::is_badly_described: its promise does not speak of self as it was lent' crates/board/src/describing.rt \
+    's/badly_described \(looked_at self\.now\) \}/badly_described (looked_at self.now.description) }/'
 noticed 'a promise with a way out' 'lists::walk: its promise is Walks and something else' crates/lists/src/lib.rt \
     's/ensures \{ Walks (.*) \}/ensures { Walks \1 ⊎ Unit }/'
 noticed 'a way out on a second line' 'registers::show: its promise is shown and something else' crates/registers/src/lib.rt \
