@@ -8,7 +8,6 @@ use crate::saying::Bytes;
 use crate::tokens::Tokens;
 use crate::vocabulary::Word;
 use crate::{completions, explaining, judging, say};
-use answers::Refusal;
 use asking::Parts;
 use packet::Id;
 

@@ -37,6 +37,7 @@ fn fit(structures: &[Structure]) -> bool
     true
 }
 
+// By places: over the room's `iter_mut`, a proof knows its length afterwards, and not what it holds.
 fn propose(structures: &[Structure], room: &mut [u16])
     requires { (length structures.now ≤ length room.old) × (fits_from 0x100 structures.now ≡ true) }
     ensures { room.new ≡ packed_from 0x100 structures.now ++ drop (length structures.now) room.old }
