@@ -1,7 +1,7 @@
 // A request without a fault: whether it may leave, by which port, and what is then written.
-ghost use Rattle.std.specs.Prelude.{◌≡◌};
+ghost use Rattle.std.specs.Prelude.{◌≡◌, ◌≤◌, length};
 ghost use Rattle.router.specs.Routing.{is_type0, barred_at, turns};
-ghost use Rattle.router.specs.Promise.{told, shows};
+ghost use Rattle.router.specs.Promise.{over, told, shows};
 ghost use Rattle.router.specs.Inner.{Ready, left, Faultless, passes_by, passes};
 
 use super::Verdict;
@@ -29,12 +29,22 @@ fn turns(request: Request, port: Port) -> bool
     request.target == Target::Type1 && request.bus == port.secondary
 }
 
+// The packet over the front of the buffer. (Byte by byte: of the library's copy the compiler makes a call of memmove here, which a host would have to have.)
+fn lay(packet: &[u8], leaving: &mut [u8])
+    requires { length packet.now ≤ length leaving.old }
+    ensures { leaving.new ≡ over packet.now leaving.old }
+{
+    for (place, byte) in packet.iter().enumerate() {
+        leaving[place] = *byte;
+    }
+}
+
 // Writes what leaves: the packet, with the type code of Type 0 where it turns into that. The code's lowest bit tells the types apart.
 fn leave(turned: bool, packet: &[u8], leaving: &mut [u8])
     requires { Ready packet.now turned leaving.old }
     ensures { leaving.new ≡ left turned packet.now leaving.old }
 {
-    leaving[..packet.len()].copy_from_slice(packet);
+    lay(packet, leaving);
     if turned {
         leaving[0] = packet[0] & 0xfe;
     }
