@@ -4,7 +4,7 @@ use mathlib.Core.List.{[], ◌∷◌}
 use mathlib.Core.Path.{◌≡◌, refl, sym, ap, ◌∙◌}
 use native.Mathlib.Omega.{arith}
 use lib.ListN.{get_or}
-use Rattle.std.specs.Prelude.{Result, Ok, Err}
+use Rattle.std.specs.Prelude.{⊤, Result, Ok, Err}
 use Rattle.answers.specs.declared.Refusal.{Refusal}
 use Rattle.answers.specs.declared.Refusal.TheVariants.{BadDescription, NoRoom, ShortPacket, UnknownType, WrongLength, WrongField, OtherStructure, WrongExtent, NotOneFunction, BelowFloor, ComesBack, WrongGroups, NoLayout, NotAccepted}
 use Rattle.answers.specs.Numbers.{number_of, answered}
@@ -12,6 +12,15 @@ use Rattle.answers.specs.Numbers.{number_of, answered}
 -- the statements
 abbrev pub NumberTells : Type 0
 NumberTells = (r q : Refusal) → number_of r ≡ number_of q → r ≡ q
+
+-- an answer without what it holds where it serves: served, or why not
+abbrev pub outcome : {A : Type 0} → Result A Refusal → Result ⊤ Refusal
+outcome (Ok value) = Ok tt
+outcome (Err refusal) = Err refusal
+
+-- of any two answers, whatever they hold
+abbrev pub OutcomeTells : Type 1
+OutcomeTells = (A B : Type 0) (r : Result A Refusal) (q : Result B Refusal) → answered r ≡ answered q → outcome r ≡ outcome q
 
 -- of an answer that holds nothing which could differ
 abbrev pub AnswerTells : Type 1
@@ -83,6 +92,12 @@ no_seven A (Err r) e = none r e
     none WrongGroups e = omega arith
     none NoLayout e = omega arith
     none NotAccepted e = omega arith
+
+pub outcome_tells : OutcomeTells
+outcome_tells A B (Ok x) (Ok y) e = refl
+outcome_tells A B (Ok x) (Err q) e = absurd (number_positive q (sym e))
+outcome_tells A B (Err r) (Ok y) e = absurd (number_positive r e)
+outcome_tells A B (Err r) (Err q) e = ap Err (number_tells r q e)
 
 pub answer_tells : AnswerTells
 answer_tells A alike (Ok x) (Ok y) e = ap Ok (alike x y)

@@ -6,6 +6,7 @@ use crate::tokens::Tokens;
 use crate::vocabulary::Word;
 use crate::{judging, leaving, packets};
 use answers::Refusal;
+use ports::{Choice, Port, Survey};
 use router::Verdict;
 
 // The bytes of the buffer for what leaves, more than any packet has.
@@ -20,12 +21,22 @@ pub fn ask(bench: &mut Bench, tokens: Tokens) -> bool {
     packets::take_bytes(bench, tokens);
     let packet = bench.packet.items();
     let room = bench.desk.room.min(LEAVING);
-    let routed = router::route(bench.ports.items(), packet, &mut buffer[..room]);
+    let choice = choose(bench.ports.items(), router::bus_of(packet));
+    let routed = router::decide(choice, packet, &mut buffer[..room]);
     if tokens.is_check() && judge(&bench.desk, tokens, routed, &buffer) {
         return true;
     }
     leaving::tell(packet, routed, &buffer);
     false
+}
+
+// The port that has a bus: all that the line gave are noted, in their order.
+fn choose(ports: &[Port], bus: u8) -> Choice {
+    let mut survey = Survey::begin(bus);
+    for port in ports {
+        survey.note(*port);
+    }
+    survey.conclude()
 }
 
 // The number, the port, and what leaves at the front of its buffer, with the rest untouched.

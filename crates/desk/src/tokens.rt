@@ -25,8 +25,9 @@ pub struct Token {
 }
 
 impl Token {
+    // A room of these is all zero bytes, and soon filled.
     pub const NONE: Token = Token {
-        kind: Kind::Unknown,
+        kind: Kind::Number(0),
         begin: 0,
     };
 

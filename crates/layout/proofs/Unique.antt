@@ -10,10 +10,10 @@ use borrow.Author.Tests.{ltb-true, ltb-false}
 use lib.Dec.{ltb}
 use lib.ListN.{length, drop}
 use lib.Seq.{ext_get_or}
-use Rattle.std.specs.Prelude.{⊤, Result, Ok, Err}
+use Rattle.std.specs.Prelude.{⊤, Result}
 use Rattle.answers.specs.Numbers.{answered}
 use Rattle.answers.specs.declared.Refusal.{Refusal}
-use Rattle.answers.proofs.Unique.{number_tells, number_positive}
+use Rattle.answers.proofs.Unique.{answer_tells}
 use Rattle.words.specs.Bytes.{byte, four}
 use Rattle.words.proofs.Laws.{four_at}
 use Rattle.layout.specs.declared.Structure.{Structure}
@@ -39,14 +39,8 @@ WriteUnique =
     → Writes structures offsets s q m → (r ≡ q) × (l ≡ m)
 
 -- two answers with the same number, and a number that two answers can't both have
-answered_tells : (r q : Result ⊤ Refusal) → answered r ≡ answered q → r ≡ q
-answered_tells (Ok a) (Ok b) e = refl
-answered_tells (Ok a) (Err q) e = absurd (number_positive q (sym e))
-answered_tells (Err r) (Ok b) e = absurd (number_positive r e)
-answered_tells (Err r) (Err q) e = ap Err (number_tells r q e)
-
 same : {r q : Result ⊤ Refusal} {n : ℕ} → answered r ≡ n → answered q ≡ n → r ≡ q
-same {r} {q} e f = answered_tells r q (e ∙ sym f)
+same {r} {q} e f = answer_tells ⊤ (λ x y. refl) r q (e ∙ sym f)
 
 pub unlike : {b : Bool} → b ≡ true → b ≡ false → ⊥
 unlike e f = cc

@@ -14,7 +14,7 @@ pub use writing::write;
 
 // A structure to be laid out: the ID and the version of its header, and its length in bytes.
 #[repr(C)]
-#[derive(Clone, Copy, Default)]
+#[derive(Clone, Copy, Debug, Default, PartialEq, Eq, PartialOrd, Ord, Hash)]
 pub struct Structure {
     pub id: u16,
     pub version: u16,

@@ -58,7 +58,7 @@ module _ {list : ListRule} {s log : List ℕ} {count : ℕ} (f : Followed list s
 
 module _ (kind : Kind) (s log : List ℕ) (bytes : Bytes s) where
   -- the offsets of a log are those of words
-  followed_words : {count : ℕ} → Followed (describe kind) s log count → Words (take count log)
+  pub followed_words : {count : ℕ} → Followed (describe kind) s log count → Words (take count log)
   followed_words {count} f =
       record {
         aligned = λ k h. rw (logged_in f k (omega (arith, log_length f))) (met_within kind s bytes k).aligned;

@@ -13,7 +13,7 @@ pub use reading::read;
 
 // What a Multicast capability says. The list of a switch's ports has such a record for each, and C has the same seven numbers in this order.
 #[repr(C)]
-#[derive(Clone, Copy, Default)]
+#[derive(Clone, Copy, Debug, Default, PartialEq, Eq, PartialOrd, Ord, Hash)]
 pub struct Record {
     pub max_group: u64,
     // The highest group, and not how many there are.

@@ -30,7 +30,7 @@ BytesUpTo ps n = (j : ℕ) → j < n → ((port_at ps j).secondary < 256) × ((p
 abbrev pub NotedIsChoice : Type 0
 NotedIsChoice = (ps : List Port) (bus : ℕ) → BytesUpTo ps (length ps) → concluded (after ps bus (length ps)) ≡ choice ps bus
 
-bytes_more : (ps : List Port) (i : ℕ) (p : Port) → BytesUpTo ps i → p ≡ get_or ps i no_port → (p.secondary < 256) × (p.subordinate < 256)
+pub bytes_more : (ps : List Port) (i : ℕ) (p : Port) → BytesUpTo ps i → p ≡ get_or ps i no_port → (p.secondary < 256) × (p.subordinate < 256)
     → BytesUpTo ps (suc i)
 bytes_more ps i p b e h j l =
     ⊎_elim (b j) (λ k. subst (λ (q : Port). (q.secondary < 256) × (q.subordinate < 256)) (e ∙ ap (get_d' ps) (omega arith)) h) (cases_lt j i)

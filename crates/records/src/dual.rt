@@ -1,5 +1,5 @@
 // What a Dual-BDF record requires, and its fields, by shift and mask.
-ghost use Rattle.std.specs.Prelude.{◌≡◌, true, ◌≤◌};
+ghost use Rattle.std.specs.Prelude.{◌≡◌, true, ◌≤◌, ◌<◌};
 ghost use Rattle.words.specs.Fields.{bits};
 ghost use Rattle.records.specs.DualRule.{fits_dual, is_dual, known_pair, one_set, alternate_of};
 
@@ -27,12 +27,19 @@ pub(crate) fn is_dual(second: u32, third: u32) -> bool
     (second >> 16) & 0xf == 0 && known_pair(second & 0xffff, third & 0xffff)
 }
 
-// A vendor, and the ID with which it writes such a record.
+// A vendor, and the ID with which it writes such a record. (Looked up and compared once, so that no branch hangs on which of the two vendors it is; for
+// another vendor a number is looked up that no ID is.)
 #[tactic(auto, unfolding(crate::specs::DualRule::known_pair))]
 fn known_pair(vendor: u32, id: u32) -> bool
+    requires { id < 0x10000 }
     ensures { result ≡ known_pair vendor id }
 {
-    matches!((vendor, id), (0x8086, 0x0009) | (0x1ec0, 0x0002))
+    let wanted = match vendor {
+        0x8086 => 0x0009,
+        0x1ec0 => 0x0002,
+        _ => 0x10000,
+    };
+    id == wanted
 }
 
 // A bit for each of eight functions.

@@ -1,5 +1,6 @@
 -- `asking::write_request` meets its contract: what the kind and the ranges leave is put down. Assumes nothing.
-use mathlib.Core.Path.{sym, ◌∙◌}
+use mathlib.Core.Bool.{true, false}
+use mathlib.Core.Path.{◌≡◌, sym, ◌∙◌}
 use Rattle.asking.proofs.Laws.{write_unknown, write_out_of_range, write_put, bytes_of_write, bytes_of_read}
 use Rattle.asking.proofs.writing.write_request.Goals as goal
 
@@ -16,13 +17,15 @@ returns-then-is_out_of_range c =
 pub returns-then-access : goal.returns-then-access
 returns-then-access c =
     let a = c.args in
+    let writes : c.in-Some.access.writes ≡ true = cc in
     c.put_down.ensures
     ∙ write_put a.parts a.new a.buffer.now _ (sym c.type_of.ensures ∙ c.in-Some.is) _ (sym c.is_out_of_range.ensures ∙ c.if-is_out_of_range.false)
-    (bytes_of_write a.parts a.new _ _ _ c.header_of-header.ensures c.with_data.ensures c.if-access.true)
+    (bytes_of_write a.parts a.new _ _ _ c.header_of-header.ensures c.with_data.ensures writes)
 
 pub returns-else-access : goal.returns-else-access
 returns-else-access c =
     let a = c.args in
+    let reads : c.in-Some.access.writes ≡ false = cc in
     c.put_down-else-access.ensures
     ∙ write_put a.parts a.new a.buffer.now _ (sym c.type_of.ensures ∙ c.in-Some.is) _ (sym c.is_out_of_range.ensures ∙ c.if-is_out_of_range.false)
-    (bytes_of_read a.parts a.new _ _ c.header_of-header.ensures c.if-access.false)
+    (bytes_of_read a.parts a.new _ _ c.header_of-header.ensures reads)
