@@ -1,6 +1,7 @@
 -- `asking::write_request` meets its contract: what the kind and the ranges leave is put down. Assumes nothing.
 use mathlib.Core.Bool.{true, false}
 use mathlib.Core.Path.{◌≡◌, sym, ◌∙◌}
+use native.Mathlib.Omega.{arith}
 use Rattle.asking.proofs.Laws.{write_unknown, write_out_of_range, write_put, bytes_of_write, bytes_of_read}
 use Rattle.asking.proofs.writing.write_request.Goals as goal
 
@@ -17,7 +18,7 @@ returns-then-is_out_of_range c =
 pub returns-then-access : goal.returns-then-access
 returns-then-access c =
     let a = c.args in
-    let writes : c.in-Some.access.writes ≡ true = cc in
+    let writes : c.in-Some.access.writes ≡ true = grind (arith, c.if-access.true) in
     c.put_down.ensures
     ∙ write_put a.parts a.new a.buffer.now _ (sym c.type_of.ensures ∙ c.in-Some.is) _ (sym c.is_out_of_range.ensures ∙ c.if-is_out_of_range.false)
     (bytes_of_write a.parts a.new _ _ _ c.header_of-header.ensures c.with_data.ensures writes)
@@ -25,7 +26,7 @@ returns-then-access c =
 pub returns-else-access : goal.returns-else-access
 returns-else-access c =
     let a = c.args in
-    let reads : c.in-Some.access.writes ≡ false = cc in
+    let reads : c.in-Some.access.writes ≡ false = grind (arith, c.if-access.false) in
     c.put_down-else-access.ensures
     ∙ write_put a.parts a.new a.buffer.now _ (sym c.type_of.ensures ∙ c.in-Some.is) _ (sym c.is_out_of_range.ensures ∙ c.if-is_out_of_range.false)
     (bytes_of_read a.parts a.new _ _ c.header_of-header.ensures reads)
