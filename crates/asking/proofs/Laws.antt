@@ -25,10 +25,11 @@ use Rattle.asking.specs.Inner.{Inside, shows_put, Begun, misplaced, says}
 
 -- ---- the writer
 
--- the kinds that ask for a write
-pub kinds_that_write : (kind : ℕ) (access : Access) → type_of kind ≡ Some access → access.writes ≡ (eqb kind 0x44 || eqb kind 0x45 || eqb kind 0x5b)
+-- a kind that is served: one of three that ask for a write, or one of three that ask for a read
+pub kinds_served : (kind : ℕ) (access : Access) → type_of kind ≡ Some access
+    → cond access.writes (eqb kind 0x44 || eqb kind 0x45 || eqb kind 0x5b) (eqb kind 0x04 || eqb kind 0x05 || eqb kind 0x1b) ≡ true
 unfolding type_of
-kinds_that_write kind access = grind (arith)
+kinds_served kind access = grind (arith)
 
 -- a device and a function in one byte
 pub together : (device function : ℕ) → device ≤ 31 → function ≤ 7 → bit_or (device * 8 % 256) function ≡ device * 8 + function

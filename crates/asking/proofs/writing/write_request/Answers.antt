@@ -2,7 +2,7 @@
 use mathlib.Core.Bool.{true, false}
 use mathlib.Core.Path.{◌≡◌, sym, ◌∙◌}
 use native.Mathlib.Omega.{arith}
-use Rattle.asking.proofs.Laws.{kinds_that_write, write_unknown, write_out_of_range, write_put, bytes_of_write, bytes_of_read}
+use Rattle.asking.proofs.Laws.{kinds_served, write_unknown, write_out_of_range, write_put, bytes_of_write, bytes_of_read}
 use Rattle.asking.proofs.writing.write_request.Goals as goal
 
 pub returns-in_default : goal.returns-in_default
@@ -19,7 +19,7 @@ pub returns-then-access : goal.returns-then-access
 returns-then-access c =
     let a = c.args in
     let known = sym c.type_of.ensures ∙ c.in-Some.is in
-    let writes : c.in-Some.access.writes ≡ true = grind (arith, c.if-access.true, kinds_that_write a.parts.kind _ known) in
+    let writes : c.in-Some.access.writes ≡ true = grind (arith, c.if-access.true, kinds_served a.parts.kind _ known) in
     c.put_down.ensures
     ∙ write_put a.parts a.new a.buffer.now _ known _ (sym c.is_out_of_range.ensures ∙ c.if-is_out_of_range.false)
     (bytes_of_write a.parts a.new _ _ _ c.header_of-header.ensures c.with_data.ensures writes)
@@ -28,7 +28,7 @@ pub returns-else-access : goal.returns-else-access
 returns-else-access c =
     let a = c.args in
     let known = sym c.type_of.ensures ∙ c.in-Some.is in
-    let reads : c.in-Some.access.writes ≡ false = grind (arith, c.if-access.false, kinds_that_write a.parts.kind _ known) in
+    let reads : c.in-Some.access.writes ≡ false = grind (arith, c.if-access.false, kinds_served a.parts.kind _ known) in
     c.put_down-else-access.ensures
     ∙ write_put a.parts a.new a.buffer.now _ known _ (sym c.is_out_of_range.ensures ∙ c.if-is_out_of_range.false)
     (bytes_of_read a.parts a.new _ _ c.header_of-header.ensures reads)
