@@ -25,7 +25,8 @@ use Rattle.asking.specs.Inner.{Inside, shows_put, Begun, misplaced, says}
 
 -- ---- the writer
 
--- a kind that is served: one of three that ask for a write, or one of three that ask for a read
+-- a kind that is served: one of three that ask for a write, or one of three that ask for a read. By it a test of the kind beside `writes` is
+-- judged by what it means (must-fail/data_for_a_read)
 pub kinds_served : (kind : ℕ) (access : Access) → type_of kind ≡ Some access
     → cond access.writes (eqb kind 0x44 || eqb kind 0x45 || eqb kind 0x5b) (eqb kind 0x04 || eqb kind 0x05 || eqb kind 0x1b) ≡ true
 unfolding type_of
